@@ -1,3 +1,4 @@
+# shellcheck shell=sh disable=SC2154
 # What the scripts in sh have in common. A script sources it after `here`, the repository's folder, is set.
 
 # Prints the comment at the head of a script, which ends with its usage.
@@ -14,9 +15,10 @@ takes_no_words() {
     esac
 }
 
-# Ends where the program isn't built: no script builds it by itself.
+# Sets `program` to the one that answers here, and ends where there is none: no script builds it by itself.
 needs_program() {
-    [ -x "$here/crates/qp_cli/out/qp_cli" ] && return
+    program=$("$here/tools/program" | head -n 1)
+    [ -n "$program" ] && return
     echo "the program isn't built: ./qp build" >&2
     exit 125
 }

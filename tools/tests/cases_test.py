@@ -7,9 +7,8 @@ import tempfile
 import unittest
 from pathlib import Path
 
-from qptools.cases.case_file import THREADED, CaseFault, read_cases
+from qptools.cases.case_file import CaseFault, read_cases
 from qptools.cases.command import main
-from qptools.cases.orders import Group, count_of, merged, orders, orders_text, runs_text
 from qptools.cases.outcome import replay_fault
 from qptools.cases.summary import read_summary
 from qptools.program import TOP, Answer, is_built
@@ -59,7 +58,7 @@ class Files(unittest.TestCase):
         table = (
             ("case = 1\n", "has [[case]] tables"), ("[[case]]\n", "case 1: name is missing"), (CASE + "colour = 1\n", "'colour' is no key"),
             (CASE + 'kernel = "rtos"\n', "a kernel is sim, qv, qk, port or wait"), (CASE + "object.lamp = { colour = 1 }\n", "object lamp: 'colour' is no key"),
-            ("[[case", "cases.toml: "), ("case = [1]\n", "has [[case]] tables"),
+            ("[[case", "cases.toml:1: isn't TOML: "), ("case = [1]\n", "has [[case]] tables"),
             (CASE.replace('"go.txt"', "7"), "stimuli must be a text"), (CASE + "kernel = 5\n", "kernel must be a kernel, or a list"),
             (CASE + "kernel = []\n", "kernel must be a kernel, or a list"), (CASE + "end = 1\n", "end must be 0, 3 or 4"),
             (CASE + "budget = 0\n", "budget must be a number, 1 to 1000000"), (CASE + 'refused = "0"\n', "refused must be a number"),
@@ -90,7 +89,7 @@ class Files(unittest.TestCase):
                 self.write(CASE + 'kernel = "sim"\n' + text)
                 status, printed, _ = answer(str(self.folder))
                 self.assertEqual(status, 1 if told else 0)
-                self.assertEqual([line.strip() for line in printed.splitlines()[1:-5]], told)
+                self.assertEqual(printed.splitlines()[1:-5], [f"{self.folder}/cases.toml:6: a, sim: {words}" for words in told])
                 self.assertEqual([line[:4] for line in printed.splitlines()[-5:-1]], ["pass"] * 4, "the others are judged alone")
 
     @unittest.skipUnless(is_built(), "the program isn't built")
@@ -99,6 +98,8 @@ class Files(unittest.TestCase):
         self.write(CASE + 'kernel = "sim"\n')
         status, printed, _ = answer(str(self.folder))
         self.assertEqual(status, 1)
+        line = (self.folder / "lamp.toml").read_text().split("\n").index('on = "go"') + 1
+        self.assertIn(f"\n{self.folder}/lamp.toml:{line}: a, sim: no run: ", printed)
         self.assertIn("row 1 (on go), signal: go isn't declared", printed)
 
     @unittest.skipUnless(is_built(), "the program isn't built")
@@ -133,73 +134,8 @@ class Files(unittest.TestCase):
                 self.assertIn(answer(*words)[0], (2, 125))
 
 
-class Orders(unittest.TestCase):
-    """Orders of stimuli."""
-
-    def test_all_orders_each_once(self) -> None:
-        for lengths in ([1], [2, 1], [2, 2], [3, 2, 1], [0, 2]):
-            with self.subTest(lengths):
-                found = list(orders(lengths))
-                self.assertEqual(len(found), count_of(lengths))
-                self.assertEqual(len(set(found)), len(found))
-                for order in found:
-                    self.assertEqual([order.count(source) for source in range(1, len(lengths) + 1)], lengths)
-                changes = [sum(a != b for a, b in zip(order, order[1:])) for order in found]
-                self.assertEqual(changes, sorted(changes))
-
-    def test_merged(self) -> None:
-        self.assertEqual(merged([["tick 0", "settle"], ["tick 1"]], (1, 2, 1)), "source 1\ntick 0\ntick 1\nsettle\n")
-
-    def test_text(self) -> None:
-        groups = [Group("end 0\nobject a 1 s\n", 2, (1, 2)), Group("end 0\nobject a 2 s\n", 1, (2, 1))]
-        self.assertEqual(orders_text(groups, [["tick 0"], ["settle"]], 3).splitlines(), [
-            "3 of 3 orders were run, with 2 outcomes", "outcome 1, of 2 orders:", "  object a 1 s", "  by the order 1 2:",
-            "    source 1: tick 0", "    source 2: settle", "outcome 2, of 1 order:", "  object a 2 s", "  by the order 2 1:",
-            "    source 2: settle", "    source 1: tick 0",
-        ])
-
-    @unittest.skipUnless(is_built(), "the program isn't built")
-    def test_outcomes(self) -> None:
-        status, printed, _ = answer("orders", str(EXAMPLES / "clock" / "clock.toml"), str(EXAMPLES / "clock" / "two.txt"))
-        self.assertEqual(status, 0)
-        self.assertTrue(printed.startswith("3 of 3 orders were run, with 2 outcomes\n"))
-        self.assertTrue(answer("orders", "--most", "2", str(EXAMPLES / "clock" / "clock.toml"), str(EXAMPLES / "clock" / "two.txt"))[1]
-                        .startswith("2 of 3 orders were run"))
-
-    @unittest.skipUnless(is_built(), "the program isn't built")
-    def test_words(self) -> None:
-        """Options stand before the files or behind them."""
-        clock = [str(EXAMPLES / "clock" / name) for name in ("clock.toml", "two.txt")]
-        self.assertTrue(answer("orders", *clock, "--most=2", "--kernel", "qv")[1].startswith("2 of 3 orders were run"))
-        for words, told in ((("--much", "2"), "--much is no option: --kernel, --most"), (("--most",), "--most has no value"),
-                            (("--most", "few"), "--most a number"), (("third",), "a system and stimuli are needed")):
-            status, _, noted = answer("orders", *clock, *words)
-            self.assertEqual(status, 2)
-            self.assertIn(told, noted)
-
-    @unittest.skipUnless(is_built(), "the program isn't built")
-    def test_an_order_ends_where_its_run_does(self) -> None:
-        """A run that is stopped is told with the stimuli that happened alone."""
-        with tempfile.TemporaryDirectory() as folder:
-            lamp = (EXAMPLES / "lamp.toml").read_text().replace('to = "on"', 'do = ["post me GO", "post me GO", "post me GO"]')
-            Path(folder, "lamp.toml").write_text(lamp)
-            Path(folder, "two.txt").write_text("source 1\npost lamp GO\nsettle\nsource 2\ntick 0\n")
-            _, printed, _ = answer("orders", f"{folder}/lamp.toml", f"{folder}/two.txt")
-        self.assertIn("3 of 3 orders were run, with 1 outcome\n", printed)
-        self.assertTrue(printed.endswith("  by the order 1:\n    source 1: post lamp GO\n"), printed)
-
-
-class Threads(unittest.TestCase):
-    """Runs with threads, of which two may differ."""
-
-    def test_text(self) -> None:
-        found = [("end 0\nobject a 1 s\n", 2), ("end 0\nobject a 2 s\n", 1)]
-        self.assertEqual(runs_text(found, "qk").splitlines(), [
-            "3 runs under qk, with 2 outcomes", "outcome 1, of 2 runs:", "  object a 1 s", "outcome 2, of 1 run:", "  object a 2 s",
-        ])
-        self.assertEqual(runs_text(found[:1], "port").splitlines(), [
-            "2 runs under port, with 1 outcome", "outcome 1, of 2 runs:", "  end 0", "  object a 1 s",
-        ])
+class Replays(unittest.TestCase):
+    """What `replay` prints of a run."""
 
     def test_orders_and_cycles(self) -> None:
         """An order has all records; only where threads made them may there be a cycle."""
@@ -212,20 +148,6 @@ class Threads(unittest.TestCase):
             with self.subTest(output, records=records, kernel=kernel):
                 self.assertEqual(replay_fault(Answer(output, "", 0), records, kernel) == "", is_right)
         self.assertEqual(replay_fault(Answer(b"", "qp: memory\n", 5), 1, "qk"), "qp: memory")
-
-    @unittest.skipUnless(is_built(), "the program isn't built")
-    def test_outcomes(self) -> None:
-        """Two sources that don't wait for each other may come to either end; one source and one object come to one."""
-        clock = [str(EXAMPLES / "clock" / name) for name in ("clock.toml", "two.txt")]
-        for kernel in THREADED:
-            with self.subTest(kernel):
-                status, printed, _ = answer("orders", "--kernel", kernel, "--most", "20", *clock)
-                self.assertEqual(status, 0)
-                self.assertRegex(printed, rf"^20 runs under {kernel}, with [12] outcomes?\n")
-        lamp = [str(EXAMPLES / name) for name in ("lamp.toml", "go.txt")]
-        self.assertEqual(answer("orders", "--kernel", "port", "--most", "3", *lamp)[1].splitlines(), [
-            "3 runs under port, with 1 outcome", "outcome 1, of 3 runs:", "  end 0", "  object lamp 1 on",
-        ])
 
 
 class Counts(unittest.TestCase):

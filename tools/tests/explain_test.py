@@ -14,6 +14,7 @@ from pathlib import Path
 
 from qptools.changes import change_all
 from qptools.explain.command import explanation, main
+from qptools.explain.forms import FORMS, form_of
 from qptools.explain.habits import habit_in_stimuli, habit_in_text
 from qptools.explain.hints import hints
 from qptools.explain.refusal import Refusal, read_refusal
@@ -22,6 +23,9 @@ from qptools.explain.toml_faults import toml_habit
 from qptools.explain.words import explain_words
 from qptools.program import TOP, Answer, is_built
 from qpviewer.files import read_run
+from qpviewer.holders import Holders
+from qpviewer.journal import Record, read_journal
+from qpviewer.naming import Names
 from qpviewer.system import read_system
 
 CLOCK = TOP / "examples" / "clock"
@@ -66,7 +70,7 @@ class Slips(unittest.TestCase):
     """What is said of each slip."""
 
     def test_each_has_its_explanation(self) -> None:
-        self.assertGreaterEqual(len(slips()), 40)
+        self.assertGreaterEqual(len(slips()), 78)
         for slip in slips():
             with self.subTest(slip["slip"][0]):
                 says = slip["says"][0]
@@ -144,7 +148,10 @@ class Lines(unittest.TestCase):
             ("run", "a"): "STIMULI is missing: qp run SYSTEM STIMULI",
             ("run",): "SYSTEM and STIMULI are missing: qp run SYSTEM STIMULI",
             ("check", "a", "b", "c", "d"): "'d' is a word too many: qp check SYSTEM STIMULI JOURNAL",
-            ("run", "--trace", "a", "b"): "`run` has no option '--trace'",
+            ("run", "--trace", "a", "b"): "`run` has no option '--trace'; it has --kernel, --budget, --out, --form",
+            ("run", "-k", "qv", "a", "b"): "`run` has no option '-k'; did you mean `--kernel`?",
+            ("check", "-x", "a", "b", "c"): "`check` has no option '-x'; it has none",
+            ("run", "a", "b", "b"): "'b' stands twice: qp run SYSTEM STIMULI",
             ("run", "--kernal", "qv", "a", "b"): "`run` has no option '--kernal'; did you mean `--kernel`?",
             ("run", "--kernel", "rtos", "a", "b"): "--kernel is sim, qv, qk, port or wait, not 'rtos'",
             ("run", "--kernel", "port", "--form", "3", "a", "b"): "--form is 1 or 2, not '3'",
@@ -162,6 +169,33 @@ class Lines(unittest.TestCase):
         with folder_with({"Lamp.toml": ""}) as folder:
             told = explanation(["run", "lamp.toml", "go.txt"], "qp: lamp.toml: absent\n")
             self.assertEqual(told, [f"there is no file lamp.toml in {folder.resolve()}; did you mean Lamp.toml?"])
+
+    def test_files_in_the_place_of_others(self) -> None:
+        files = {**clock_files(), "clock-run.txt": "qp 1 0 100000\nlane 0\nend 0\n"}
+        table = {
+            "run clock.txt clock.toml": ("clock.txt: 1 -", "the files stand in another order: qp run clock.toml clock.txt"),
+            "check clock.toml clock-run.txt clock.txt":
+                ("clock-run.txt: 1 1", "the files stand in another order: qp check clock.toml clock.txt clock-run.txt"),
+            "check clock.toml clock.txt clock.txt":
+                ("clock.txt: 1 1", "clock.txt stands twice, as STIMULI and as JOURNAL: qp check SYSTEM STIMULI JOURNAL"),
+        }
+        for words, (says, means) in table.items():
+            with self.subTest(words), folder_with(files):
+                self.assertEqual(explanation(words.split(), f"qp: {says}\n"), [means])
+
+    def test_what_cannot_be_read(self) -> None:
+        with folder_with({"go.txt": "", "a.toml": ""}) as folder:
+            (folder / "inner").mkdir()
+            self.assertEqual(explanation(["run", "inner", "go.txt"], "qp: read fault\n"), ["inner: is a folder: name a file in it"])
+            self.assertEqual(explanation(["run", ".", "go.txt"], "qp: read fault\n"), [".: is a folder: name a file in it, as a.toml, go.txt"])
+
+    def test_each_text_has_a_form(self) -> None:
+        """Where no habit is known, the form of the action's word is told, and no page."""
+        for word, form in FORMS.items():
+            self.assertEqual(form_of(f"{word} % %", False), f"write `{form}`")
+        self.assertIn("`late = EXPRESSION`", form_of("late = % 1", False))
+        self.assertIn("a guard is an expression", form_of("% 1", True))
+        self.assertIn("begins with say, post", form_of("%", False))
 
     def test_faults_of_systems(self) -> None:
         """Each code on a change of the lamp, with words that its explanation has."""
@@ -223,7 +257,7 @@ class Lines(unittest.TestCase):
         for more, said in table.items():
             with self.subTest(more), folder_with({"lamp.toml": LAMP.read_text() + more}):
                 told = explanation(["run", "lamp.toml", "go.txt"], "qp: lamp.toml: 1 -\n")
-                self.assertIn("isn't TOML: ", told[0])
+                self.assertIn(": isn't TOML: ", told[0])
                 self.assertIn(said, told[-1])
 
     def test_a_journal_as_text_isnt_frames(self) -> None:
@@ -250,6 +284,22 @@ class Lines(unittest.TestCase):
             told = explanation(["run", "crowded.toml", "go.txt"], "qp: assertion 1 in lane 0\n", files["crowded-out.txt"].encode())
         self.assertEqual(told[0], "line 12 of the journal, `assert 1 1 1 2 0 1`: lamp asserts: the queue of lamp is full")
         self.assertIn("in lamp's step of GO", told[1])
+        self.assertEqual(told[2], "the action is `post me X`")
+
+    def test_who_holds_the_blocks_of_an_empty_pool(self) -> None:
+        """Each block's references lie in a queue, a step, a deferred list, or a call that goes on."""
+        records = read_journal(b"\n".join((
+            b"qp 1 0 100000", b"lane 0", b"new 1 1 0 0 0 9 7", b"inc 1 1 0 0", b"post 1 1 1 0 0 1 0 0", b"new 0 1 1 1 0 9 8", b"inc 0 1 1 0",
+            b"post 0 1 2 0 0 1 1 0", b"took 1 2 0 1 1 0 0", b"inc 1 1 0 1", b"defer 1 1 0 1", b"dec 1 1 0 2 0", b"new 1 1 2 2 0 9 9", b"inc 1 1 2 0",
+            b"new 1 2 0 0 0 9 1", b"end 3", b""))).lanes[0]
+        names = Names(read_system((CLOCK / "clock.toml").read_bytes()))
+        holders = Holders(names)
+        holders.tell(records[:-1])
+        self.assertEqual(holders.of_pool(1), [
+            "block 1.0 SET_ALARM(7): deferred by clock", "block 1.1 SET_ALARM(8): in the queue of clock",
+            "block 1.2 SET_ALARM(9): in a call of clock"])
+        holders.tell([Record("dec", (1, 1, 0, 3, 1), ""), Record("back", (1, 1, 3, 0, 4), "")])
+        self.assertEqual(len(holders.of_pool(1)), 2)
 
     def test_stops_of_long_journals(self) -> None:
         """Where only the last record of each lane is looked at, the same record is told, and the same advice."""
@@ -266,7 +316,7 @@ class Lines(unittest.TestCase):
         wide = f"qp = 1\n{'x' * 500_000} = 1\n"
         with folder_with({"many.toml": many, "wide.toml": wide, "long.toml": many * 8, "go.txt": ""}):
             told = explanation(["run", "many.toml", "go.txt"], "qp: many.toml: 4 \n")
-            self.assertEqual(told[0], "the top of the file: `k0`, `k1`, `k2` and 19997 more are no keys of this table")
+            self.assertEqual(told[0], "many.toml:2: the top of the file: `k0`, `k1`, `k2` and 19997 more are no keys of this table")
             self.assertLessEqual(max(map(len, told)), 300)
             self.assertLess(len(told), 8)
             self.assertEqual(explanation(["run", "long.toml", "go.txt"], "qp: long.toml: 1 -\n"),
@@ -285,15 +335,15 @@ class Lines(unittest.TestCase):
     def test_what_python_reads_and_the_program_doesnt(self) -> None:
         """Numbers beyond 64 bits, and what lies too deep; and a number that Python doesn't read either."""
         table = {
-            "x = 9223372036854775808": "x is beyond 64 bits with a sign",
-            f"x = {'[' * 90}{']' * 90}": "lists, tables and names of a dotted key stand at most 80 deep",
-            f"x{'.x' * 90} = 1": "lists, tables and names of a dotted key stand at most 80 deep",
+            "x = 9223372036854775808": "isn't TOML: x is beyond 64 bits with a sign",
+            f"x = {'[' * 90}{']' * 90}": "isn't TOML: lists, tables and names of a dotted key stand at most 80 deep",
+            f"x{'.x' * 90} = 1": "isn't TOML: lists, tables and names of a dotted key stand at most 80 deep",
             f"x = {'[' * 5000}{']' * 5000}": "isn't TOML that this reader takes: it nests too deep",
             f"x = {'9' * 5000}": "isn't TOML that this reader takes: a number is too long",
         }
         for line, said in table.items():
             with self.subTest(said), folder_with({"long.toml": f"qp = 1\n{line}\n", "go.txt": ""}):
-                self.assertEqual(explanation(["run", "long.toml", "go.txt"], "qp: long.toml: 1 -\n")[-1], said)
+                self.assertRegex(explanation(["run", "long.toml", "go.txt"], "qp: long.toml: 1 -\n")[0], f"^long.toml:[12]: {re.escape(said)}$")
 
     def test_a_text_that_is_too_long_isnt_read(self) -> None:
         """One with 200,000 places would be read deeper than Python reads."""
@@ -301,7 +351,8 @@ class Lines(unittest.TestCase):
             files = {"lamp.toml": LAMP.read_text().replace('to = "on"', f'do = ["{text}"]'), "go.txt": ""}
             with self.subTest(code), folder_with(files):
                 told = explanation(["run", "lamp.toml", "go.txt"], f"qp: lamp.toml: {code} chart.1.state.1.row.1.do.1\n")
-                self.assertTrue(told[0].startswith("chart lamp, state off, row 1 (on GO), action 1: "))
+                line = 1 + files["lamp.toml"][:files["lamp.toml"].index(text)].count("\n")
+                self.assertTrue(told[0].startswith(f"lamp.toml:{line}: chart lamp, state off, row 1 (on GO), action 1: "))
                 self.assertEqual(told[-1], f"a text has at most 200 bytes, this one {len(text)}")
 
     def test_calls_of_qp_and_near_words(self) -> None:

@@ -13,7 +13,9 @@ from qptools.program import TOP
 
 #: Scripts of this repository that a user calls; those that need the built program.
 SCRIPTS = ("examples/test", "view/test", "view/qpview", "view/browser/check", "tools/test", "tools/qptest", "tools/qpexplain", "tools/libraries",
-           "tools/sources", "bench/gate", "bench/verdicts", "bench/edits/try", "recorder/test")
+           "tools/schema", "tools/sources", "tools/program", "tools/release", "tools/index", "tools/qplint", "bench/gate", "bench/verdicts",
+           "bench/edits/try", "recorder/test",
+           "board/test", "board/qpc", "board/desk", "board/cortex-m3/build", "board/cortex-m3/run")
 OF_THE_PROGRAM = ("bench/check", "bench/documents", "bench/edges", "bench/hostile", "bench/journals", "bench/memory", "bench/mutants",
                   "bench/readers", "bench/replay", "bench/runs", "bench/sim", "bench/steps", "bench/sum", "bench/threads", "examples/test")
 SECONDS = 20
@@ -94,7 +96,7 @@ class Hints(unittest.TestCase):
 def python_parts() -> dict[str, ast.Module]:
     """Each file in Python, by its path."""
     found = {}
-    for folder in ("bench", "examples", "recorder", "tools", "view"):
+    for folder in ("bench", "board", "examples", "recorder", "tools", "view"):
         for path in sorted((TOP / folder).rglob("*")):
             if path.is_file() and (path.suffix == ".py" or not path.suffix and path.read_bytes().startswith(b"#!/usr/bin/env python3")):
                 found[str(path.relative_to(TOP))] = ast.parse(path.read_text())

@@ -1,10 +1,13 @@
-"""Reads `cases.toml`: runs of systems, each with what is expected of it."""
+"""Reads `cases.toml`: runs of systems, each with what is expected of it, and where that stands."""
 
+import re
 import tomllib
 from collections.abc import Callable
 from dataclasses import dataclass, field
 from pathlib import Path
 from typing import Any
+
+from qpviewer.positions import Lines, read_lines
 
 #: The kernels with one thread, in which a run is the only one of its files, and those with threads, in which two may differ.
 ONE_THREAD, THREADED = ("sim", "qv"), ("qk", "port", "wait")
@@ -57,7 +60,29 @@ _OBJECT: _Keys = {
 
 
 class CaseFault(Exception):
-    """A file of cases that can't be run: where, and what is wrong."""
+    """A file of cases that can't be run: where, as `FILE:LINE`, and what is wrong."""
+
+
+class CaseText:
+    """A file of cases as it was read: the line of each key."""
+
+    def __init__(self, path: Path, data: bytes):
+        self.path = path
+        self._text = data.decode("utf-8-sig", errors="replace").split("\n")
+        self._lines: Lines = read_lines(data)
+
+    def place(self, key: str) -> str:
+        """`FILE:LINE` of a key, as `case.1.object.clock.took`, or of the innermost table around it that is there."""
+        return f"{self.path}:{self._lines.line_of(key)}"
+
+    def place_in_text(self, key: str, number: int) -> str:
+        """`FILE:LINE` of a line, from 1, of the text that a key has."""
+        line = self._lines.line_of(key)
+        head = self._text[line - 1].rstrip()
+        if '"""' not in head and "'''" not in head:
+            return f"{self.path}:{line}"
+        begins_below = head.endswith(('"""', "'''"))
+        return f"{self.path}:{line + number - 1 + begins_below}"
 
 
 @dataclass(frozen=True)
@@ -75,6 +100,8 @@ class Case:
     """A system under stimuli with a budget, and what has to come of it under some kernels: the run's end, how many calls are refused,
     whether all blocks come back, the whole summary, and of each object what is named. Under the other kernels any end will do."""
 
+    source: CaseText
+    number: int
     name: str
     system: Path
     stimuli: Path | str
@@ -84,54 +111,85 @@ class Case:
     refused: int | None = None
     blocks_back: bool | None = None
     summary: str | None = None
+    summary_file: Path | None = None
     objects: dict[str, Expected] = field(default_factory=dict)
+
+    def place(self, key: str = "") -> str:
+        """`FILE:LINE` of one of the case's keys, or of the case itself."""
+        return self.source.place(f"case.{self.number}.{key}" if key else f"case.{self.number}")
+
+    def place_in_stimuli(self, number: int) -> str:
+        """`FILE:LINE` of a line of the stimuli, from 1."""
+        if isinstance(self.stimuli, Path):
+            return f"{self.stimuli}:{number}"
+        return self.source.place_in_text(f"case.{self.number}.stimuli", number)
 
 
 def read_cases(path: Path) -> list[Case]:
     """The cases of a file. Raises `CaseFault`."""
     try:
-        tree = tomllib.loads(path.read_text())
-    except (OSError, ValueError) as error:
-        raise CaseFault(f"{path}: {error}") from None
+        data = path.read_bytes()
+    except OSError as error:
+        raise CaseFault(f"{path}: can't be read: {error.strerror}") from None
+    tree = _tree(path, data)
+    source = CaseText(path, data)
     tables = tree.get("case")
     if set(tree) != {"case"} or not isinstance(tables, list) or not all(isinstance(table, dict) for table in tables):
-        raise CaseFault(f"{path}: has [[case]] tables and nothing else")
-    return [_case(path, number, table) for number, table in enumerate(tables, 1)]
+        odd = next((key for key in tree if key != "case"), "case")
+        raise CaseFault(f"{source.place(odd)}: the file has [[case]] tables and nothing else")
+    return [_case(source, number, table) for number, table in enumerate(tables, 1)]
 
 
-def _case(path: Path, number: int, table: dict[str, Any]) -> Case:
-    where = f"{path}: case {table.get('name', number)}"
-    _known(where, table, _CASE)
+def _tree(path: Path, data: bytes) -> dict[str, Any]:
+    """The TOML of a file. Raises `CaseFault` with the line that isn't TOML."""
+    try:
+        return tomllib.loads(data.decode("utf-8-sig"))
+    except UnicodeDecodeError as error:
+        line, words = data.count(b"\n", 0, error.start) + 1, "isn't text in UTF-8"
+    except RecursionError:
+        line, words = 1, "isn't TOML that this reader takes: it nests too deep"
+    except ValueError as error:
+        found = re.search(r"at line ([0-9]+)", str(error))
+        line, words = int(found[1]) if found else data.count(b"\n") + 1, f"isn't TOML: {error}"
+    raise CaseFault(f"{path}:{line}: {words}")
+
+
+def _case(source: CaseText, number: int, table: dict[str, Any]) -> Case:
+    at, name = f"case.{number}", f"case {table.get('name', number)}"
+    _known(source, at, name, table, _CASE)
     for key in ("name", "system", "stimuli"):
         if key not in table:
-            raise CaseFault(f"{where}: {key} is missing")
+            raise CaseFault(f"{source.place(at)}: {name}: {key} is missing")
     kernel = table.get("kernel", list(ONE_THREAD))
     kernels = tuple([kernel] if isinstance(kernel, str) else kernel)
-    stimuli = table["stimuli"]
+    stimuli, folder = table["stimuli"], source.path.parent
+    objects = table.get("object", {})
+    for key, of in objects.items():
+        _known(source, f"{at}.object.{key}", f"{name}: object {key}", of, _OBJECT)
     return Case(
-        table["name"], path.parent / table["system"], stimuli if "\n" in stimuli else path.parent / stimuli, kernels,
+        source, number, table["name"], folder / table["system"], stimuli if "\n" in stimuli else folder / stimuli, kernels,
         table.get("budget", 100_000), table.get("end", 0), table.get("refused"), table.get("blocks_back"),
-        _summary(where, path.parent / table["summary"]) if "summary" in table else None,
-        {name: _expected(f"{where}: object {name}", of) for name, of in table.get("object", {}).items()},
+        *_summary(source, at, name, folder, table),
+        {key: Expected(of.get("state"), of.get("took"), of.get("vars", {}), of.get("said")) for key, of in objects.items()},
     )
 
 
-def _summary(where: str, path: Path) -> str:
+def _summary(source: CaseText, at: str, name: str, folder: Path, table: dict[str, Any]) -> tuple[str | None, Path | None]:
+    """The whole summary that is expected, with its file; none where a case names none."""
+    if "summary" not in table:
+        return None, None
+    path = folder / table["summary"]
     try:
-        return path.read_text()
+        return path.read_text(), path
     except (OSError, ValueError) as error:
-        raise CaseFault(f"{where}: summary: {error}") from None
+        raise CaseFault(f"{source.place(f'{at}.summary')}: {name}: summary: {error}") from None
 
 
-def _expected(where: str, table: dict[str, Any]) -> Expected:
-    _known(where, table, _OBJECT)
-    return Expected(table.get("state"), table.get("took"), table.get("vars", {}), table.get("said"))
-
-
-def _known(where: str, table: dict[str, Any], keys: _Keys) -> None:
+def _known(source: CaseText, at: str, name: str, table: dict[str, Any], keys: _Keys) -> None:
     for key, value in table.items():
+        place = source.place(f"{at}.{key}")
         if key not in keys:
-            raise CaseFault(f"{where}: {key!r} is no key; the keys are {', '.join(sorted(keys))}")
+            raise CaseFault(f"{place}: {name}: {key!r} is no key; the keys are {', '.join(sorted(keys))}")
         is_one, what = keys[key]
         if not is_one(value):
-            raise CaseFault(f"{where}: {key} must be {what}")
+            raise CaseFault(f"{place}: {name}: {key} must be {what}")

@@ -1,7 +1,9 @@
-"""The words of `tools/qptest`."""
+"""The commands of `tools/qptest`."""
 
 import sys
+from argparse import Namespace
 from collections.abc import Iterator
+from difflib import get_close_matches
 from pathlib import Path
 
 from qpviewer.coverage import Coverage
@@ -14,52 +16,37 @@ from qpviewer.story import Story
 from qpviewer.system import read_system
 from qpviewer.system_parts import System
 
-from ..program import is_built
+from ..entry import NOT_WRITTEN
+from ..explain.command import explanation
+from ..program import PROGRAM, call, is_built
 from .case_file import KERNELS, THREADED, Case, CaseFault, read_cases
-from .compare import differences
-from .orders import count_of, orders_text, outcomes, run_outcomes, runs_text
-from .outcome import NoRun, run_case
-
-USAGE = """usage: qptest [--cover] [--low] FOLDER ..   runs all cases of the files cases.toml in the folders and below; with --cover and --low
-                                            it prints of each system what `cover` and `low` print, over all its runs
-       qptest cover SYSTEM JOURNAL ..       prints how many rows of each chart the journals took, and which they didn't
-       qptest low SYSTEM JOURNAL ..         prints the least that was free in queues and pools (getQueueMin, getPoolMin)
-       qptest orders [--kernel sim|qv] [--most N] SYSTEM STIMULI
-                                            runs the orders of the sources' stimuli, at most N (1000), and prints their outcomes
-       qptest orders --kernel qk|port|wait [--most N] SYSTEM STIMULI
-                                            runs the stimuli N times (100), in whatever order the threads make, and prints the outcomes
-
-A case runs under each kernel, and each journal is judged and replayed; what else is expected is asked under the kernels that the
-case names, sim and qv if it names none. That takes some hundredths of a second a kernel. All but `cover` and `low` need the built
-program: ./qp build. docs/TESTING.md says how a case is written. Ends with 0 where all is as expected, 1 where a case fails, 2 where
-a file or a word is wrong, 125 where the program isn't built."""
+from .ends import NotRun, keep, outcomes, run_outcomes
+from .ends_text import ends_text, orders_text, runs_text
+from .junit import junit_of
+from .orders import lines_of
+from .outcome import RUNS
+from .tried import Tried, try_case
+from .watch import watch
+from .words import USAGE, BadWords, read_words
 
 PASSED, FAILED, WRONG, NOT_BUILT = 0, 1, 2, 125
-MOST, MOST_THREADED = 1000, 100
-
-
-class _Words(Exception):
-    """Words that aren't a call."""
+_HELP = ("-h", "--help")
 
 
 def main(words: list[str]) -> int:
     """Runs what the words ask for; answers the status."""
-    if not words or words[0] in ("-h", "--help"):
+    if not words or words[0] in _HELP or words[1:2] and words[1] in _HELP:
         print(USAGE, file=sys.stdout if words else sys.stderr)
         return PASSED if words else WRONG
     try:
-        match words:
-            case ["cover", system, first, *rest]:
-                return _cover(system, [first, *rest])
-            case ["low", system, first, *rest]:
-                return _low(system, [first, *rest])
-            case ["cover" | "low", *_]:
-                raise _Words("a system and journals are needed")
+        command, values = read_words(words)
+        if command in ("cover", "low"):
+            return (_cover if command == "cover" else _low)(values.system, values.journals)
         if not is_built():
             print("qptest: the program isn't built: ./qp build", file=sys.stderr)
             return NOT_BUILT
-        return _orders(words[1:]) if words[0] == "orders" else _folders(words)
-    except (Unread, CaseFault, _Words) as fault:
+        return _orders(values) if command else _folders(values)
+    except (Unread, BadWords, NotRun) as fault:
         print(f"qptest: {fault}", file=sys.stderr)
         return WRONG
 
@@ -91,74 +78,150 @@ def _low(system_name: str, names: list[str]) -> int:
     return PASSED
 
 
-def _orders(words: list[str]) -> int:
-    options, files, rest = {"--kernel": "sim", "--most": ""}, list[str](), list(words)
-    while rest:
-        word = rest.pop(0)
-        if not word.startswith("--"):
-            files.append(word)
-            continue
-        name, equals, value = word.partition("=")
-        if name not in options:
-            raise _Words(f"{name} is no option: {', '.join(options)}")
-        if not equals and not rest:
-            raise _Words(f"{name} has no value")
-        options[name] = value if equals else rest.pop(0)
-    if len(files) != 2:
-        raise _Words("a system and stimuli are needed")
-    kernel = options["--kernel"]
-    most = options["--most"] or str(MOST_THREADED if kernel in THREADED else MOST)
-    if kernel not in KERNELS or not (most.isascii() and most.isdigit()):
-        raise _Words(f"--kernel is {', '.join(KERNELS[:-1])} or {KERNELS[-1]}, and --most a number")
-    system = read_file(files[0], read_system)
-    stimuli = read_file(files[1], lambda data: read_stimuli(data, system))
-    if kernel in THREADED:
-        print(runs_text(run_outcomes([*files], kernel, int(most)), kernel), end="")
-        return PASSED
-    groups = outcomes(Path(files[0]), stimuli, ["--kernel", kernel], int(most))
-    print(orders_text(groups, stimuli, count_of([len(lines) for lines in stimuli])), end="")
-    return PASSED
-
-
-def _folders(words: list[str]) -> int:
-    options = {word for word in words if word in ("--cover", "--low")}
-    names = [word for word in words if word not in options]
-    if wrong := next((name for name in names if not Path(name).is_dir()), None):
-        raise _Words(f"{wrong} is no folder")
-    files = [file for name in names for file in sorted(Path(name).rglob("cases.toml"))]
-    if not files:
-        raise _Words(f"no file cases.toml in {', '.join(names) or 'no folder'}")
-    tried = [_tried(file, case, kernel) for file in files for case in read_cases(file) for kernel in KERNELS]
-    failed = sum(not is_passed for is_passed, _, _ in tried)
-    print(f"{len(tried) - failed} passed, {failed} failed")
-    stories: dict[Path, list[Story]] = {}
-    for _, case, story in tried:
-        stories.setdefault(case.system, []).extend([story] if story else [])
-    for system, of in stories.items():
-        _print_counts(system, of, options)
-    return FAILED if failed else PASSED
-
-
-def _tried(file: Path, case: Case, kernel: str) -> tuple[bool, Case, Story | None]:
-    """Runs a case and prints what differs; answers whether nothing does, the case, and the run's story."""
-    outcome = run_case(case, kernel)
-    if isinstance(outcome, NoRun):
-        told, story = ["the system or the stimuli are refused:", *outcome.lines], None
+def _orders(values: Namespace) -> int:
+    """Runs stimuli in their orders, or again and again with threads; prints what comes of it, and keeps journals of it."""
+    system = read_file(values.system, read_system)
+    stimuli = read_file(values.stimuli, lambda data: read_stimuli(data, system))
+    _need_run(values)
+    folder = _empty_folder(values.keep) if values.keep else None
+    if values.kernel in THREADED:
+        groups, lines = run_outcomes(values.system, system, values.stimuli, values.kernel, values.most), list[list[str]]()
     else:
-        told, story = differences(case, outcome, kernel), outcome.story
-    print(f"{'FAIL' if told else 'pass'}  {file.parent}: {case.name}, {kernel}{'' if kernel in case.kernels else ', judged alone'}")
-    print("".join(f"      {line}\n" for line in told), end="")
-    return not told, case, story
+        found = outcomes(values.system, system, stimuli, values.kernel, values.most)
+        groups, lines = found.groups, [lines_of(group.plan, stimuli, found.waiting) for group in found.groups]
+    try:
+        kept = keep(values.system, system, values.kernel, folder, groups, lines) if folder else []
+    except OSError as error:
+        print(f"qptest: {error.filename or folder}: can't be written: {error.strerror}", file=sys.stderr)
+        return NOT_WRITTEN
+    print(runs_text(groups, values.kernel, kept) if values.kernel in THREADED else orders_text(found, stimuli, kept), end="")
+    if values.ends is None:
+        return PASSED
+    is_passed, told = ends_text(groups, values.ends)
+    print(told, end="")
+    return PASSED if is_passed else FAILED
 
 
-def _print_counts(system: Path, stories: list[Story], options: set[str]) -> None:
-    """Prints the rows that runs of a system took, and the least that was free in them."""
-    if not options or not stories:
-        return
-    coverage, low = Coverage(stories[0].system), LowWater(stories[0].system)
-    for story in stories:
-        coverage.add(story.journal)
-        low.add(story)
-    print(f"{system}:")
-    print(coverage.text() if "--cover" in options else "", end="")
-    print(low.text() if "--low" in options else "", end="")
+def _need_run(values: Namespace) -> None:
+    """Raises `BadWords` with what is wrong where the program refuses the system or the stimuli as they are."""
+    words = ["run", "--out", "summary", "--", values.system, values.stimuli]
+    ran = call(words)
+    if ran.status not in RUNS:
+        raise BadWords("\n      ".join([ran.note.strip(), *explanation(words, ran.note)]))
+
+
+def _empty_folder(name: str) -> Path:
+    """A folder for the journals of outcomes, which is made if it isn't there. Raises `BadWords` where it has some already."""
+    folder = Path(name)
+    try:
+        folder.mkdir(parents=True, exist_ok=True)
+        old = sorted(folder.glob("outcome-*"))
+    except OSError as error:
+        raise BadWords(f"{name}: can't be made: {error.strerror}") from None
+    if old:
+        raise BadWords(f"{name} has outcomes already, as {old[0].name}: remove them, or name another folder")
+    return folder
+
+
+def _folders(values: Namespace) -> int:
+    for name in values.folders:
+        if not Path(name).is_dir():
+            raise BadWords(f"{name} is no folder")
+    if not _case_files(values.folders):
+        raise BadWords(f"no file cases.toml in {', '.join(values.folders)}")
+    if values.junit and not Path(values.junit).parent.is_dir():
+        raise BadWords(f"{values.junit}: there is no folder {Path(values.junit).parent}")
+    if not values.watch:
+        return _run_folders(values)
+    watch(lambda: _run_watched(values), lambda: _watched(values.folders), lambda line: print(line, flush=True))
+
+
+def _case_files(folders: list[str]) -> list[Path]:
+    """The files of cases in the folders, each once."""
+    return list(dict.fromkeys(file for name in folders for file in sorted(Path(name).rglob("cases.toml"))))
+
+
+def _run_watched(values: Namespace) -> None:
+    """Runs the cases; words that name none are said, and may be mended while it goes on, as a program that is just being built."""
+    try:
+        if not is_built():
+            raise BadWords("the program isn't built: ./qp build")
+        _run_folders(values)
+    except BadWords as fault:
+        print(f"qptest: {fault}", file=sys.stderr, flush=True)
+
+
+def _watched(folders: list[str]) -> Iterator[Path]:
+    """The files that a run of all cases reads, as far as the files of cases can be read."""
+    yield PROGRAM
+    for file in _case_files(folders):
+        yield file
+        try:
+            cases = read_cases(file)
+        except CaseFault:
+            continue
+        for case in cases:
+            yield case.system
+            yield from (other for other in (case.stimuli, case.summary_file) if isinstance(other, Path))
+
+
+def _run_folders(values: Namespace) -> int:
+    """Runs the cases of the folders, prints what comes of them, and writes it as a JUnit file where that is asked for."""
+    cases, faults = list[Case](), list[str]()
+    for file in _case_files(values.folders):
+        try:
+            cases += read_cases(file)
+        except CaseFault as fault:
+            faults.append(str(fault))
+            print(fault, file=sys.stderr)
+    if values.case and not faults:
+        cases = _named(cases, values.case)
+    tried = [] if faults else [_told(try_case(case, kernel)) for case in cases for kernel in KERNELS]
+    failed = sum(1 for one in tried if one.failures)
+    if not faults:
+        print(f"{len(tried) - failed} passed, {failed} failed")
+        _print_counts(tried, values)
+    status = WRONG if faults else FAILED if failed else PASSED
+    return _written(values.junit, junit_of(tried, faults), status) if values.junit else status
+
+
+def _named(cases: list[Case], names: list[str]) -> list[Case]:
+    """The cases that have one of the names. Raises `BadWords` for a name that no case has."""
+    known = [case.name for case in cases]
+    for name in names:
+        if name not in known:
+            near = get_close_matches(name, known, 1)
+            raise BadWords(f"no case is called {name!r}" + (f"; did you mean {near[0]!r}?" if near else ""))
+    return [case for case in cases if case.name in names]
+
+
+def _told(tried: Tried) -> Tried:
+    """Prints what came of a case."""
+    print(tried.text(), end="", flush=True)
+    return tried
+
+
+def _written(name: str, data: bytes, status: int) -> int:
+    """Writes a file; answers the status, or another one where the file can't be written and all else is as expected."""
+    try:
+        Path(name).write_bytes(data)
+    except OSError as error:
+        print(f"qptest: {name}: can't be written: {error.strerror}", file=sys.stderr)
+        return status or NOT_WRITTEN
+    return status
+
+
+def _print_counts(tried: list[Tried], values: Namespace) -> None:
+    """Prints of each system the rows that its runs took, and the least that was free in them, as far as that is asked for."""
+    stories: dict[Path, list[Story]] = {}
+    for one in tried:
+        if one.story and (values.cover or values.low):
+            stories.setdefault(one.case.system, []).append(one.story)
+    for system, of in stories.items():
+        coverage, low = Coverage(of[0].system), LowWater(of[0].system)
+        for story in of:
+            coverage.add(story.journal)
+            low.add(story)
+        print(f"{system}:")
+        print(coverage.text() if values.cover else "", end="")
+        print(low.text() if values.low else "", end="")

@@ -1,5 +1,7 @@
 """What of a run differs from what a case expects, in words."""
 
+from typing import NamedTuple
+
 from qpviewer.record_words import plural
 
 from .case_file import Case, Expected
@@ -7,28 +9,37 @@ from .outcome import Outcome
 from .summary import ObjectSummary
 
 
-def differences(case: Case, outcome: Outcome, kernel: str) -> list[str]:
-    """A line for each thing that differs; none where all is as expected. Under a kernel that the case doesn't name, all that is expected
-    is a lawful journal and an order, or a cycle, of its records."""
+class Difference(NamedTuple):
+    """What differs in words, and the key of the case that expects it otherwise; no key where every case does."""
+
+    key: str
+    words: str
+
+
+def differences(case: Case, outcome: Outcome, kernel: str) -> list[Difference]:
+    """All that differs; nothing where all is as expected. Under a kernel that the case doesn't name, all that is expected is a lawful
+    journal and an order, or a cycle, of its records."""
     found = []
     if outcome.verdict != "lawful":
-        found.append(f"the journal is {outcome.verdict}, expected lawful")
+        found.append(Difference("", f"the journal is {outcome.verdict}, expected lawful"))
     elif outcome.replayed:
-        found.append(f"replayed: {outcome.replayed}")
+        found.append(Difference("", f"replayed: {outcome.replayed}"))
     if kernel not in case.kernels:
         return found
     for end in sorted({outcome.summary.end, outcome.story.journal.status} - {case.end}):
-        found.append(f"end is {end}, expected {case.end}{_stop(outcome)}")
+        found.append(Difference("end", f"end is {end}, expected {case.end}{_stop(outcome)}"))
     if case.summary is not None and outcome.text != case.summary:
-        found += _lines_that_differ(outcome.text, case.summary)
-    found += _refusals(case, outcome)
-    found += _blocks(case, outcome)
+        found += [Difference("summary", words) for words in _lines_that_differ(outcome.text, case.summary)]
+    found += [Difference("refused", words) for words in _refusals(case, outcome)]
+    found += [Difference("blocks_back", words) for words in _blocks(case, outcome)]
     for name, expected in case.objects.items():
         owner = next((entry for entry in outcome.story.system.objects if entry.name == name), None)
+        key = f"object.{name}"
         if owner is None:
-            found.append(f"the system has no object {name}")
+            found.append(Difference(key, f"the system has no object {name}"))
         else:
-            found += _object(name, expected, outcome.summary.objects[name], outcome.said(owner.priority))
+            of = _object(name, expected, outcome.summary.objects[name], outcome.said(owner.priority))
+            found += [Difference(f"{key}.{inner}", words) for inner, words in of]
     return found
 
 
@@ -61,19 +72,25 @@ def _blocks(case: Case, outcome: Outcome) -> list[str]:
     return [] if out else ["all blocks are back, expected some out"]
 
 
-def _object(name: str, expected: Expected, found: ObjectSummary, said: list[int]) -> list[str]:
+def _object(name: str, expected: Expected, found: ObjectSummary, said: list[int]) -> list[Difference]:
     told = []
     if expected.state is not None and found.state != expected.state:
-        told.append(f"{name} is in {found.state or 'no state, since its step is cut off'}, expected {expected.state}")
+        in_words = found.state or "no state, since its step is cut off"
+        told.append(Difference("state", f"{name} is in {in_words}, expected {expected.state}"))
     if expected.took is not None and found.taken != expected.took:
-        told.append(f"{name} took {plural(found.taken, 'event')}, expected {expected.took}")
+        told.append(Difference("took", f"{name} took {plural(found.taken, 'event')}, expected {expected.took}"))
     for variable, value in expected.vars.items():
-        if found.state is None:
-            told.append(f"{name}'s {variable} can't be told, since its step is cut off")
-        elif variable not in found.vars:
-            told.append(f"{name} has no variable {variable}")
-        elif found.vars[variable] != value:
-            told.append(f"{name}'s {variable} is {found.vars[variable]}, expected {value}")
+        if words := _variable(name, variable, value, found):
+            told.append(Difference(f"vars.{variable}", words))
     if expected.said is not None and said != expected.said:
-        told.append(f"{name} said {said}, expected {expected.said}")
+        told.append(Difference("said", f"{name} said {said}, expected {expected.said}"))
     return told
+
+
+def _variable(name: str, variable: str, value: int, found: ObjectSummary) -> str:
+    """What differs in a variable; nothing where nothing does."""
+    if found.state is None:
+        return f"{name}'s {variable} can't be told, since its step is cut off"
+    if variable not in found.vars:
+        return f"{name} has no variable {variable}"
+    return f"{name}'s {variable} is {found.vars[variable]}, expected {value}" if found.vars[variable] != value else ""

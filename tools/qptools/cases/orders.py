@@ -1,30 +1,23 @@
-"""The orders in which the stimuli of several sources may happen, run one after another, and what comes of them; and what comes of runs
-with threads, which take an order of their own each."""
+"""The orders in which the stimuli of several sources may happen, and how late they may: the plans of runs with one thread."""
 
-import os
-import tempfile
-from collections import Counter
-from collections.abc import Iterator
-from concurrent.futures import ThreadPoolExecutor
-from dataclasses import dataclass
-from itertools import islice
+from collections.abc import Iterable, Iterator, Sequence
 from math import comb
-from pathlib import Path
-
-from ..program import call
+from typing import NamedTuple
 
 #: An order: the number of the source of each stimulus, from 1.
 Order = tuple[int, ...]
+#: A plan: an order with what stands in front of its stimuli, a `settle`, or a stimulus that does nothing but let a look go by.
+Plan = tuple[int, ...]
+SETTLE, WAIT = 0, -1
 
 
-@dataclass(frozen=True)
-class Group:
-    """Orders that come to the same: the outcome, how many they are, and the shortest one, that is the one of which the fewest
-    stimuli happen until the run ends, and among these the one with the fewest changes of source. Only what happens is in it."""
+class Between(NamedTuple):
+    """A place for a stimulus while what came before it is still at work: an order, the stimulus' place in it from 0, and in how many looks
+    it may happen before all queues are empty."""
 
-    outcome: str
-    count: int
     order: Order
+    place: int
+    looks: int
 
 
 def count_of(lengths: list[int]) -> int:
@@ -38,7 +31,7 @@ def count_of(lengths: list[int]) -> int:
 
 def orders(lengths: list[int]) -> Iterator[Order]:
     """All orders, those with few changes of source first; each source's stimuli keep their order."""
-    for changes in range(sum(lengths)):
+    for changes in range(max(sum(lengths), 1)):
         yield from _with(tuple(lengths), 0, changes)
 
 
@@ -58,73 +51,45 @@ def _with(left: tuple[int, ...], last: int, changes: int) -> Iterator[Order]:
                 yield (source, *order)
 
 
-def merged(stimuli: list[list[str]], order: Order) -> str:
-    """The stimuli of all sources as one source's, in an order."""
+def settled(order: Order) -> Plan:
+    """The latest that each stimulus can come: with a `settle` in front of it."""
+    return tuple(part for source in order for part in (SETTLE, source))
+
+
+def places_between(order: Order, looks: Sequence[int], last: int) -> list[Between]:
+    """The places for stimuli between the steps of a settled run: `looks` has the number of the look in which each part of its plan
+    happened, and `last` is the number of its last look."""
+    found = []
+    for place in range(len(order)):
+        if 2 * place > len(looks):
+            break
+        before = looks[2 * place - 1] if place else 0
+        settle = looks[2 * place] if 2 * place < len(looks) else last + 1
+        if settle - before > 1:
+            found.append(Between(order, place, settle - before - 1))
+    return found
+
+
+def between(places: Iterable[Between]) -> Iterator[Plan]:
+    """The plans in which one stimulus comes while what came before it is still at work, and all others are settled; those with the
+    shortest waits first."""
+    left, wait = list(places), 0
+    while left:
+        for order, place, _ in left:
+            parts = [(SETTLE, source) for source in order]
+            parts[place] = (WAIT,) * wait + (order[place],)
+            yield tuple(part for those in parts for part in those)
+        wait += 1
+        left = [those for those in left if those.looks > wait]
+
+
+def lines_of(plan: Plan, stimuli: list[list[str]], waiting: str) -> list[str]:
+    """The stimuli of a plan as one source's, with the line that lets a look go by."""
     places = [iter(lines) for lines in stimuli]
-    return "".join(f"{line}\n" for line in ["source 1", *(next(places[source - 1]) for source in order)])
+    free = {SETTLE: "settle", WAIT: waiting}
+    return [free[part] if part in free else next(places[part - 1]) for part in plan]
 
 
-def outcomes(system: Path, stimuli: list[list[str]], words: list[str], most: int) -> list[Group]:
-    """What comes of at most so many orders, the commonest first; `words` are options of `run`."""
-    chosen = list(islice(orders([len(lines) for lines in stimuli]), most))
-    with tempfile.TemporaryDirectory() as folder, ThreadPoolExecutor(os.cpu_count()) as pool:
-        def come(numbered: tuple[int, Order]) -> tuple[str, Order]:
-            file = Path(folder, str(numbered[0]))
-            file.write_text(merged(stimuli, numbered[1]))
-            return _outcome(["--", str(system), str(file)], words, numbered[1])
-
-        found: dict[str, list[Order]] = {}
-        for outcome, happened in pool.map(come, enumerate(chosen)):
-            found.setdefault(outcome, []).append(happened)
-    groups = [Group(outcome, len(those), min(those, key=len)) for outcome, those in found.items()]
-    return sorted(groups, key=lambda group: -group.count)
-
-
-def _outcome(files: list[str], words: list[str], order: Order) -> tuple[str, Order]:
-    """The outcome of an order, and as much of the order as happens: all of it, unless the run is stopped before."""
-    ran = call(["run", "--out", "summary", *words, *files])
-    if ran.status in (3, 4):
-        journal = call(["run", *words, *files]).output
-        order = order[:journal.count(b"\nstim ")]
-    return ran.output.decode() + ran.note, order
-
-
-def orders_text(groups: list[Group], stimuli: list[list[str]], total: int) -> str:
-    """The outcomes, each with how many orders lead to it and the shortest one."""
-    ran = sum(group.count for group in groups)
-    lines = [f"{ran} of {total} orders were run, with {_plural(len(groups), 'outcome')}"]
-    for number, (group, told) in enumerate(zip(groups, _what_differs([group.outcome for group in groups])), 1):
-        lines += [f"outcome {number}, of {_plural(group.count, 'order')}:", *told]
-        lines.append(f"  by the order {' '.join(map(str, group.order))}:")
-        places = [iter(own) for own in stimuli]
-        lines += [f"    source {source}: {next(places[source - 1])}" for source in group.order]
-    return "".join(f"{line}\n" for line in lines)
-
-
-def run_outcomes(files: list[str], kernel: str, count: int) -> list[tuple[str, int]]:
-    """What comes of so many runs with threads, the commonest first, each with how many runs came to it."""
-    def come(_: int) -> str:
-        ran = call(["run", "--out", "summary", "--kernel", kernel, "--", *files])
-        return ran.output.decode() + ran.note
-
-    with ThreadPoolExecutor(os.cpu_count()) as pool:
-        return Counter(pool.map(come, range(count))).most_common()
-
-
-def runs_text(found: list[tuple[str, int]], kernel: str) -> str:
-    """The outcomes of runs with threads, each with how many runs came to it."""
-    ran = sum(count for _, count in found)
-    lines = [f"{_plural(ran, 'run')} under {kernel}, with {_plural(len(found), 'outcome')}"]
-    for number, ((_, count), told) in enumerate(zip(found, _what_differs([outcome for outcome, _ in found])), 1):
-        lines += [f"outcome {number}, of {_plural(count, 'run')}:", *told]
-    return "".join(f"{line}\n" for line in lines)
-
-
-def _what_differs(outcomes: list[str]) -> list[list[str]]:
-    """Of each outcome the lines that not all others have too."""
-    common = set.intersection(*(set(outcome.splitlines()) for outcome in outcomes)) if len(outcomes) > 1 else set()
-    return [[f"  {line}" for line in outcome.splitlines() if line not in common] for outcome in outcomes]
-
-
-def _plural(count: int, thing: str) -> str:
-    return f"{count} {thing}{'' if count == 1 else 's'}"
+def text_of(lines: Iterable[str]) -> str:
+    """Lines as the file of one source."""
+    return "".join(f"{line}\n" for line in ("source 1", *lines))

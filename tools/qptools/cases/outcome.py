@@ -1,18 +1,23 @@
 """Runs a case under a kernel, and has the journal judged and replayed."""
 
+import re
 import tempfile
 from dataclasses import dataclass
 from pathlib import Path
 
 from qpviewer.files import read_run
 from qpviewer.naming import signed
+from qpviewer.positions import read_lines
 from qpviewer.story import Story
 
 from ..explain.command import explanation
+from ..explain.refusal import Refusal, read_refusal
 from ..program import Answer, call
 from .case_file import THREADED, Case
 from .summary import Summary, read_summary
 
+#: The statuses of a call that made a run.
+RUNS = (0, 3, 4)
 #: Records of calls that were refused.
 _REFUSED = {"full", "short", "nodefer"}
 
@@ -39,8 +44,10 @@ class Outcome:
 
 @dataclass(frozen=True)
 class NoRun:
-    """Why there was no run to look at: the program's line, and its explanation."""
+    """Why there was no run to look at: where, as `FILE:LINE`, what is wrong there, and more lines, the program's own the first."""
 
+    place: str
+    words: str
     lines: list[str]
 
 
@@ -53,16 +60,49 @@ def run_case(case: Case, kernel: str) -> Outcome | NoRun:
         journal = Path(folder, "journal")
         words = ["run", "--kernel", kernel, "--budget", str(case.budget), "--", str(case.system), str(stimuli)]
         ran = call(words)
-        if ran.status not in (0, 3, 4):
-            return NoRun([ran.note.strip(), *explanation(words, ran.note)])
+        if ran.status not in RUNS:
+            return no_run(case, words, ran)
         journal.write_bytes(ran.output)
         files = [str(case.system), str(stimuli), str(journal)]
         judged, replayed = call(["check", *files]), call(["replay", *files])
         summed = call([words[0], "--out", "summary", *words[1:]])
-        if summed.status not in (0, 3, 4):
-            return NoRun([summed.note.strip(), *explanation(words, summed.note)])
+        if summed.status not in RUNS:
+            return no_run(case, words, summed)
         text, story = summed.output.decode(), Story(*read_run(*files))
         return Outcome(text, read_summary(text), story, _verdict(judged), replay_fault(replayed, len(story.records()), kernel))
+
+
+def no_run(case: Case, words: list[str], ran: Answer) -> NoRun:
+    """Why a call left no run, with the place that is to be mended."""
+    *_, system, stimuli = words
+    note = ran.note.strip()
+    first, *rest = explanation(words, ran.note) or [note]
+    refusal = read_refusal(ran.note) or Refusal("")
+    if refusal.file and (found := re.fullmatch(rf"{re.escape(refusal.file)}:([0-9]+): (.*)", first)):
+        line, first = int(found[1]), found[2]
+    else:
+        line = _line(refusal, Path(system), first)
+    keys = {system: "system", stimuli: "stimuli"}
+    if refusal.kind != "fault":
+        place = case.place(keys.get(refusal.file, ""))
+    else:
+        place = case.place_in_stimuli(line) if refusal.file == stimuli else f"{refusal.file}:{line}"
+    if isinstance(case.stimuli, str):
+        note, first = (text.replace(stimuli, "stimuli") for text in (note, first))
+    return NoRun(place, first, [line for line in (note, *rest) if line != first])
+
+
+def _line(refusal: Refusal, system: Path, words: str) -> int:
+    """The line of a file at which it is refused."""
+    if refusal.kind != "fault" or refusal.file != str(system):
+        return int(refusal.place) if refusal.place.isdecimal() else 1
+    if refusal.place == "-":
+        found = re.search(r"at line ([0-9]+)", words)
+        return int(found[1]) if found else 1
+    try:
+        return read_lines(system.read_bytes()).line_of(refusal.place)
+    except OSError:
+        return 1
 
 
 def replay_fault(replayed: Answer, records: int, kernel: str) -> str:

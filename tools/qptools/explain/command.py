@@ -1,5 +1,6 @@
 """Explains what the program said of a call: the lines below its own line."""
 
+import os
 import shlex
 import subprocess
 import sys
@@ -16,6 +17,7 @@ from ..program import UNANSWERED, Answer, call, is_built
 from .call import Call, read_call
 from .hints import hints
 from .line_faults import explain_frames, explain_journal, explain_stimuli
+from .misplaced import misplaced
 from .refusal import Refusal, read_refusal
 from .runs import explain_long_stop, explain_stop, explain_verdict
 from .system_faults import explain_system
@@ -33,6 +35,8 @@ LONGEST = 1 << 20
 #: Lines are cut at this width, but for the words of a call, which are there to be called.
 WIDTH = 300
 CALL = "to see it: "
+#: So many files of a folder are named.
+_NAMED = 4
 INDENT = "    "
 
 #: What stands before the explanation of a run with threads that was made once more, and in its place where that one ended otherwise.
@@ -98,25 +102,46 @@ def _explain(refusal: Refusal, made: Call, words: list[str], output: bytes | Non
         case "memory":
             return ["memory was refused: give the machine more, or the run fewer stimuli or a lower --budget", *([_NO_THREAD] if made.parks() else [])]
         case "read fault":
-            return ["a file could not be read: is it a folder, or may you read it?"]
+            return _unread(made.files)
         case "write fault":
             return ["the output could not be written: is the disk full, or was the pipe closed?"]
     return []
 
 
 def _file_fault(refusal: Refusal, made: Call) -> list[str]:
+    if fault := misplaced(made):
+        return [fault]
     kind = made.kind_of(refusal.file)
     if refusal.code == 8 and made.command == "migrate":
         return ["the journal has what form 1 doesn't have: kernel qv, or a `rest`"]
     _need_short([refusal.file, *(made.files[:1] if kind == "STIMULI" else [])])
     data = Path(refusal.file).read_bytes()
     if kind == "SYSTEM":
-        return explain_system(data, refusal.code, "" if refusal.place == "-" else refusal.place)
+        return explain_system(refusal.file, data, refusal.code, "" if refusal.place == "-" else refusal.place)
     if kind == "STIMULI":
-        return explain_stimuli(data, refusal.code, int(refusal.place), _system(made.files[0]))
+        return explain_stimuli(refusal.file, data, refusal.code, int(refusal.place), _system(made.files[0]))
     if kind == "JOURNAL":
-        return explain_journal(data, refusal.code, int(refusal.place))
-    return explain_frames(data, refusal.code, int(refusal.place))
+        return explain_journal(refusal.file, data, refusal.code, int(refusal.place))
+    return explain_frames(refusal.file, data, refusal.code, int(refusal.place))
+
+
+def _unread(names: list[str]) -> list[str]:
+    """Which of a call's files couldn't be read, as far as that shows."""
+    for name in names:
+        if Path(name).is_dir():
+            return [f"{name}: is a folder: name a file in it" + _within(Path(name))]
+        if Path(name).is_file() and not os.access(name, os.R_OK):
+            return [f"{name}: you may not read it: chmod +r {shlex.quote(name)}"]
+    return ["a file could not be read: a disk failed, or a pipe was closed"]
+
+
+def _within(folder: Path) -> str:
+    """The files of a folder that may be meant."""
+    try:
+        found = sorted(inner.name for inner in folder.iterdir() if inner.suffix in (".toml", ".txt"))[:_NAMED]
+    except OSError:
+        return ""
+    return f", as {', '.join(found)}" if found else ""
 
 
 def _system(name: str) -> System | None:

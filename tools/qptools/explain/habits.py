@@ -4,10 +4,11 @@ import re
 from collections.abc import Callable
 from typing import NamedTuple
 
+from .forms import FORMS
 from .names import like
 
 #: The words that actions begin with, but for an assignment.
-ACTIONS = ("say", "post", "lifo", "forward", "publish", "defer", "recall", "flush", "subscribe", "unsubscribe", "arm", "rearm", "disarm", "locked")
+ACTIONS = tuple(FORMS)
 
 
 class Habit(NamedTuple):
@@ -60,8 +61,26 @@ def _no_function(match: re.Match[str]) -> str:
 
 _CALL_OF_QP = _of(rf"\b({'|'.join(sorted(_OF_QP, key=len, reverse=True))})\b", _of_qp)
 
+def _two_comparisons(match: re.Match[str]) -> str:
+    parts = re.fullmatch(r"(.*?)\s*(<=?|>=?)\s*(.*?)\s*(<=?|>=?)\s*(.*)", match[0].strip())
+    left, first, middle, second, right = parts.groups() if parts else ("a", "<", "b", "<", "c")
+    return f"a comparison has two sides: write `{left} {first} {middle} && {middle} {second} {right}`"
+
+
+def _odd_letter(match: re.Match[str]) -> str:
+    letter = match[0]
+    kind = "a space that isn't one" if letter.isspace() else f"the letter {letter}" if letter.isprintable() else "a letter that isn't seen"
+    return f"{kind} (U+{ord(letter):04X}) stands here: " + ("write a plain space" if letter.isspace() else "write it in ASCII")
+
+
+def _negative(match: re.Match[str]) -> str:
+    return f"`{match[1]}` is 0 to 255, and 0 where one place is enough: " + (
+        "without it a full queue is an assertion" if match[1] == "margin" else "without it an empty pool is an assertion")
+
+
 #: Habits in the texts of actions and guards; the first that fits is told.
 _IN_TEXTS = (
+    _of(r"[^\x00-\x7f]", _odd_letter),
     _CALL_OF_QP,
     _of(r"\b(Q_TRAN|Q_TRAN_HIST|Q_HANDLED|Q_UNHANDLED|Q_SUPER)\b", _of_a_row),
     _of(r"^(goto|tran|transition|return|break)\b", _of_a_row),
@@ -85,9 +104,11 @@ _IN_TEXTS = (
     _of(r"<<|>>", "there are no shifts: multiply or divide by a power of two"),
     _of(r"(?<!&)&(?!&)|(?<!\|)\|(?!\|)|\^|~", "there are no bit operators: keep each flag in a variable of its own, or use `/` and `%`"),
     _of(r"//|/\*", "a text has no comment: put it behind the text, with `#`"),
+    _of(r"^locked\b.*\[.*\blocked\b", "no `locked` stands within another: give the outer one the higher ceiling"),
     _of(r";\s*\]", "no `;` stands before `]`: it stands between actions"),
     _of(r";$", "no `;` ends a text"),
     _of(r";", "a text is one action: write each as a text of its own, as [\"a = 1\", \"b = 2\"]"),
+    _of(r"^(post|forward) me\s*(?:->|\.)\s*(\w+)", lambda m: f"an object stands by its name alone: write `{m[1]} {m[2]} ..`"),
     _of(r"(?:[A-Za-z_]\w*\s*(?:->|\.)\s*)+([A-Za-z_]\w*)",
         "an event's parameters have no names: they are p1 to p8, in order, and variables stand by their name alone"),
     _of(r"^(publish|lifo|post \w+) (\w+) ([0-9][0-9, ]*)$",
@@ -95,6 +116,19 @@ _IN_TEXTS = (
     _of(rf"^((?i:{'|'.join(ACTIONS)}))\s*\(", lambda m: f"`{m[1].lower()}` isn't a function: it stands without parentheses"),
     _of(r"^(arm|rearm) (\w+) ([0-9][0-9, ]*)$",
         lambda m: f"numbers of ticks stand in parentheses: write `{m[1]} {m[2]}({', '.join(re.findall('[0-9]+', m[3]))})`"),
+    _of(r"\b(margin|reserve) -", _negative),
+    _of(r"^(post \w+) ((?:margin [0-9]+ ?|reserve [0-9]+ ?)+)([A-Za-z_]\w*(?:\(.*\))?)$",
+        lambda m: f"margin and reserve stand behind the event: write `{m[1]} {m[3]} {m[2].strip()}`"),
+    _of(r"^(publish|lifo|recall|defer|subscribe)\b.*\bmargin\b",
+        lambda m: f"`{m[1]}` has no margin" + (": each subscriber's queue must have room, else it is an assertion" if m[1] == "publish" else "")),
+    _of(r"^(.*) (reserve [0-9]+) (margin [0-9]+)$", lambda m: f"the margin stands first: write `{m[1]} {m[3]} {m[2]}`"),
+    _of(r"^forward\b.*\breserve\b", "`forward` has no reserve: its event is there already"),
+    _of(r"^lifo (\w+) ([A-Za-z_]\w*(?:\(.*\))?)(?: |$)", lambda m: f"`lifo` posts to the object itself and names none: write `lifo {m[2]}`"),
+    _of(r"^arm (\w+)\s*\(([^,]*)\)$", lambda m: f"`arm` has two numbers, ticks and interval: write `arm {m[1]}({m[2]}, 0)` for one shot"),
+    _of(r"^rearm (\w+)\s*\(([^,]*),.*\)$", lambda m: f"`rearm` has one number, and the interval stays: write `rearm {m[1]}({m[2]})`"),
+    _of(r"^(post|forward) (\w+)\s*\[", lambda m: f"objects have no index: each has a name of its own, as {m[2]}1"),
+    _of(r"([A-Za-z_]\w*)\s*\[\s*\w+\s*\](?!.*;)", lambda m: f"there are no arrays: write a variable for each member, as {m[1]}0"),
+    _of(r"[^<>=!]+(?:<=?|>=?)[^<>=!&|()]+(?:<=?|>=?)[^<>=!&|()]+$", _two_comparisons),
     _of(r"^(post|forward) (\w+),", lambda m: f"no comma stands behind the object: write `{m[1]} {m[2]} ..`"),
     _of(r"^(disarm|subscribe|unsubscribe) (\w+)\s*\(", lambda m: f"`{m[1]}` takes a name alone: write `{m[1]} {m[2]}`"),
     _of(r"^(?:post \w+|lifo|publish|subscribe|unsubscribe) (\w+)\s*\(\s*\)", lambda m: f"no empty parentheses: write `{m[1]}`"),
@@ -109,10 +143,12 @@ _IN_TEXTS = (
     _of(r"[\"']", "there are no texts and no characters, only numbers"),
 )
 #: Habits in actions alone; those that are looked for before all others come first.
-_FIRST_IN_ACTIONS = (_of(rf"^(?!(?i:{'|'.join((*ACTIONS, *_NO_FUNCTIONS, *_OF_QP))})\b)([A-Za-z_]\w*)\s*\(", _a_function),)
-_IN_ACTIONS = (_of(r"^\w+\s*==", "`==` compares, `=` assigns"),)
+_FIRST_IN_ACTIONS = (_of(r"^$", "leave the empty text out"), _of(rf"^(?!(?i:{'|'.join((*ACTIONS, *_NO_FUNCTIONS, *_OF_QP))})\b)([A-Za-z_]\w*)\s*\(", _a_function),)
+_IN_ACTIONS = (_of(r"^$", "leave the empty text out"), _of(r"^\w+\s*==", "`==` compares, `=` assigns"),)
 #: Habits in guards alone.
 _IN_GUARDS = (
+    _of(r"^$", "leave `when` out: a row without a guard always takes its signal"),
+    _of(rf"^({'|'.join(ACTIONS)})\b(?! *(?:[-+*/%<>=!&|]|$))", lambda m: f"`{m[1]}` is an action, and stands in the row's `do`; a guard is an expression"),
     _of(r"^else$", "there is no `else`: leave `when` out, since a last row without a guard takes what is left"),
     _of(r"^([A-Za-z_]\w*)\s*\(", _no_function),
     _of(r"^[^=!<>]*[^=!<>]=[^=].*$", "`=` assigns, `==` compares"),
@@ -125,6 +161,7 @@ _IN_STIMULI = (
         lambda m: f"`{m[1]}` is an action of a chart and no stimulus"),
     _of("\ufeff|\xef\xbb\xbf", "the file begins with a byte order mark: save it as UTF-8 without one"),
     _of(r"\r$", "the line ends as Windows ends lines, with \\r\\n: save the file with \\n alone"),
+    _of(r"[^\x00-\x7f]", _odd_letter),
     _of(r"#|//|/\*", "a comment stands on a line of its own, and begins with `#`"),
     _of(r"\t", "a tab: single spaces part tokens"),
     _of(r"^ | $", "no space stands at either end of a line"),
@@ -133,6 +170,11 @@ _IN_STIMULI = (
     _of(r"\w \(", "no space stands before a parenthesis: write GO(1)"),
     _of(r"^[^(]*,", "no comma stands between tokens, but for those within parentheses"),
     _of(r"\([^)]*[0-9]\.[0-9]", "numbers are whole: count in a smaller unit, as tenths"),
+    _of(r"\b(margin|reserve) -", _negative),
+    _of(r"^(post \w+) ((?:margin [0-9]+ |reserve [0-9]+ )+)([A-Za-z_]\w*(?:\(.*\))?)$",
+        lambda m: f"margin and reserve stand behind the event: write `{m[1]} {m[3]} {m[2].strip()}`"),
+    _of(r"^publish\b.*\bmargin\b", "`publish` has no margin: each subscriber's queue must have room, else it is an assertion"),
+    _of(r"^(.*) (reserve [0-9]+) (margin [0-9]+)$", lambda m: f"the margin stands first: write `{m[1]} {m[3]} {m[2]}`"),
     _of(r"\+[0-9]", "numbers have no sign here"),
     _of(r"-[0-9]", lambda m: f"numbers have no sign here: write {m[0]} as its 64 bits, {2**64 - int(m[0][1:])}"),
     _of(r"0[xX]([0-9a-fA-F]+)", lambda m: f"numbers are decimal: write {int(m[1], 16)}"),

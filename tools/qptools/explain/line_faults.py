@@ -10,7 +10,6 @@ from .names import like
 
 _STIMULI = {
     1: "isn't a stimulus: `post OBJECT EVENT`, `publish EVENT`, `tick RATE` or `settle`",
-    3: "a number is out of range: a rate is 0 to 3, `margin` and `reserve` are 0 to 255; and a static signal has no `reserve`",
     4: "sources are numbered `source 1`, `source 2` .., at most 16, and each stimulus stands below one",
 }
 
@@ -20,13 +19,13 @@ def _line(data: bytes, number: int) -> str:
     return lines[number - 1] if number <= len(lines) else ""
 
 
-def _shown(number: int, line: str) -> str:
+def _shown(line: str) -> str:
     """A line as it stands, with what can't be seen in it made visible."""
     seen = line.replace("\r", "\\r").replace("\t", "\\t").replace("\ufeff", "\\ufeff")
     return f"| {seen}" if len(seen) <= 120 else f"| {seen[:117]}..."
 
 
-def explain_stimuli(data: bytes, code: int, number: int, system: System | None) -> list[str]:
+def explain_stimuli(name: str, data: bytes, code: int, number: int, system: System | None) -> list[str]:
     """The lines that explain a fault of stimuli."""
     line = _line(data, number)
     words = line.split(" ")
@@ -34,10 +33,25 @@ def explain_stimuli(data: bytes, code: int, number: int, system: System | None) 
         said = _undeclared(words, system)
     elif code == 5 and system:
         said = _parameters(words, system)
+    elif code == 3:
+        said = _out_of_range(words)
     else:
         said = [_STIMULI.get(code, f"code {code}")]
         said += [habit_in_stimuli(line)] if code == 1 else []
-    return [f"line {number}: {said[0]}", _shown(number, line), *filter(None, said[1:])]
+    return [f"{name}:{number}: {said[0]}", _shown(line), *filter(None, said[1:])]
+
+
+def _out_of_range(words: list[str]) -> list[str]:
+    """Which number of a stimulus is out of range, and what to write."""
+    if words[0] == "tick":
+        return ["a rate is 0 to 3", "write the rate of the timer that is to count: `tick 0`"]
+    for name in ("margin", "reserve"):
+        value = words[words.index(name) + 1] if name in words[:-1] else "0"
+        if value.isdigit() and int(value) > 255:
+            return [f"`{name}` is 0 to 255", f"write `{name} 255` at most"]
+    if "reserve" in words:
+        return ["a static signal has no `reserve`, since its event lies in no pool", "leave the reserve out"]
+    return ["a parameter has 64 bits", "write at most 18446744073709551615"]
 
 
 def _signal_of(words: list[str]) -> str:
@@ -48,13 +62,14 @@ def _signal_of(words: list[str]) -> str:
 def _undeclared(words: list[str], system: System) -> list[str]:
     objects = [entry.name for entry in system.objects]
     if words[0] == "post" and len(words) > 1 and words[1] not in objects:
-        return _isnt(words[1], "object", objects, words[1] in system.signals)
-    return _isnt(_signal_of(words), "signal", list(system.signals), False)
+        if words[1].partition("(")[0] in system.signals:
+            owner = words[2] if len(words) > 2 and words[2] in objects else "OBJECT"
+            return [f"{words[1]} isn't an object, but a signal: a post names its object first", f"write `post {owner} {words[1]}`"]
+        return _isnt(words[1], "object", objects)
+    return _isnt(_signal_of(words), "signal", list(system.signals))
 
 
-def _isnt(name: str, kind: str, known: list[str], is_signal: bool) -> list[str]:
-    if is_signal:
-        return [f"{name} isn't an object, but a signal: a post names its object first"]
+def _isnt(name: str, kind: str, known: list[str]) -> list[str]:
     near = like(name, known)
     return [f"the {kind} {name} isn't declared", f"did you mean {near}?" if near else f"the system has {', '.join(known[:8])}"]
 
@@ -68,7 +83,7 @@ def _parameters(words: list[str], system: System) -> list[str]:
     return [f"{signal.name} has {many}", f"write {example}"]
 
 
-def explain_journal(data: bytes, code: int, number: int) -> list[str]:
+def explain_journal(name: str, data: bytes, code: int, number: int) -> list[str]:
     """The lines that explain a fault of a journal's text."""
     line = _line(data, number)
     said = [MEANINGS.get(code, f"code {code}")]
@@ -83,8 +98,8 @@ def explain_journal(data: bytes, code: int, number: int) -> list[str]:
         said.append(f"`{word}` has {_counts(word)}")
     elif code == 5:
         said.append("the run that wrote it was cut off, or the end was left out")
-    shown = [_shown(number, line)] if line else []
-    return [f"line {number}: {said[0]}", *shown, *said[1:]]
+    shown = [_shown(line)] if line else []
+    return [f"{name}:{number}: {said[0]}", *shown, *said[1:]]
 
 
 def _counts(word: str) -> str:
@@ -107,9 +122,9 @@ _FRAMES = {
 }
 
 
-def explain_frames(data: bytes, code: int, offset: int) -> list[str]:
+def explain_frames(name: str, data: bytes, code: int, offset: int) -> list[str]:
     """The lines that explain a fault of a journal that is given as frames."""
-    told = [f"byte {offset}: {_FRAMES.get(code, f'code {code}')}"]
+    told = [f"{name}: byte {offset}: {_FRAMES.get(code, f'code {code}')}"]
     if re.match(rb"qp [12] ", data):
         told.append("this is a journal as text: `check` and `migrate` take it as it is")
     elif piece := data[offset:offset + 16]:

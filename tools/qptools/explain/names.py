@@ -4,7 +4,7 @@ import re
 from difflib import get_close_matches
 from typing import Any, NamedTuple
 
-from qpviewer.actions import Action, Expr, read_action, read_expression
+from qpviewer.actions import Action, names_in, read_action, read_expression
 
 _PARAMETER = re.compile(r"p[1-8]", re.ASCII)
 #: What kind of thing an action's own name is, by its word.
@@ -42,31 +42,16 @@ def declared(tree: dict[str, Any], chart: dict[str, Any], kind: str) -> list[str
     return names_of(chart, "timer") if kind == "timer" else names_of(tree, kind)
 
 
-class _Asked(dict[str, int]):
-    """Keeps which names an expression asks for, each of which is 0."""
-
-    def __missing__(self, name: str) -> int:
-        return self.setdefault(name, 0)
-
-
 def actions_in(text: str) -> list[Action]:
     """The actions of a text: itself, or those within `locked`. Raises `Fault` where it is none."""
     action = read_action(text)
     return action.inner or [action]
 
 
-def _asked(values: list[Expr]) -> list[str]:
-    """The names that expressions ask for, in order."""
-    names = _Asked()
-    for value in values:
-        value(names)
-    return list(names)
-
-
 def asked_in(text: str, is_guard: bool) -> list[str]:
-    """The names in the expressions of an action or a guard. Raises `Fault` where the text is none."""
+    """The names in the expressions of an action or a guard, each once. Raises `Fault` where the text is none."""
     values = [read_expression(text)] if is_guard else [value for action in actions_in(text) for value in action.values]
-    return _asked(values)
+    return list(dict.fromkeys(name for value in values for name in names_in(value)))
 
 
 def used_in(text: str, is_guard: bool) -> list[Used]:

@@ -1,6 +1,7 @@
 """What ended a run, and what breaks a journal, in words: with the record, its line, and the names of the system."""
 
 from qpviewer.files import Run
+from qpviewer.holders import Holders
 from qpviewer.journal import PORT, Record
 from qpviewer.naming import Names
 from qpviewer.place import record_of
@@ -9,6 +10,9 @@ from qpviewer.story import Story
 from qpviewer.system_parts import System
 from qpviewer.verdict import read_verdict, verdict_words
 
+#: The assertion of an empty pool, and so many of its blocks are told one by one.
+_EMPTY = 2
+_TOLD = 8
 _ADVICE = {
     1: "make its `queue` longer, or give the post a margin, as `margin 0`, which answers 0 there",
     2: "give the pool more `blocks`, or the event a reserve, as `reserve 0`, which answers 0 there",
@@ -31,7 +35,24 @@ def explain_stop(run: Run) -> list[str]:
     if stop is None:
         return []
     record = story.records()[stop][1]
-    return [_record_line(story, stop), *_context(story, stop), _advice(run.journal.budget, record)]
+    return [_record_line(story, stop), *_context(story, stop), *_action(story, stop), *_holders(story, stop, record), _advice(run.journal.budget, record)]
+
+
+def _action(story: Story, stop: int) -> list[str]:
+    """The action of a chart that asserted."""
+    text = story.asserting_action(stop)
+    return [f"the action is `{text}`"] if text else []
+
+
+def _holders(story: Story, stop: int, record: Record) -> list[str]:
+    """Who holds the blocks of the pool that is empty at an assertion."""
+    if record.word != "assert" or record.numbers[1] != _EMPTY:
+        return []
+    holders = Holders(story.names)
+    holders.tell(told for _, told in story.records()[:stop])
+    held = holders.of_pool(record.numbers[2])
+    more = [f"and {len(held) - _TOLD} blocks more"] if len(held) > _TOLD else []
+    return [f"the blocks of pool {record.numbers[2]}:", *(f"  {line}" for line in held[:_TOLD]), *(f"  {line}" for line in more)]
 
 
 def explain_long_stop(system: System, journal: bytes) -> list[str]:

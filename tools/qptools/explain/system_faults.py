@@ -3,6 +3,7 @@
 from typing import Any
 
 from qpviewer.faults import Fault
+from qpviewer.positions import Lines, read_lines
 from qpviewer.system import KEYS, read_tree
 from qpviewer.toml_table import NAME, RESERVED
 
@@ -30,6 +31,8 @@ _KINDS = {
     "chart": "the name of a chart in quotes",
     "signal": "the name of a signal in quotes",
 }
+#: The code of a key that a table doesn't have.
+_UNKNOWN = 4
 #: So many keys are told that their table doesn't have.
 _SHOWN = 3
 #: How deep the program's reader of TOML goes.
@@ -49,6 +52,18 @@ _RANGES = {
     ("object", "queue"): "must be 0 to 255",
     ("object", "defer"): "must be 0 to 255",
 }
+#: What to write in the place of a number that is out of range.
+_ADVICE = {
+    "blocks": "write `blocks = 32` at most",
+    "priority": "use priorities 1 to 32, the highest is the most urgent",
+    "rate": "a rate is the number of a clock and no period: `arm T(10, 10)` counts ten of its ticks",
+    "queue": "a ring has at most 255 places, and the front one more",
+    "defer": "a deferred list holds at most 255 events",
+    "params": "an event has at most 8 parameters: split it into two signals",
+    "size": "write the pools with ascending sizes, each once",
+    "qp": "the form of the file is 1: write `qp = 1`",
+    "threshold": "leave `threshold` out, and it is the priority",
+}
 _LENGTHS = {
     "pool": "0 to 15 pools",
     "signal": "0 to 200 signals",
@@ -65,37 +80,52 @@ _LENGTHS = {
 }
 
 
-def explain_system(data: bytes, code: int, path: str) -> list[str]:
-    """The lines that explain a fault of a system's file."""
+def explain_system(name: str, data: bytes, code: int, path: str) -> list[str]:
+    """The lines that explain a fault of a system's file; the first one begins with the file and the line."""
     try:
         tree = read_tree(data)
     except Fault as fault:
-        return not_toml(data, str(fault))
+        return not_toml(name, data, str(fault))
+    lines = read_lines(data)
     if code == 1:
-        return ["isn't TOML, though Python's reader takes it", *_beyond(tree)]
+        return _beyond(name, tree, lines)
     place = follow(tree, path)
     said = _SAYS[code](tree, place) if code in _SAYS else [f"code {code}"]
-    return [f"{place.words}: {said[0]}", *_shown(place, data), *said[1:]]
+    return [f"{name}:{lines.line_of(_exact(place, code, path))}: {place.words}: {said[0]}", *_shown(place), *said[1:]]
 
 
-def _beyond(tree: dict[str, Any]) -> list[str]:
+def _exact(place: Place, code: int, path: str) -> str:
+    """The path of what is wrong: of an unknown key, not of its table; of a name or a number of a table, not of the table."""
+    if code == _UNKNOWN:
+        odd = _unknown_in(place)
+    elif isinstance(place.value, dict):
+        odd = [key for key, value in place.value.items() if isinstance(value, float) or not NAME.fullmatch(key)]
+    else:
+        odd = []
+    return ".".join(filter(None, [path, *odd[:1]]))
+
+
+def _beyond(name: str, tree: dict[str, Any], lines: Lines) -> list[str]:
     """What Python's reader takes and the program's doesn't: a whole number beyond 64 bits, or what lies too deep."""
-    left: list[tuple[str, Any, int]] = [("", tree, 0)]
+    said, at = "isn't TOML, though Python's reader takes it", ""
+    left: list[tuple[str, str, Any, int]] = [("", "", tree, 0)]
     while left:
-        key, value, depth = left.pop()
+        path, key, value, depth = left.pop()
         if depth > _DEEPEST:
-            return [f"lists, tables and names of a dotted key stand at most {_DEEPEST} deep"]
+            said, at = f"isn't TOML: lists, tables and names of a dotted key stand at most {_DEEPEST} deep", path
+            break
         if isinstance(value, int) and not -2**63 <= value < 2**63:
-            return [f"{key} is beyond 64 bits with a sign"]
+            said, at = f"isn't TOML: {key} is beyond 64 bits with a sign", path
+            break
         if isinstance(value, dict):
-            left += [(name, member, depth + 1) for name, member in value.items()]
+            left += [(f"{path}.{inner}" if path else inner, inner, member, depth + 1) for inner, member in value.items()]
         elif isinstance(value, list):
-            left += [(key, member, depth + 1) for member in value]
-    return []
+            left += [(f"{path}.{place}", key, member, depth + 1) for place, member in enumerate(value, 1)]
+    return [f"{name}:{lines.line_of(at)}: {said}"]
 
 
-def _shown(place: Place, data: bytes) -> list[str]:
-    """What stands at the place, with its line where it has one of its own."""
+def _shown(place: Place) -> list[str]:
+    """What stands at the place."""
     value = place.value
     if isinstance(value, dict):
         return [f"| keys: {', '.join(value)}"]
@@ -104,9 +134,7 @@ def _shown(place: Place, data: bytes) -> list[str]:
     text = f'"{value}"' if isinstance(value, str) else str(value).lower() if isinstance(value, bool) else str(value)
     if isinstance(value, list):
         text = f"[{', '.join(repr(member) for member in value)}]".replace("'", '"')
-    lines = data.decode("utf-8-sig", errors="replace").splitlines()
-    found = [number for number, line in enumerate(lines, 1) if text in line] if isinstance(value, str) else []
-    return [f"| {text} in line {found[0]}" if len(found) == 1 else f"| {text}"]
+    return [f"| {text}"]
 
 
 def _wrong_kind(tree: dict[str, Any], place: Place) -> list[str]:
@@ -118,7 +146,10 @@ def _wrong_kind(tree: dict[str, Any], place: Place) -> list[str]:
     if odd := _floats(place.value, place.key):
         return [f"{odd[0]} isn't a whole number", "count in a smaller unit, as tenths"]
     if place.key in _LISTS and not isinstance(place.value, str):
-        return [f"must be tables, each begun by [[{place.key}]]"]
+        header = _HEADERS.get(place.key, place.key)
+        if isinstance(place.value, dict) and (inner := [key for key in place.value if key in _HEADERS]):
+            return [f"there is a [[{_HEADERS[inner[0]]}]] and no [[{header}]] above it", f"write it below the [[{header}]] that it belongs to"]
+        return [f"must be tables, each begun by [[{header}]]"]
     return [f"must be {_KINDS.get(place.key, 'a whole number')}"]
 
 
@@ -139,9 +170,15 @@ def _as_header(key: str) -> str:
     return f"; as a header it is [[{_HEADERS[key]}]]" if key in _HEADERS else ""
 
 
+def _unknown_in(place: Place) -> list[str]:
+    """The keys of the innermost table that it doesn't have."""
+    known = KEYS.get(place.inner, set())
+    return [key for key in place.tables[-1][1] if key not in known]
+
+
 def _unknown_key(tree: dict[str, Any], place: Place) -> list[str]:
     known = KEYS.get(place.inner, set())
-    odd = [key for key in place.tables[-1][1] if key not in known]
+    odd = _unknown_in(place)
     more = f" and {len(odd) - _SHOWN} more" if len(odd) > _SHOWN else ""
     told = [f"{listed(odd[:_SHOWN])}{more} {'is no key' if len(odd) == 1 else 'are no keys'} of this table"]
     for key in odd[:_SHOWN]:
@@ -164,14 +201,17 @@ def _out_of_range(tree: dict[str, Any], place: Place) -> list[str]:
     if key == "static":
         return ["a static signal has no parameters, since its event lies in no pool", "leave `static` or `params` out"]
     if inner == "timer" and key == "signal":
+        params = next((signal.get("params", 0) for signal in tables(tree, "signal") if signal.get("name") == value), 0)
+        if params:
+            return [f"the signal of a timer must be static, and {value} has {count_words(params)}",
+                    "a timer posts an event without parameters: declare a signal of its own for it, with `static = true`"]
         return ["the signal of a timer must be static", "write `static = true` in that signal's table"]
     if isinstance(value, str):
         return _bad_name(value, key) if key not in ("do", "entry", "exit", "init_do", "when") else _text_range(value)
     if isinstance(value, dict):
         wrong = [name for name in value if not NAME.fullmatch(name) or name in RESERVED]
         return _bad_name(wrong[0], "name") if wrong else ["a value is out of range: 64 bits, signed"]
-    advice = ["use priorities 1 to 32, the highest is the most urgent"] if key == "priority" else []
-    return [_RANGES.get((inner, key), "is out of range"), *advice]
+    return [_RANGES.get((inner, key), "is out of range"), *([_ADVICE[key]] if key in _ADVICE else [])]
 
 
 def _text_range(text: str) -> list[str]:
@@ -188,7 +228,7 @@ def _bad_name(name: str, key: str) -> list[str]:
     if name in RESERVED:
         return [f"{name!r} is a word of actions and can't be a name"]
     if len(name) > 24:
-        return [f"a name has at most 24 letters, this one {len(name)}"]
+        return [f"a name has at most 24 letters, this one {len(name)}", f"shorten it everywhere, as to {name[:24]}"]
     return ["isn't a name: a letter or `_`, then letters, digits and `_`"]
 
 

@@ -3,6 +3,7 @@
 import re
 from typing import Any
 
+from .forms import form_of
 from .habits import habit_in_text
 from .names import actions_in, count_words, declared, like, listed, names_of, parameters_in, tables, used_in
 from .place import Place
@@ -43,6 +44,8 @@ def undeclared(tree: dict[str, Any], place: Place) -> list[str]:
         for used in used_in(place.value, place.key == "when"):
             known = declared(tree, chart, used.kind)
             if used.name not in known:
+                if used.name.lower() in ("true", "false"):
+                    return [f"{used.name} isn't declared", "write 1 for true and 0 for false"]
                 return [f"{used.name} isn't declared", *_meant(used.name, used.kind, known, tree, chart)]
         return ["a name isn't declared"]
     kind = {"on": "signal", "signal": "signal", "chart": "chart", "vars": "variable"}.get(place.key, "state")
@@ -75,7 +78,7 @@ def no_text(tree: dict[str, Any], place: Place) -> list[str]:
     """Code 8: what to write in the place of a text."""
     text = str(place.value)
     what = "an expression" if place.key == "when" else "an action"
-    return [f"isn't {what}", habit_in_text(text, place.key == "when") or "docs/FORMATS.md, section 2, has the grammar", *_too_long(text)]
+    return [f"isn't {what}", habit_in_text(text, place.key == "when") or form_of(text, place.key == "when"), *_too_long(text)]
 
 
 def parameters(tree: dict[str, Any], place: Place) -> list[str]:
@@ -94,7 +97,8 @@ def parameters(tree: dict[str, Any], place: Place) -> list[str]:
     most = signals.get(str(row.get("on")), 0)
     beyond = [f"p{number}" for number in parameters_in(text, is_guard) if number > int(most)]
     if beyond:
-        return [f"{beyond[0]} isn't there: {row.get('on')} has {count_words(most)}"]
+        mend = f"use p1 to p{most}" if int(most) > 1 else "use p1" if most else "use variables and numbers"
+        return [f"{beyond[0]} isn't there: {row.get('on')} has {count_words(most)}", f"{mend}, or raise `params` of {row.get('on')}"]
     return ["an event has another number of parameters than its signal"]
 
 

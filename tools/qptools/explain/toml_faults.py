@@ -5,20 +5,54 @@ import re
 #: What stands for a text in quotes while a line is looked at.
 _TEXT = "\0"
 _QUOTED = re.compile(r"\"[^\"]*\"|'[^']*'")
+_AT = re.compile(r"\s*\(at line ([0-9]+), column [0-9]+\)")
 #: How much of a line is looked at, at its begin and at its end.
 _ENDS = 500
 
 
-def not_toml(data: bytes, fault: str) -> list[str]:
-    """TOML's own words, with the line that it means and what may be wrong there."""
-    told = [fault]
-    if found := re.search(r"at line ([0-9]+), column ([0-9]+)", fault):
-        lines = data.decode(errors="replace").splitlines()
-        at = int(found[1])
-        if at <= len(lines):
-            told.append(f"| {lines[at - 1]}")
-            told.append(_twice(fault) or toml_habit(lines[at - 1], lines[at - 2] if at > 1 else ""))
+def not_toml(name: str, data: bytes, fault: str) -> list[str]:
+    """TOML's own words with the line that they mean, and what may be wrong there."""
+    lines = data.decode(errors="replace").splitlines()
+    found = _AT.search(fault)
+    at = int(found[1]) if found else len(lines) if "at end of document" in fault else _undecoded(data)
+    said = _AT.sub("", fault).replace(" (at end of document)", "").strip()
+    told = [f"{name}:{max(at, 1)}: {said}"]
+    if 0 < at <= len(lines):
+        told.append(f"| {lines[at - 1]}")
+        told.append(_out_of_order(lines, at) or _twice(fault) or toml_habit(lines[at - 1], lines[at - 2] if at > 1 else ""))
+    if not any(told[1:]) or not told[-1]:
+        told.append(_unsaid(fault))
     return [line for line in told if line]
+
+
+def _undecoded(data: bytes) -> int:
+    """The line of the first byte that isn't UTF-8; the first line where there is none."""
+    try:
+        data.decode("utf-8-sig")
+    except UnicodeDecodeError as error:
+        return data.count(b"\n", 0, error.start) + 1
+    return 1
+
+
+def _out_of_order(lines: list[str], at: int) -> str:
+    """Says of a header that a table within it stands above it, as a row above its first state."""
+    header = re.match(r"\s*\[\[([\w.]+)\]\]", lines[at - 1])
+    if not header:
+        return ""
+    inner = re.compile(rf"\s*\[\[({re.escape(header[1])}\.\w+)\]\]")
+    for number, line in enumerate(lines[:at - 1], 1):
+        if line.strip().startswith(f"[[{header[1]}]]"):
+            return ""
+        if found := inner.match(line):
+            return f"[[{found[1]}]] in line {number} stands above its first [[{header[1]}]]: write it below the one that it belongs to"
+    return ""
+
+
+def _unsaid(fault: str) -> str:
+    """What to do where the line shows no known habit."""
+    if "codec can't decode" in fault or "invalid start byte" in fault:
+        return "save the file as UTF-8"
+    return "a line is `key = value`, `[[table]]`, a comment or empty; texts stand in quotes, lists in brackets, tables within a line in braces"
 
 
 def _twice(fault: str) -> str:
