@@ -9,6 +9,7 @@ from contextlib import contextmanager
 from pathlib import Path
 from typing import NamedTuple
 
+from qptools.program import program
 from qpviewer.faults import Fault
 from qpviewer.system import read_system
 from qpviewer.system_parts import System
@@ -31,7 +32,6 @@ something is missing is refused.
 """
 
 DONE, BAD_WORDS, BAD_FILE, NOT_WRITTEN, UNANSWERED = 0, 1, 2, 7, 125
-PROGRAM = Path(__file__).resolve().parents[2] / "crates" / "qp_cli" / "out" / "qp_cli"
 
 
 class Judgeable(NamedTuple):
@@ -112,9 +112,10 @@ def _follow(name: str, system_file: str, folder: str = "") -> int:
 
 def _judge(system: Path, folder: Path) -> int:
     """Prints the program's verdict."""
-    if not PROGRAM.is_file():
-        return tell("the program isn't built, so nothing judges the run: ./qp build", UNANSWERED)
-    done = subprocess.run([PROGRAM, "check", system, folder / "stimuli.txt", folder / "journal.txt"])
+    judge = program()
+    if not judge:
+        return tell("no proved program answers here, so nothing judges the run: ./qp --version says why", UNANSWERED)
+    done = subprocess.run([judge, "check", system, folder / "stimuli.txt", folder / "journal.txt"])
     return done.returncode
 
 
