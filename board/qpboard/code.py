@@ -32,18 +32,19 @@ class Code:
 
     def list_at(self, texts: list[str]) -> int:
         """Where the code of a list begins; equal lists are there once. Raises `Fault` for a text that isn't an action here."""
-        return self._place("do", texts, lambda: [self._action(read_action(text)) for text in texts]) if texts else 0
+        return self._place("do", texts, lambda text: self._action(read_action(text))) if texts else 0
 
     def guard_at(self, text: str | None) -> int:
-        return 0 if text is None else self._place("when", [text], lambda: self._value(read_expression(text)))
+        return 0 if text is None else self._place("when", [text], lambda text: self._value(read_expression(text)))
 
-    def _place(self, kind: str, texts: list[str], make: Callable[[], object]) -> int:
+    def _place(self, kind: str, texts: list[str], write: Callable[[str], None]) -> int:
         key = (kind, *texts)
         if key not in self._known:
             self._known[key] = self.size
             self.lines.append(f"    /* {self.size}: {'when ' if kind == 'when' else ''}{'; '.join(texts)} */")
             self._depth = 0
-            make()
+            for text in texts:
+                write(text)
             self._emit("END")
         return self._known[key]
 

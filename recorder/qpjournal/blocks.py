@@ -114,7 +114,7 @@ class Blocks:
         """How many operations each life has."""
         for lane in lanes.values():
             for raw in lane:
-                if raw.word in ("inc", "dec") and (life := self.life(raw.values[:2], raw.number)):
+                if raw.word in ("inc", "dec") and (life := self.life(raw.block(), raw.number)):
                     life.length = max(life.length, raw.number + 1 - life.real_from)
 
     def _number(self, ordered: list[Life]) -> None:

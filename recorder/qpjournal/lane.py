@@ -14,6 +14,8 @@ from .told import Told
 SIGN = 2**63
 #: Records on a block, before the first of which its `new` is written.
 _ON_BLOCK = {"inc": 0, "dec": 0, "back": 0, "lifo": 0, "defer": 0, "post": 1}
+#: Records that stand in a journal with the numbers that they have, where a lane has no writer for them.
+_PLAIN = ("begin", "none", "enter", "exit", "init", "lock", "unlock", "nodefer", "norecall", "settle")
 
 
 class Lane:
@@ -34,8 +36,9 @@ class Lane:
         self._deferred: deque[Entry] = deque()
         self._step: Entry | None = None
         self._former: Raw | None = None
-        words = [word for word, _, _ in KINDS.values() if hasattr(self, f"_{word}")]
-        self._writers: dict[str, Callable[[int, Raw], None]] = {word: getattr(self, f"_{word}") for word in words}
+        own = [word for word, _, _ in KINDS.values() if hasattr(self, f"_{word}")]
+        self._writers: dict[str, Callable[[int, Raw], None]] = dict.fromkeys(_PLAIN, self._plain)
+        self._writers.update((word, getattr(self, f"_{word}")) for word in own)
 
     def put(self, word: str, *numbers: int) -> None:
         self.lines.append(f"{word} {' '.join(map(str, numbers))}")
@@ -43,7 +46,7 @@ class Lane:
     def write(self, at: int, raw: Raw) -> None:
         """Takes the lane's next record."""
         if raw.word in _ON_BLOCK:
-            block = raw.values[_ON_BLOCK[raw.word]:][:2]
+            block = raw.block(_ON_BLOCK[raw.word])
             if block in self._waiting:
                 self._write_new(self._waiting.pop(block))
         writer = self._writers.get(raw.word)
@@ -64,7 +67,7 @@ class Lane:
         """Its parameters stand in `new`."""
 
     def _new(self, at: int, raw: Raw) -> None:
-        block = raw.values[:2]
+        block = raw.block()
         if block in self._waiting:
             self._write_new(self._waiting.pop(block))
         self._waiting[block] = raw
@@ -87,12 +90,12 @@ class Lane:
 
     def _inc(self, at: int, raw: Raw) -> None:
         life, name, number = self._named(raw)
-        self._made[raw.values] = Entry(*raw.values, life, number)
+        self._made[raw.block()] = Entry(*raw.block(), life, number)
         self.put("inc", self._object, raw.values[0], name, number)
 
     def _dec(self, at: int, raw: Raw) -> None:
         _, name, number = self._named(raw)
-        self.put("dec", self._object, raw.values[0], name, number, self._dropped(raw.values).reference)
+        self.put("dec", self._object, raw.values[0], name, number, self._dropped(raw.block()).reference)
 
     def _dropped(self, block: Block) -> Entry:
         for place in reversed(range(len(self._due))):
@@ -111,7 +114,7 @@ class Lane:
     def _own_is_due(self) -> None:
         """The reference made right before is to be dropped in this call."""
         if self._former and self._former.word == "inc":
-            self._due.append(self._made[self._former.values])
+            self._due.append(self._made[self._former.block()])
 
     # Queues.
 
@@ -175,8 +178,6 @@ class Lane:
     def _plain(self, at: int, raw: Raw) -> None:
         self.put(raw.word, self._object, *raw.values)
 
-    _begin = _none = _enter = _exit = _init = _lock = _unlock = _nodefer = _norecall = _settle = _plain
-
     def _say(self, at: int, raw: Raw) -> None:
         self.put("say", self._object, (raw.values[0] + SIGN) % (2 * SIGN) - SIGN)
 
@@ -184,7 +185,7 @@ class Lane:
         code, *values = raw.values
         match code:
             case 1 | 5:
-                numbers = (values[0], *self._counts(values[0], raw))
+                numbers: tuple[int, ...] = (values[0], *self._counts(values[0], raw))
             case 2 | 3:
                 numbers = (values[0], raw.number, values[1])
             case _:

@@ -77,11 +77,12 @@ def _numbered(system: System, trace: Trace) -> tuple[dict[int, list[Raw]], Momen
 def _made(told: Told, trace: Trace) -> Made:
     objects = [ObjectLane(told, priority) for priority in sorted(told.objects)]
     sources = [SourceLane(told, LAST_OBJECT + number) for number in range(1, told.sources + 1)]
-    for lane in [*objects, *sources]:
+    made: list[ObjectLane | SourceLane] = [*objects, *sources]
+    for lane in made:
         lane.write_all()
-    lanes = [[], *(lane.lines for lane in objects), *(lane.lines for lane in sources)]
+    lanes: list[list[str]] = [[], *(lane.lines for lane in made)]
     notes = trace.told + list(dict.fromkeys(told.notes))
-    return Made([lane.stimuli for lane in sources], lanes, ASSERTED if _is_asserted(told.lanes) else 0, notes)
+    return Made([source.stimuli for source in sources], lanes, ASSERTED if _is_asserted(told.lanes) else 0, notes)
 
 
 def _is_asserted(lanes: dict[int, list[Raw]]) -> bool:

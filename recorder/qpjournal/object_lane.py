@@ -31,7 +31,7 @@ class ObjectLane(Lane):
             if raw.word == "took":
                 self._write_run(raws, at)
             elif raw.word == "pub":
-                self._raise_ceiling(raws[at + 1:at + 2])
+                self._raise_ceiling(raw.values[1], raws[at + 1:at + 2])
                 is_raised = self._posts_left > 0
             elif raw.word == "post" and self._posts_left:
                 self._posts_left -= 1
@@ -122,8 +122,7 @@ class ObjectLane(Lane):
             self._ceilings.pop()
         self._plain(at, raw)
 
-    def _raise_ceiling(self, following: list[Raw]) -> None:
-        members = self._former.values[1]
+    def _raise_ceiling(self, members: int, following: list[Raw]) -> None:
         if not members or following and following[0].word == "lock":
             return
         former = self._ceilings[-1] if self._ceilings else 0

@@ -37,10 +37,10 @@ def entries_of(lanes: dict[int, list[Raw]], blocks: Blocks) -> dict[Place, Entry
         made: dict[tuple[int, int], Entry] = {}
         events: dict[tuple[int, int], tuple[int, ...]] = {}
         for at, raw in enumerate(lane):
-            block = raw.values[:2]
             if raw.word == "event":
-                events[block] = raw.values[2:]
+                events[raw.block()] = raw.values[2:]
             elif raw.word == "inc":
+                block = raw.block()
                 life = blocks.life(block, raw.number)
                 if life and block in events:
                     life.params = events.pop(block)

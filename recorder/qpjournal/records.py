@@ -43,6 +43,10 @@ class Raw(NamedTuple):
     number: int = UNNUMBERED
     shown: int = UNNUMBERED
 
+    def block(self, at: int = 0) -> tuple[int, int]:
+        """The pool and the block, or 0 and the signal, that stand at this place of its numbers."""
+        return self.values[at], self.values[at + 1]
+
 
 class Read(NamedTuple):
     """What a buffer has: its records up to the first gap, behind which no numbers can be trusted, and what is wrong there."""

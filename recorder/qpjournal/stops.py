@@ -115,9 +115,10 @@ class SourceStops:
         return next((at for at in reversed(range(len(raws))) if raws[at].word in ("stim", "settle")), 0)
 
     def _is_whole(self, who: int, start: int) -> bool:
-        head, *rest = self._told.lanes.get(who, [])[start:] or [None]
-        if head is None or head.word not in ("stim", "settle"):
+        raws = self._told.lanes.get(who, [])[start:]
+        if not raws or raws[0].word not in ("stim", "settle"):
             return False
+        head, *rest = raws
         if head.word == "settle":
             return len(rest) == len(self._told.objects)
         if head.values[0] == STIM_TICK:

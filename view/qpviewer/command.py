@@ -126,6 +126,6 @@ def _refuse_foreign(story: Story, name: str) -> None:
     """Refuses the journal of another system."""
     if foreign := story.foreign():
         raise Unread(
-            f"{name}: line {story.line_of(foreign.index)}: names {foreign.what}, which the system doesn't have; "
+            f"{name}: line {story.line_of(foreign.place)}: names {foreign.what}, which the system doesn't have; "
             "is it the journal of another system? With its verdict as a fourth word it is drawn"
         )

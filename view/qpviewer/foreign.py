@@ -19,7 +19,7 @@ _STATES = {"run", "exit", "enter", "init"}
 class Foreign(NamedTuple):
     """The place in order of a record, and what it names that the system doesn't have."""
 
-    index: int
+    place: int
     what: str
 
 

@@ -28,8 +28,8 @@ class Holders:
     def of_pool(self, pool: int) -> list[str]:
         """What each block of a pool that is given out holds, and where, in the order of the blocks."""
         found = []
-        for (number, block), places in sorted(self._places.items()):
-            if number == pool and (block := (number, block)) in self._events:
+        for block, places in sorted(self._places.items()):
+            if block[0] == pool and block in self._events:
                 where = ", ".join(dict.fromkeys(places.values())) or "a call that isn't finished"
                 found.append(f"block {pool}.{block[1]} {self._events[block]}: {where}")
         return found
@@ -38,9 +38,9 @@ class Holders:
         numbers = record.numbers
         match record.word:
             case "new":
-                block = (numbers[1], numbers[3])
-                self._events[block] = self._names.event(numbers[5], numbers[6:])
-                self._places[block] = {}
+                given = (numbers[1], numbers[3])
+                self._events[given] = self._names.event(numbers[5], numbers[6:])
+                self._places[given] = {}
             case "back":
                 self._events.pop((numbers[1], numbers[3]), None)
                 self._places.pop((numbers[1], numbers[3]), None)

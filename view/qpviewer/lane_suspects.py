@@ -11,7 +11,7 @@ from .verdict import Verdict
 def kernel_suspect(told: Told, verdict: Verdict) -> int | None:
     """Lane 0 under a kernel: starts ascending, then looks with their floor, what each shows, and whole steps."""
     lane = _KernelLane(told)
-    return next((at.index for at in told.of_lane(0) if not lane.takes(at.record)), None)
+    return next((at.place for at in told.of_lane(0) if not lane.takes(at.record)), None)
 
 
 class _KernelLane:
@@ -91,14 +91,14 @@ def source_suspect(told: Told, verdict: Verdict) -> int | None:
     for place, at in enumerate(records):
         word, numbers = at.record.word, at.record.numbers
         if number < 1 or numbers[0] != 0 or not stimulus and word != "stim":
-            return at.index
+            return at.place
         if word == "stim":
             stimulus += 1
             if numbers[1] != stimulus or numbers[2] < look or stimulus > len(lines):
-                return at.index
+                return at.place
             look = numbers[2]
         elif not _fits(at.record, lines[stimulus - 1], records[place - 1], told):
-            return at.index
+            return at.place
     return None
 
 

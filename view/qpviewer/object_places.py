@@ -16,8 +16,8 @@ def records_by_object(system: System, journal: Journal) -> dict[int, list[Spot]]
     found: dict[int, list[Spot]] = {owner.priority: [] for owner in system.objects}
     if journal.kernel == PORT:
         for home, (owner, records) in enumerate(zip(system.objects, journal.lanes[1:]), 1):
-            own = ((at, record) for at, record in enumerate(records) if record.numbers[0] == owner.priority or record.word == "seen")
-            found[owner.priority] = [Spot(home, at, record) for at, record in own]
+            those = ((at, record) for at, record in enumerate(records) if record.numbers[0] == owner.priority or record.word == "seen")
+            found[owner.priority] = [Spot(home, at, record) for at, record in those]
         return found
     for at, record in enumerate(journal.lanes[0] if journal.lanes else []):
         if (own := found.get(record.numbers[0])) is not None:

@@ -23,12 +23,12 @@ def shape_suspect(told: Told, verdict: Verdict) -> int | None:
     own = told.of_object(priority)
     foreign = first_foreign((at.record for at in own), told.system)
     if foreign:
-        return own[foreign.index].index
+        return own[foreign.place].place
     shape = _Shape(told)
     for place, at in enumerate(own):
         behind = own[place + 1].record if place + 1 < len(own) else None
         if not shape.takes(at, behind):
-            return at.index
+            return at.place
     return None
 
 
@@ -41,7 +41,7 @@ def _stray(told: Told, priority: int) -> int | None:
     for at in told.records:
         owner = at.record.numbers[0]
         if at.lane == home and owner not in (priority, 0) or 1 <= at.lane <= objects and at.lane != home and owner == priority:
-            return at.index
+            return at.place
     return None
 
 
@@ -94,7 +94,7 @@ class _Shape:
             case "back":
                 fits = fits and before is not None and before.word == "dec"
             case "dec":
-                is_last = (at.index in self._last_use)
+                is_last = (at.place in self._last_use)
                 fits = fits and is_last == (behind is not None and behind.word == "back")
         if behind is None and self._is_quiet:
             fits = fits and not self._inside and word != "assert"
@@ -120,7 +120,7 @@ def _uses(told: Told) -> set[int]:
             for touch in told.history(("block", pool, block)):
                 standing += 1 if touch.record.word == "inc" else -1
                 if not standing:
-                    found.add(touch.index)
+                    found.add(touch.place)
     return found
 
 
@@ -140,7 +140,7 @@ def course_suspect(told: Told, verdict: Verdict) -> int | None:
     for at in told.records:
         course.learn(at.record)
         if at.lane == told.home(priority) and at.record.numbers[0] == priority and not course.takes(at.record):
-            return at.index
+            return at.place
     return None
 
 

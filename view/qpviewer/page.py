@@ -91,7 +91,7 @@ def _notices(story: Story, verdict: Verdict | None, judged: tuple[int, str] | No
         )
     if foreign := story.foreign():
         notices.append(
-            f"The system doesn’t have {escape(foreign.what)}, which {_link(foreign.index)} names. "
+            f"The system doesn’t have {escape(foreign.what)}, which {_link(foreign.place)} names. "
             f"Is this the journal of another system? {says}"
         )
     if against := story.order.against:

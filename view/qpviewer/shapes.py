@@ -53,8 +53,8 @@ class References:
                     _, pool, block, number, *dropped = record.numbers
                     operations[pool, block].append((number, dropped[0] if dropped else None))
         found = References()
-        for block, changes in operations.items():
-            found._walk(block, sorted(changes, key=lambda change: change[0]))
+        for whole, changes in operations.items():
+            found._walk(whole, sorted(changes, key=lambda change: change[0]))
         return found
 
     def _walk(self, block: tuple[int, int], changes: list[tuple[int, int | None]]) -> None:

@@ -12,7 +12,7 @@ from .verdict import Verdict
 class At(NamedTuple):
     """A record with its place in order and its lane."""
 
-    index: int
+    place: int
     lane: int
     record: Record
 
@@ -20,7 +20,7 @@ class At(NamedTuple):
 class Touching(NamedTuple):
     """A record that draws or shows a number of a word."""
 
-    index: int
+    place: int
     lane: int
     record: Record
     number: int
@@ -66,11 +66,11 @@ class Told:
         """The last record of a verdict's site."""
         match verdict.kind:
             case "object":
-                found = [at.index for at in self.of_object(*verdict.numbers)]
+                found = [at.place for at in self.of_object(*verdict.numbers)]
             case "lane":
-                found = [at.index for at in self.of_lane(*verdict.numbers)]
+                found = [at.place for at in self.of_lane(*verdict.numbers)]
             case "whole":
-                found = [at.index for at in self.records]
+                found = [at.place for at in self.records]
             case _:
-                found = [touch.index for touch in self.touching(verdict.word)]
+                found = [touch.place for touch in self.touching(verdict.word)]
         return found[-1] if found else None

@@ -94,7 +94,7 @@ class WordsTold:
             case "back":
                 self._back(index, record.numbers)
             case "inc":
-                self._held[lane] = record.numbers[1:3]
+                self._held[lane] = record.numbers[1], record.numbers[2]
                 self.changes.append(["made", index, *record.numbers[1:4]])
             case "full" if lane in self._held:
                 self.changes.append(["refused", index, record.numbers[0], self.label_of(*self._held[lane])])

@@ -22,7 +22,8 @@ from .outcome import RUNS
 from .values import summary_of
 
 _RATES = range(4)
-_Given, _Made = TypeVar("_Given"), TypeVar("_Made")
+_Given = TypeVar("_Given")
+_Made = TypeVar("_Made")
 
 
 class NotRun(Exception):

@@ -76,7 +76,7 @@ def between(places: Iterable[Between]) -> Iterator[Plan]:
     left, wait = list(places), 0
     while left:
         for order, place, _ in left:
-            parts = [(SETTLE, source) for source in order]
+            parts: list[Plan] = [(SETTLE, source) for source in order]
             parts[place] = (WAIT,) * wait + (order[place],)
             yield tuple(part for those in parts for part in those)
         wait += 1

@@ -24,7 +24,7 @@ _OPERATORS = "`||`, `&&`, one comparison, `+ -`, `* / %`, `!`, parentheses"
 
 def form_of(text: str, is_guard: bool) -> str:
     """How a text of this kind is written: an action of its word, or an expression."""
-    word = re.match(r"\w*", text)[0]
+    word = re.split(r"\W", text, maxsplit=1)[0]
     if is_guard:
         return f"a guard is an expression of variables, p1 to p8, `ok`, `me` and numbers with {_OPERATORS}"
     if word in FORMS:

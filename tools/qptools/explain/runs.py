@@ -121,7 +121,7 @@ def explain_verdict(text: str, run: Run) -> list[str]:
     story = Story(*run)
     told = [verdict_words(verdict, story.names)]
     if foreign := story.foreign():
-        line = f"line {story.line_of(foreign.index)} of the journal names {foreign.what}, which the system doesn't have"
+        line = f"line {story.line_of(foreign.place)} of the journal names {foreign.what}, which the system doesn't have"
         return [*told, f"{line}: is it the journal of another system?"]
     if place := record_of(verdict, story):
         index, why = place
