@@ -267,7 +267,9 @@ class Calls(Folder):
         """Its clock is a script here, ten seconds of which pass in a moment."""
         self.script(self.top / "rt", "while ! [ -e ticked ]; do /bin/sleep 0.01; done\necho 'run=ended status=0 steps=1' >&2")
         ticked = self.top / "crates/qp_cli/ticked"
-        self.script(self.top / "sleep", f"/bin/sleep 0.05\n[ ! -e {self.top}/twice ] || : >{ticked}\n: >{self.top}/twice")
+        # one that outlives the run writes nothing into the folder, which is taken away then
+        self.script(self.top / "sleep", f"[ ! -e {ticked} ] || exec /bin/sleep 1\n/bin/sleep 0.05\n"
+                                        f"if [ -e {self.top}/twice ]; then : >{ticked}; else : >{self.top}/twice; fi")
         began = time.monotonic()
         status, _, note = self.call("run", "lamp.toml", "go.txt")
         self.assertEqual((status, note.splitlines()[1]), (0, "qp: 10 seconds in the interpreter"))
