@@ -3,13 +3,13 @@ use Rattle.std.proofs.Common.{◌≡◌, ℕ, ◌+◌, ◌-◌, ◌^◌, ◌≤�
 use Rattle.std.specs.Option.{ForSome}
 use Rattle.std.proofs.lemmas.List.{append-nil, take-append-le, take_all, take-append-drop}
 use Rattle.qp_base.specs.Sink.{AppendsPrefix, appended}
-use Rattle.qp_base.specs.Gathering.{Goes, IsBegun, Went, counted, put_of, told, torn_part, whole_part}
+use Rattle.qp_base.specs.Gathering.{GoesDown, IsBegun, Went, in_64_bits, put_of, told, torn_part, whole_part}
 use Rattle.qp_base.specs.declared.course.Course.{Course}
 use Rattle.qp_base.specs.declared.course.Course.TheVariants.{Open, Torn, Stopped}
 
 -- at first just what the sink below had got went on
-pub first-goes : (below : Option (List ℕ)) (gone first : ℕ) (held : List ℕ) → IfSome below (λ w. length w ≡ first) → gone ≡ first + 0 → Goes Open gone held below
-unfolding Goes Went
+pub first-goes : (below : Option (List ℕ)) (gone first : ℕ) (held : List ℕ) → IfSome below (λ w. length w ≡ first) → gone ≡ first + 0 → GoesDown Open gone held below
+unfolding GoesDown Went
 first-goes None gone first held had is = tt
 first-goes (Some w) gone first held had is = omega (arith, had, is)
 
@@ -26,12 +26,12 @@ pub grown-part : (below after : Option (List ℕ)) (first : ℕ) (bytes : List �
 grown-part below after first bytes grown (k, some, is) = grown-by below after first (take k bytes) grown is
 
 -- counting on
-counted-on : (m n gone all : ℕ) → counted m ≡ counted gone → all ≡ m + n → counted all ≡ counted (gone + n)
+counted-on : (m n gone all : ℕ) → in_64_bits m ≡ in_64_bits gone → all ≡ m + n → in_64_bits all ≡ in_64_bits (gone + n)
 counted-on m n gone all count is = omega (arith, count, is)
 
 -- a whole piece went on
-pub went-on : (below after : Option (List ℕ)) (gone n : ℕ) (held left bytes : List ℕ) → Goes Open gone held below → after ≡ appended below bytes → counted n ≡ counted (gone + length bytes) → Goes Open n left after
-unfolding Goes Went
+pub went-on : (below after : Option (List ℕ)) (gone n : ℕ) (held left bytes : List ℕ) → GoesDown Open gone held below → after ≡ appended below bytes → in_64_bits n ≡ in_64_bits (gone + length bytes) → GoesDown Open n left after
+unfolding GoesDown Went
 went-on None after gone n held left bytes goes is count = rw is tt
 went-on (Some w) after gone n held left bytes goes is count = rw is (counted-on (length w) (length bytes) gone (length (w ++ bytes)) goes (length-append w bytes) ∙ sym count)
 
@@ -65,11 +65,11 @@ none-appended None bytes = (0, omega arith, refl)
 none-appended (Some w) bytes = (0, omega arith, ap Some (sym (append-nil w)))
 
 -- how many bytes of a torn piece went on
-torn-count : (m k gone all : ℕ) → counted m ≡ counted gone → k ≤ 65536 → all ≡ m + k → counted (all + (2 ^ 64 - counted gone)) ≡ k
+torn-count : (m k gone all : ℕ) → in_64_bits m ≡ in_64_bits gone → k ≤ 65536 → all ≡ m + k → in_64_bits (all + (2 ^ 64 - in_64_bits gone)) ≡ k
 torn-count m k gone all count few is = omega (arith, count, few, is)
 
 -- what went on before a torn piece
-torn-whole : (gone k : ℕ) (w held : List ℕ) → counted (length w) ≡ counted gone → length held ≤ 65536 → k ≤ length held
+torn-whole : (gone k : ℕ) (w held : List ℕ) → in_64_bits (length w) ≡ in_64_bits gone → length held ≤ 65536 → k ≤ length held
     → (torn_part gone (w ++ take k held) ≡ k) × (whole_part gone (w ++ take k held) ≡ w)
 torn-whole gone k w held count few some =
     let all : length (w ++ take k held) ≡ length w + k = omega (arith, length-append w (take k held), length-take-le k held some) in
@@ -80,17 +80,17 @@ torn-whole gone k w held count few some =
     )
 
 -- of a torn piece some went on
-pub torn-goes : (below after : Option (List ℕ)) (gone : ℕ) (held : List ℕ) → length held ≤ 65536 → Goes Open gone held below → AppendsPrefix below held after → Goes Torn gone held after
-unfolding Goes Went
+pub torn-goes : (below after : Option (List ℕ)) (gone : ℕ) (held : List ℕ) → length held ≤ 65536 → GoesDown Open gone held below → AppendsPrefix below held after → GoesDown Torn gone held after
+unfolding GoesDown Went
 torn-goes None after gone held few goes (k, some, is) = rw is tt
 torn-goes (Some w) after gone held few goes (k, some, is) =
     let (part, before) = torn-whole gone k w held goes few some in
     rw is (rw (before, part) refl)
 
 -- a torn piece was put whole
-pub torn-told : (below after : Option (List ℕ)) (gone : ℕ) (held : List ℕ) → length held ≤ 65536 → Goes Open gone held below → AppendsPrefix below held after
+pub torn-told : (below after : Option (List ℕ)) (gone : ℕ) (held : List ℕ) → length held ≤ 65536 → GoesDown Open gone held below → AppendsPrefix below held after
     → told Torn gone held after ≡ told Open gone held below
-unfolding Goes Went told put_of
+unfolding GoesDown Went told put_of
 torn-told None after gone held few goes (k, some, is) = rw is refl
 torn-told (Some w) after gone held few goes (k, some, is) = ap (λ o. told Torn gone held o) is ∙ ap (λ l. Some (l ++ held)) (torn-whole gone k w held goes few some).1
 
@@ -100,14 +100,14 @@ unfolding told put_of
 stopped-told None after gone n left bytes (k, few, is) = (k, few, rw is refl)
 stopped-told (Some w) after gone n left bytes (k, few, is) = (k, few, rw is (ap (λ l. Some (l ++ take k bytes)) (sym (append-nil w))))
 
-pub stopped-goes : (after : Option (List ℕ)) (gone : ℕ) (held : List ℕ) → Goes Stopped gone held after
-unfolding Goes Went
+pub stopped-goes : (after : Option (List ℕ)) (gone : ℕ) (held : List ℕ) → GoesDown Stopped gone held after
+unfolding GoesDown Went
 stopped-goes None gone held = tt
 stopped-goes (Some w) gone held = tt
 
 -- what went on is the first part of what was put
-pub begun : (course : Course) (gone : ℕ) (held : List ℕ) (below : Option (List ℕ)) → Goes course gone held below → IsBegun below (told course gone held below)
-unfolding Goes Went told put_of
+pub begun : (course : Course) (gone : ℕ) (held : List ℕ) (below : Option (List ℕ)) → GoesDown course gone held below → IsBegun below (told course gone held below)
+unfolding GoesDown Went told put_of
 begun course gone held None goes = tt
 begun Open gone held (Some w) goes = (held, refl)
 begun Stopped gone held (Some w) goes = ([], sym (append-nil w))
@@ -119,25 +119,25 @@ begun Torn gone held (Some w) goes =
     )
 
 -- while all went on, it doesn't matter what is held
-pub held-goes : (course : Course) (gone : ℕ) (held left : List ℕ) (below : Option (List ℕ)) → course ≡ Open → Goes course gone held below → Goes course gone left below
-unfolding Goes Went
+pub held-goes : (course : Course) (gone : ℕ) (held left : List ℕ) (below : Option (List ℕ)) → course ≡ Open → GoesDown course gone held below → GoesDown course gone left below
+unfolding GoesDown Went
 held-goes course gone held left None going goes = tt
 held-goes course gone held left (Some w) going goes = rw going (rw going at goes)
 
 -- the same lemmas, where the course is told by its name
-pub went : (course : Course) (below after : Option (List ℕ)) (gone n : ℕ) (held left bytes : List ℕ) → course ≡ Open → Goes course gone held below → after ≡ appended below bytes → counted n ≡ counted (gone + length bytes)
-    → Goes course n left after
+pub went : (course : Course) (below after : Option (List ℕ)) (gone n : ℕ) (held left bytes : List ℕ) → course ≡ Open → GoesDown course gone held below → after ≡ appended below bytes → in_64_bits n ≡ in_64_bits (gone + length bytes)
+    → GoesDown course n left after
 went course below after gone n held left bytes going goes is count =
-    subst (λ c. Goes c n left after) (sym going) (went-on below after gone n held left bytes (subst (λ c. Goes c gone held below) going goes) is count)
+    subst (λ c. GoesDown c n left after) (sym going) (went-on below after gone n held left bytes (subst (λ c. GoesDown c gone held below) going goes) is count)
 
-pub torn : (course : Course) (below after : Option (List ℕ)) (gone : ℕ) (held : List ℕ) → course ≡ Open → length held ≤ 65536 → Goes course gone held below → AppendsPrefix below held after
-    → Goes Torn gone held after
-torn course below after gone held going few goes some = torn-goes below after gone held few (subst (λ c. Goes c gone held below) going goes) some
+pub torn : (course : Course) (below after : Option (List ℕ)) (gone : ℕ) (held : List ℕ) → course ≡ Open → length held ≤ 65536 → GoesDown course gone held below → AppendsPrefix below held after
+    → GoesDown Torn gone held after
+torn course below after gone held going few goes some = torn-goes below after gone held few (subst (λ c. GoesDown c gone held below) going goes) some
 
-pub torn-put : (course : Course) (below after : Option (List ℕ)) (gone : ℕ) (held : List ℕ) → course ≡ Open → length held ≤ 65536 → Goes course gone held below → AppendsPrefix below held after
+pub torn-put : (course : Course) (below after : Option (List ℕ)) (gone : ℕ) (held : List ℕ) → course ≡ Open → length held ≤ 65536 → GoesDown course gone held below → AppendsPrefix below held after
     → told Torn gone held after ≡ told course gone held below
 torn-put course below after gone held going few goes some =
-    torn-told below after gone held few (subst (λ c. Goes c gone held below) going goes) some ∙ ap (λ c. told c gone held below) (sym going)
+    torn-told below after gone held few (subst (λ c. GoesDown c gone held below) going goes) some ∙ ap (λ c. told c gone held below) (sym going)
 
 pub on-put : (course : Course) (below after : Option (List ℕ)) (gone n : ℕ) (held left : List ℕ) → course ≡ Open → left ≡ [] → after ≡ appended below held → told course n left after ≡ told course gone held below
 on-put course below after gone n held left going empty is = rw (going, empty) (told-on below after gone n held is)
@@ -158,7 +158,7 @@ flushed course gone held below all same going empty =
     sym (told-all below gone) ∙ ap (λ c. told c gone [] below) (sym going) ∙ ap (λ h. told course gone h below) (sym empty) ∙ same
 
 -- a count that goes on in 64 bits, behind what was there at first
-pub count-on : (first gone after n : ℕ) → after ≡ counted (gone + n) → counted (first + after) ≡ counted (first + gone + n)
+pub count-on : (first gone after n : ℕ) → after ≡ in_64_bits (gone + n) → in_64_bits (first + after) ≡ in_64_bits (first + gone + n)
 count-on first gone after n is = omega (arith, is)
 
 -- facts that hold where a result is Ok, or an error

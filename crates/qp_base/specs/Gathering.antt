@@ -7,12 +7,12 @@ use Rattle.qp_base.specs.declared.course.Course.{Course}
 use Rattle.qp_base.specs.declared.course.Course.TheVariants.{Open, Torn, Stopped}
 
 -- a number of bytes, as 64 bits count them
-abbrev pub counted : ℕ → ℕ
-counted n = n % 2 ^ 64
+abbrev pub in_64_bits : ℕ → ℕ
+in_64_bits n = n % 2 ^ 64
 
 -- how many bytes of a torn piece went on, where this went on in all, and so many bytes had gone before the piece
 abbrev pub torn_part : ℕ → List ℕ → ℕ
-torn_part gone w = counted (length w + (2 ^ 64 - counted gone))
+torn_part gone w = in_64_bits (length w + (2 ^ 64 - in_64_bits gone))
 
 -- what went on before a torn piece
 abbrev pub whole_part : ℕ → List ℕ → List ℕ
@@ -31,18 +31,18 @@ told course gone held below = option_map (put_of course gone held) below
 
 -- how w went on: so many bytes of it, and of a torn piece some, from the first on
 unfoldable pub Went : Course → ℕ → List ℕ → List ℕ → Type 0
-Went Open gone held w = counted (length w) ≡ counted gone
+Went Open gone held w = in_64_bits (length w) ≡ in_64_bits gone
 Went Torn gone held w = w ≡ whole_part gone w ++ take (torn_part gone w) held
 Went Stopped gone held w = ⊤
 
 -- the same, where the sink below tells it
-unfoldable pub Goes : Course → ℕ → List ℕ → Option (List ℕ) → Type 0
+unfoldable pub GoesDown : Course → ℕ → List ℕ → Option (List ℕ) → Type 0
 unfolding Went
-Goes course gone held None = ⊤
-Goes course gone held (Some w) = Went course gone held w
+GoesDown course gone held None = ⊤
+GoesDown course gone held (Some w) = Went course gone held w
 
-pub Goes-prop : (course : Course) (gone : ℕ) (held : List ℕ) (below : Option (List ℕ)) → IsProp (Goes course gone held below)
-unfolding Goes Went
+pub Goes-prop : (course : Course) (gone : ℕ) (held : List ℕ) (below : Option (List ℕ)) → IsProp (GoesDown course gone held below)
+unfolding GoesDown Went
 Goes-prop course gone held None = Unit-prop
 Goes-prop Open gone held (Some w) = hlevel props
 Goes-prop Torn gone held (Some w) = hlevel props

@@ -3,7 +3,7 @@
 ghost use Rattle.std.specs.Prelude.{◌≡◌, ◌≢◌, ◌+◌, ◌≤◌, ℕ, [], length, vec_capacity, OnOk, OnErr, IfOk, IfErr, IfSome, true, false, is_err};
 ghost use Rattle.std.specs.Option.{ForSome};
 ghost use Rattle.qp_base.specs.Counts.{CountsIf, Rose};
-ghost use Rattle.qp_base.specs.Gathering.{Goes, Goes-prop, IsBegun, told};
+ghost use Rattle.qp_base.specs.Gathering.{GoesDown, Goes-prop, IsBegun, told};
 ghost use Rattle.qp_base.specs.Sink.{AppendsPrefix, appended};
 ghost use Rattle.qp_base.specs.declared.course.Course.TheVariants.{Open};
 
@@ -44,7 +44,7 @@ pub struct Gathered<S: Sink + Drop, B: Beginning> {
     beginning: PhantomData<B>,
     ghost few: { length held.items ≤ 65536 },
     ghost room: { 65536 ≤ vec_capacity held },
-    ghost goes: { Goes course (B.first_length + gone) held.items (S.written inner) } by { Goes-prop course (B.first_length + gone) held.items (S.written inner) },
+    ghost goes: { GoesDown course (B.first_length + gone) held.items (S.written inner) } by { Goes-prop course (B.first_length + gone) held.items (S.written inner) },
     ghost grown: { ForSome (S.written inner) (λ w. B.first_length ≤ length w) },
     ghost none: { course ≡ Open → faults ≡ 0 },
     ghost stands: { course ≡ Open → S.faults inner ≡ B.first_faults },

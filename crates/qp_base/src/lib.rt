@@ -13,6 +13,7 @@ mod shelves;
 mod sinks;
 mod std_sink;
 mod steps;
+mod tells;
 
 pub use course::Course;
 pub use dir_shelf::DirShelf;
@@ -26,3 +27,4 @@ pub use shelves::{FILE_LIMIT, Shelf, ShelfFault};
 pub use sinks::{Sink, SinkFault};
 pub use std_sink::StdSink;
 pub use steps::Steps;
+pub use tells::Tells;

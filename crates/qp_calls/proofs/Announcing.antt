@@ -11,12 +11,12 @@ use Rattle.qp_model.specs.Shapes.{Fits, MakesAgain, MakesNew, MakesBlock, NoBloc
 use Rattle.qp_calls.specs.declared.did.Did.{Did}
 use Rattle.qp_calls.specs.declared.did.Did.TheVariants as did
 use Rattle.qp_calls.specs.declared.publication.Publication.{Publication}
-use Rattle.qp_calls.specs.declared.tokens.Entry.{Entry}
+use Rattle.qp_calls.specs.declared.tokens.HeldEntry.{HeldEntry}
 use Rattle.qp_calls.specs.Tokens.{with_entry, without_entry, hands_after, hands_by}
-use Rattle.qp_calls.specs.LaneView.{LaneView, Grows, Adds, Roomier, ceiling_in}
-use Rattle.qp_calls.specs.Clauses.{Reads, Stands, entry_of}
+use Rattle.qp_calls.specs.LaneView.{LaneView, Grows, AddsTold, Roomier, ceiling_in}
+use Rattle.qp_calls.specs.Clauses.{ReadsSubscribers, EntryStands, entry_of}
 use Rattle.qp_calls.specs.Entries.{Again, Made, PostsEntry, Released, Unmade, did_of}
-use Rattle.qp_calls.specs.Groups.{Answers}
+use Rattle.qp_calls.specs.Groups.{CallAnswers}
 use Rattle.qp_calls.specs.Publishing.{Announced, AreObjects, BeginsGoing, EndsGoing, GoesOnAssert, GoesOnGoing, Marks, PostsAgain}
 use Rattle.qp_calls.proofs.Growing.{gains-none, grows-room, grows-then, stands-still}
 use Rattle.qp_calls.proofs.Answering.{with_head, without-with}
@@ -26,7 +26,7 @@ pub_hands : (sig n set : ℕ) (a v : LaneView) → Grows (plain (item.Pub sig n 
 unfolding hands_after hands_by
 pub_hands sig n set a v g = g.hands
 
-pub announced : (fixed : Bool) (ev : Event) (reserve : Option ℕ) (made : Entry) (set : ℕ) (a v w : LaneView) → Made fixed ev reserve made a v → Reads ev.sig v w set → Announced fixed ev reserve made set a w
+pub announced : (fixed : Bool) (ev : Event) (reserve : Option ℕ) (made : HeldEntry) (set : ℕ) (a v w : LaneView) → Made fixed ev reserve made a v → ReadsSubscribers ev.sig v w set → Announced fixed ev reserve made set a w
 announced fixed ev reserve made set a v w first reads =
     let number = reads.0 in
     let adds = reads.1 in
@@ -68,18 +68,18 @@ unfolding restoring
 lower-none former set a h = rw (members-none set h) (record { grows = gains-none a; hands = refl; spare = omega arith })
 
 pub raise-some : (former set top rest : ℕ) (a q w : LaneView) → members set ≡ top ∷ members rest → q ≡ a → former ≡ ceiling_in 0 a.told
-    → Adds (raised (max former top) (ceiling_in 0 q.told) ∷ []) q w → Marks (raising 1 former (members set)) a w
+    → AddsTold (raised (max former top) (ceiling_in 0 q.told) ∷ []) q w → Marks (raising 1 former (members set)) a w
 unfolding raising
 raise-some former set top rest a q w is same ceiling adds =
-    let there : Adds (raised (max former top) (ceiling_in 0 a.told) ∷ []) a w = subst (λ x. Adds (raised (max former top) (ceiling_in 0 x.told) ∷ []) x w) same adds in
-    let here : Adds (raised (max former top) former ∷ []) a w = subst (λ c. Adds (raised (max former top) c ∷ []) a w) (sym ceiling) there in
+    let there : AddsTold (raised (max former top) (ceiling_in 0 a.told) ∷ []) a w = subst (λ x. AddsTold (raised (max former top) (ceiling_in 0 x.told) ∷ []) x w) same adds in
+    let here : AddsTold (raised (max former top) former ∷ []) a w = subst (λ c. AddsTold (raised (max former top) c ∷ []) a w) (sym ceiling) there in
     rw is (record { grows = here.grows; hands = lock_hands (max former top) former a w here.grows; spare = omega (arith, here.spare) })
 
-pub lower-some : (former set top : ℕ) (rest : List ℕ) (a q w : LaneView) → members set ≡ top ∷ rest → q ≡ a → Adds (plain (item.Unlock former) ∷ []) q w
+pub lower-some : (former set top : ℕ) (rest : List ℕ) (a q w : LaneView) → members set ≡ top ∷ rest → q ≡ a → AddsTold (plain (item.Unlock former) ∷ []) q w
     → Marks (restoring 1 former (members set)) a w
 unfolding restoring
 lower-some former set top rest a q w is same adds =
-    let here : Adds (plain (item.Unlock former) ∷ []) a w = subst (λ x. Adds (plain (item.Unlock former) ∷ []) x w) same adds in
+    let here : AddsTold (plain (item.Unlock former) ∷ []) a w = subst (λ x. AddsTold (plain (item.Unlock former) ∷ []) x w) same adds in
     rw is (record { grows = here.grows; hands = unlock_hands former a w here.grows; spare = omega (arith, here.spare) })
 
 -- an entry is made at no other ceiling
@@ -89,7 +89,7 @@ unfolding MakesNew MakesBlock ceiling_in
 ceiling-made true sizes sig pars reserve head e o c n set h = rw h.0 refl
 ceiling-made false sizes sig pars reserve head e o c n set h = rw h.6 refl
 
-pub announced-ceiling : (fixed : Bool) (ev : Event) (reserve : Option ℕ) (made : Entry) (set : ℕ) (a r w : LaneView)
+pub announced-ceiling : (fixed : Bool) (ev : Event) (reserve : Option ℕ) (made : HeldEntry) (set : ℕ) (a r w : LaneView)
     → Roomier a r → Announced fixed ev reserve made set r w → ceiling_in 0 w.told ≡ ceiling_in 0 a.told
 announced-ceiling fixed ev reserve made set a r w room h =
     let told : r.told ≡ a.told = rw room.same refl in
@@ -100,7 +100,7 @@ announced-ceiling fixed ev reserve made set a r w room h =
 
 -- One post.
 
-pub posts-again : (e : model.Entry) (to : ℕ) (made : Entry) (d : Did) (r v w : LaneView) → Again e made r v → PostsEntry to None (entry_of made) d v w → PostsAgain e to d r w
+pub posts-again : (e : model.Entry) (to : ℕ) (made : HeldEntry) (d : Did) (r v w : LaneView) → Again e made r v → PostsEntry to None (entry_of made) d v w → PostsAgain e to d r w
 unfolding PostsOne
 posts-again e to made d r v w first post = record {
   answer = post.answer;
@@ -177,7 +177,7 @@ unmade-room ev reserve d fixed a r v room is h = record {
 
 -- no block: the call's own answer, for any object
 pub unmade-publish : (o : ℕ) (ev : Event) (reserve : Option ℕ) (d : Did) (fixed : Bool) (a r v : LaneView) → Roomier a r → fixed ≡ is_static r.sys ev.sig → Unmade fixed ev reserve d r v
-    → Answers a.sys o None (call.Publish ev.sig ev.pars reserve) d a v
+    → CallAnswers a.sys o None (call.Publish ev.sig ev.pars reserve) d a v
 unfolding Fits
 unmade-publish o ev reserve d fixed a r v room is h = record {
   answer = h.answer;
@@ -188,7 +188,7 @@ unmade-publish o ev reserve d fixed a r v room is h = record {
   hands = λ v_is. h.hands ∙ rw room.same refl;
 }
 
-pub begins-going : (ev : Event) (reserve : Option ℕ) (made : Entry) (all former : ℕ) (fixed : Bool) (p : Publication) (a r v w : LaneView) → Roomier a r → fixed ≡ is_static r.sys ev.sig
+pub begins-going : (ev : Event) (reserve : Option ℕ) (made : HeldEntry) (all former : ℕ) (fixed : Bool) (p : Publication) (a r v w : LaneView) → Roomier a r → fixed ≡ is_static r.sys ev.sig
     → Announced fixed ev reserve made all r v → Marks (raising 1 former (members all)) v w → p ≡ record { entry = made; all = all; left = all; former = former }
     → BeginsGoing ev reserve former p a w
 unfolding PublishesFirst
@@ -215,7 +215,7 @@ begins-going ev reserve made all former fixed p a r v w room is_fixed first mark
     } in
     subst (λ x. BeginsGoing ev reserve former x a w) (sym is) here
 
-pub goes-on : (p : Publication) (to left n : ℕ) (a r w : LaneView) → Roomier a r → members p.left ≡ to ∷ members left → Stands p.entry a → PostsAgain (entry_of p.entry) to (did.Value n) r w
+pub goes-on : (p : Publication) (to left n : ℕ) (a r w : LaneView) → Roomier a r → members p.left ≡ to ∷ members left → EntryStands p.entry a → PostsAgain (entry_of p.entry) to (did.Value n) r w
     → GoesOnGoing p (record p { left = left }) a w
 goes-on p to left n a r w room first stands post =
     let sys : r.sys ≡ a.sys = rw room.same refl in

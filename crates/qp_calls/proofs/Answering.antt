@@ -10,17 +10,17 @@ use Rattle.qp_model.specs.Parts.{is_static, room_before, sizes_of}
 use Rattle.qp_model.specs.Sites.{ring_of}
 use Rattle.qp_model.specs.Shapes.{Fits, Posts, PostsFront, PostsNew, PostsNewFront, Forwards, MakesNew, MakesAgainNow, NoBlockFor}
 use Rattle.qp_calls.specs.declared.did.Did.{Did}
-use Rattle.qp_calls.specs.declared.tokens.Entry.{Entry}
+use Rattle.qp_calls.specs.declared.tokens.HeldEntry.{HeldEntry}
 use Rattle.qp_calls.specs.Tokens.{Token, take_out, token_of, with_entry, without_entry}
 use Rattle.qp_calls.specs.LaneView.{LaneView, Roomier}
 use Rattle.qp_calls.specs.Clauses.{entry_of}
 use Rattle.qp_calls.specs.Entries.{Again, Made, PostsEntry, PostsFirst, Released, Unmade}
-use Rattle.qp_calls.specs.Groups.{Answers}
+use Rattle.qp_calls.specs.Groups.{CallAnswers}
 use Rattle.qp_calls.proofs.Growing.{grows-room, grows-then}
 use Rattle.qp_calls.proofs.Releasing.{take_out-first}
 
 -- room first
-pub answers-room : (now : Option model.Entry) (c : Call) (d : Did) (a r w : LaneView) → Roomier a r → Answers r.sys r.by now c d r w → Answers a.sys a.by now c d a w
+pub answers-room : (now : Option model.Entry) (c : Call) (d : Did) (a r w : LaneView) → Roomier a r → CallAnswers r.sys r.by now c d r w → CallAnswers a.sys a.by now c d a w
 answers-room now c d a r w room h =
     let sys : r.sys ≡ a.sys = rw room.same refl in
     let by : r.by ≡ a.by = rw room.same refl in
@@ -64,9 +64,9 @@ with_front_head o by head e AtFront g is h = rw (sym is) (h.0, h.1, h.2, ap (λ 
 with_front_head o by head e _ g is h = absurd h
 
 -- a new event is made and posted
-pub post-answers : (now : Option model.Entry) (to : ℕ) (ev : Event) (margin reserve : Option ℕ) (made : Entry) (d : Did) (fixed : Bool) (r v w : LaneView)
+pub post-answers : (now : Option model.Entry) (to : ℕ) (ev : Event) (margin reserve : Option ℕ) (made : HeldEntry) (d : Did) (fixed : Bool) (r v w : LaneView)
     → fixed ≡ is_static r.sys ev.sig → Made fixed ev reserve made r v → PostsEntry to margin (entry_of made) d v w
-    → Answers r.sys r.by now (call.Post to ev.sig ev.pars margin reserve) d r w
+    → CallAnswers r.sys r.by now (call.Post to ev.sig ev.pars margin reserve) d r w
 unfolding Fits PostsNew
 post-answers now to ev margin reserve made d fixed r v w is_fixed first post = record {
   answer = post.answer;
@@ -85,7 +85,7 @@ post-answers now to ev margin reserve made d fixed r v w is_fixed first post = r
 
 -- or it finds no block
 pub unmade-answers : (now : Option model.Entry) (to : ℕ) (ev : Event) (margin reserve : Option ℕ) (d : Did) (fixed : Bool) (r v : LaneView)
-    → fixed ≡ is_static r.sys ev.sig → Unmade fixed ev reserve d r v → Answers r.sys r.by now (call.Post to ev.sig ev.pars margin reserve) d r v
+    → fixed ≡ is_static r.sys ev.sig → Unmade fixed ev reserve d r v → CallAnswers r.sys r.by now (call.Post to ev.sig ev.pars margin reserve) d r v
 unfolding Fits PostsNew
 unmade-answers now to ev margin reserve d fixed r v is_fixed h = record {
   answer = h.answer;
@@ -97,8 +97,8 @@ unmade-answers now to ev margin reserve d fixed r v is_fixed h = record {
 }
 
 -- the same last-in
-pub front-answers : (now : Option model.Entry) (ev : Event) (reserve : Option ℕ) (made : Entry) (d : Did) (fixed : Bool) (r v w : LaneView)
-    → fixed ≡ is_static r.sys ev.sig → Made fixed ev reserve made r v → PostsFirst (entry_of made) d v w → Answers r.sys r.by now (call.Lifo ev.sig ev.pars reserve) d r w
+pub front-answers : (now : Option model.Entry) (ev : Event) (reserve : Option ℕ) (made : HeldEntry) (d : Did) (fixed : Bool) (r v w : LaneView)
+    → fixed ≡ is_static r.sys ev.sig → Made fixed ev reserve made r v → PostsFirst (entry_of made) d v w → CallAnswers r.sys r.by now (call.Lifo ev.sig ev.pars reserve) d r w
 unfolding Fits PostsNewFront
 front-answers now ev reserve made d fixed r v w is_fixed first post = record {
   answer = post.answer;
@@ -116,7 +116,7 @@ front-answers now ev reserve made d fixed r v w is_fixed first post = record {
 }
 
 pub unmade-front : (now : Option model.Entry) (ev : Event) (reserve : Option ℕ) (d : Did) (fixed : Bool) (r v : LaneView)
-    → fixed ≡ is_static r.sys ev.sig → Unmade fixed ev reserve d r v → Answers r.sys r.by now (call.Lifo ev.sig ev.pars reserve) d r v
+    → fixed ≡ is_static r.sys ev.sig → Unmade fixed ev reserve d r v → CallAnswers r.sys r.by now (call.Lifo ev.sig ev.pars reserve) d r v
 unfolding Fits PostsNewFront
 unmade-front now ev reserve d fixed r v is_fixed h = record {
   answer = h.answer;
@@ -128,8 +128,8 @@ unmade-front now ev reserve d fixed r v is_fixed h = record {
 }
 
 -- the event of an entry is posted once more
-pub forward-answers : (e : model.Entry) (to : ℕ) (margin : Option ℕ) (made : Entry) (d : Did) (r v w : LaneView)
-    → Again e made r v → PostsEntry to margin (entry_of made) d v w → Answers r.sys r.by (Some e) (call.Forward to margin) d r w
+pub forward-answers : (e : model.Entry) (to : ℕ) (margin : Option ℕ) (made : HeldEntry) (d : Did) (r v w : LaneView)
+    → Again e made r v → PostsEntry to margin (entry_of made) d v w → CallAnswers r.sys r.by (Some e) (call.Forward to margin) d r w
 unfolding Fits Forwards MakesAgainNow
 forward-answers e to margin made d r v w first post = record {
   answer = post.answer;

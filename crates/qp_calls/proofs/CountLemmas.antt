@@ -6,11 +6,11 @@ use Rattle.std.specs.List.{list_any, list_all}
 use Rattle.qp_model.specs.declared.bodies.Entry as model
 use Rattle.qp_model.specs.Record.{entry}
 use Rattle.qp_model.specs.Parts.{is_static}
-use Rattle.qp_calls.specs.declared.tokens.Entry.{Entry}
-use Rattle.qp_calls.specs.declared.tokens.Entry.TheVariants as token
+use Rattle.qp_calls.specs.declared.tokens.HeldEntry.{HeldEntry}
+use Rattle.qp_calls.specs.declared.tokens.HeldEntry.TheVariants as token
 use Rattle.qp_calls.specs.Tokens.{Token, Held, same_token, token_of, take_out, stands, with_entry, without_entry, hands_after, hands_by}
 use Rattle.qp_calls.specs.LaneView.{LaneView}
-use Rattle.qp_calls.specs.Clauses.{Stands, entry_of, TakesIt}
+use Rattle.qp_calls.specs.Clauses.{EntryStands, entry_of, TakesIt}
 use Rattle.qp_calls.specs.Counting.{one, times, count_of}
 use Rattle.qp_calls.specs.Deferring.{tokens_in, is_named, StandAll}
 use Rattle.qp_calls.proofs.HandLemmas.{same-equal, same-self}
@@ -73,7 +73,7 @@ tokens-append t (x ∷ es) e =
     omega (arith, front, back, tokens-append t es e)
 
 -- what may be handed in is in the hands
-pub stands-in : (e : Entry) (v : LaneView) → Stands e v → is_in (entry_of e) v.hands ≡ true
+pub stands-in : (e : HeldEntry) (v : LaneView) → EntryStands e v → is_in (entry_of e) v.hands ≡ true
 unfolding entry_of
 stands-in (token.Static sig) v h = refl
 stands-in (token.Pool k) v h = rw (not-zero k.pool h.0) h.1
@@ -83,7 +83,7 @@ unfolding times
 front-counts p b r hands some = rw (with-pool p b r hands some, same-self (Held p b r)) (omega arith)
 
 -- the first entry of a list may be handed in
-pub stand-front : (k : Entry) (ks : List Entry) (v : LaneView) → StandAll (k ∷ ks) v → Stands k v
+pub stand-front : (k : HeldEntry) (ks : List HeldEntry) (v : LaneView) → StandAll (k ∷ ks) v → EntryStands k v
 unfolding entry_of
 stand-front (token.Static sig) ks v all = (and_parts (is_static v.sys sig) (list_all (λ e. is_named v.sys e) ks) all.named).0
 stand-front (token.Pool h) ks v all =
@@ -92,7 +92,7 @@ stand-front (token.Pool h) ks v all =
     (some, count-stands (Held h.pool h.block h.name) v.hands (omega (arith, front, all.counts (Held h.pool h.block h.name))))
 
 -- without it the others may
-pub stand-rest : (k : Entry) (ks : List Entry) (v w : LaneView) → StandAll (k ∷ ks) v → w.hands ≡ without_entry (entry_of k) v.hands → w.sys ≡ v.sys → StandAll ks w
+pub stand-rest : (k : HeldEntry) (ks : List HeldEntry) (v w : LaneView) → StandAll (k ∷ ks) v → w.hands ≡ without_entry (entry_of k) v.hands → w.sys ≡ v.sys → StandAll ks w
 stand-rest k ks v w all hands sys = record {
   named = rw sys (and_parts (is_named v.sys k) (list_all (λ e. is_named v.sys e) ks) all.named).1;
   counts = λ t.
@@ -102,18 +102,18 @@ stand-rest k ks v w all hands sys = record {
 }
 
 -- more in the hands takes nothing away
-pub stand-still : (ks : List Entry) (v w : LaneView) → StandAll ks v → ((t : Token) → count_of t v.hands ≤ count_of t w.hands) → w.sys ≡ v.sys → StandAll ks w
+pub stand-still : (ks : List HeldEntry) (v w : LaneView) → StandAll ks v → ((t : Token) → count_of t v.hands ≤ count_of t w.hands) → w.sys ≡ v.sys → StandAll ks w
 stand-still ks v w all more sys = record { named = rw sys all.named; counts = λ t. omega (arith, more t, all.counts t) }
 
-pub stand-same : (ks : List Entry) (v w : LaneView) → StandAll ks v → w.hands ≡ v.hands → w.sys ≡ v.sys → StandAll ks w
+pub stand-same : (ks : List HeldEntry) (v w : LaneView) → StandAll ks v → w.hands ≡ v.hands → w.sys ≡ v.sys → StandAll ks w
 stand-same ks v w all hands sys = stand-still ks v w all (λ t. rw hands (omega arith)) sys
 
-pub stands-named : (e : Entry) (v : LaneView) → Stands e v → is_named v.sys e ≡ true
+pub stands-named : (e : HeldEntry) (v : LaneView) → EntryStands e v → is_named v.sys e ≡ true
 stands-named (token.Static sig) v h = h
 stands-named (token.Pool k) v h = lt-ltb 0 k.pool h.0
 
 -- one more entry at the end of a list, whose token came to the hands
-pub stand-more : (ks : List Entry) (e : Entry) (v w : LaneView) → StandAll ks v → Stands e w → w.hands ≡ with_entry (entry_of e) v.hands → w.sys ≡ v.sys → StandAll (ks ++ e ∷ []) w
+pub stand-more : (ks : List HeldEntry) (e : HeldEntry) (v w : LaneView) → StandAll ks v → EntryStands e w → w.hands ≡ with_entry (entry_of e) v.hands → w.sys ≡ v.sys → StandAll (ks ++ e ∷ []) w
 stand-more ks e v w all stands hands sys = record {
   named = all-push (λ x. is_named w.sys x) ks e (rw sys all.named) (stands-named e w stands);
   counts = λ t.
@@ -123,14 +123,14 @@ stand-more ks e v w all stands hands sys = record {
 }
 
 -- the others of a list may be handed in too
-pub stand-tail : (k : Entry) (ks : List Entry) (v : LaneView) → StandAll (k ∷ ks) v → StandAll ks v
+pub stand-tail : (k : HeldEntry) (ks : List HeldEntry) (v : LaneView) → StandAll (k ∷ ks) v → StandAll ks v
 stand-tail k ks v all = record {
   named = (and_parts (is_named v.sys k) (list_all (λ e. is_named v.sys e) ks) all.named).1;
   counts = λ t. let front = count-with t (entry_of k) (tokens_in (map entry_of ks)) in omega (arith, front, all.counts t);
 }
 
 -- the hands have the entry that was taken, and the object keeps it
-pub taken-hands : (me : ℕ) (e : Entry) (v w : LaneView) → TakesIt me e v w → w.hands ≡ with_entry (entry_of e) v.hands
+pub taken-hands : (me : ℕ) (e : HeldEntry) (v w : LaneView) → TakesIt me e v w → w.hands ≡ with_entry (entry_of e) v.hands
 unfolding hands_after hands_by
 taken-hands me e v w t = t.adds.grows.hands
 

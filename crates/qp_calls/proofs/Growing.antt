@@ -6,11 +6,11 @@ use Rattle.qp_model.specs.declared.words.Word.{Word}
 use Rattle.qp_model.specs.declared.bodies.Entry as model
 use Rattle.qp_model.specs.Told.{Told, ToldItem, for_object}
 use Rattle.qp_model.specs.Parts.{is_static}
-use Rattle.qp_calls.specs.declared.tokens.Entry.{Entry}
-use Rattle.qp_calls.specs.declared.tokens.Entry.TheVariants as token
+use Rattle.qp_calls.specs.declared.tokens.HeldEntry.{HeldEntry}
+use Rattle.qp_calls.specs.declared.tokens.HeldEntry.TheVariants as token
 use Rattle.qp_calls.specs.Tokens.{token_of, stands, handles, hands_after}
 use Rattle.qp_calls.specs.LaneView.{LaneView, Gains, Grows, Roomier, is_known, handled_in, placed_by, mark_by, mark_after, Own, own_of, own_after}
-use Rattle.qp_calls.specs.Clauses.{Stands}
+use Rattle.qp_calls.specs.Clauses.{EntryStands}
 use Rattle.qp_calls.proofs.HandLemmas.{hands-append, stands-after, handled}
 
 pub mark-append : (w : Word) (n : ℕ) (g h : List ToldItem) → mark_after w n (g ++ h) ≡ mark_after w (mark_after w n g) h
@@ -146,9 +146,9 @@ grows-room g a b c room second =
     room-then (map (for_object a.by) g) a b c room on
 
 -- what stands in the hands still does where they are the same
-pub stands-still : (e : Entry) (a b : LaneView) → b.hands ≡ a.hands → b.sys ≡ a.sys → Stands e a → Stands e b
+pub stands-still : (e : HeldEntry) (a b : LaneView) → b.hands ≡ a.hands → b.sys ≡ a.sys → EntryStands e a → EntryStands e b
 stands-still (token.Static sig) a b hands sys h = subst (λ s. IsTrue (is_static s sig)) (sym sys) h
 stands-still (token.Pool k) a b hands sys h = (h.0, rw hands h.1)
 
-pub stands-roomier : (e : Entry) (a b : LaneView) → Roomier a b → Stands e a → Stands e b
+pub stands-roomier : (e : HeldEntry) (a b : LaneView) → Roomier a b → EntryStands e a → EntryStands e b
 stands-roomier e a b room h = stands-still e a b (rw room.same refl) (rw room.same refl) h

@@ -12,10 +12,10 @@ use Rattle.qp_model.specs.Shapes.{Fits, Defers, MakesAgain, again_by, MakesAgain
 use Rattle.qp_model.proofs.DeferralLemmas.{kept-append}
 use Rattle.qp_calls.specs.declared.deferred.Deferred.{Deferred}
 use Rattle.qp_calls.specs.declared.did.Did.TheVariants as did
-use Rattle.qp_calls.specs.declared.tokens.Entry.{Entry}
+use Rattle.qp_calls.specs.declared.tokens.HeldEntry.{HeldEntry}
 use Rattle.qp_calls.specs.Tokens.{with_entry, hands_after, hands_by}
-use Rattle.qp_calls.specs.LaneView.{LaneView, Grows, Adds, Roomier}
-use Rattle.qp_calls.specs.Clauses.{Stands, entry_of}
+use Rattle.qp_calls.specs.LaneView.{LaneView, Grows, AddsTold, Roomier}
+use Rattle.qp_calls.specs.Clauses.{EntryStands, entry_of}
 use Rattle.qp_calls.specs.Entries.{Again}
 use Rattle.qp_calls.specs.Deferring.{AnswersKept, StandAll, kept_in}
 use Rattle.qp_calls.proofs.Growing.{grows-room, grows-then, stands-still}
@@ -39,7 +39,7 @@ unfolding hands_after hands_by
 no_defer_hands v w g = g.hands
 
 -- a full list
-pub defer-full : (e : model.Entry) (kept : Deferred) (a r q w : LaneView) → Roomier a r → q ≡ r → Adds (plain NoDefer ∷ []) q w
+pub defer-full : (e : model.Entry) (kept : Deferred) (a r q w : LaneView) → Roomier a r → q ≡ r → AddsTold (plain NoDefer ∷ []) q w
     → nat_lt (length kept.entries.items) kept.entries.capacity ≡ false → StandAll kept.entries.items a → AnswersKept (Some e) call.Defer (did.Value 0) kept kept a w
 unfolding Fits Defers KeepsDeferred kept_after keep
 defer-full e kept a r q w room same one full stand =
@@ -58,8 +58,8 @@ defer-full e kept a r q w room same one full stand =
     }
 
 -- the entry comes to the end of the list
-pub defer-done : (e : model.Entry) (made : Entry) (kept more : Deferred) (a r q v w : LaneView) → Roomier a r → q ≡ r → Again e made q v
-    → Adds (plain (Defer (entry_of made)) ∷ []) v w → nat_lt (length kept.entries.items) kept.entries.capacity ≡ true
+pub defer-done : (e : model.Entry) (made : HeldEntry) (kept more : Deferred) (a r q v w : LaneView) → Roomier a r → q ≡ r → Again e made q v
+    → AddsTold (plain (Defer (entry_of made)) ∷ []) v w → nat_lt (length kept.entries.items) kept.entries.capacity ≡ true
     → more.entries ≡ record { items = kept.entries.items ++ made ∷ []; capacity = kept.entries.capacity } → StandAll kept.entries.items a
     → AnswersKept (Some e) call.Defer (did.Value 1) kept more a w
 unfolding Fits Defers MakesAgainNow KeepsDeferred kept_after keep
@@ -73,7 +73,7 @@ defer-done e made kept more a r q v w room same again one some more_is stand =
     let sys : w.sys ≡ a.sys = one.grows.sys ∙ first.sys in
     let items : more.entries.items ≡ kept.entries.items ++ made ∷ [] = rw more_is refl in
     let listed : kept_in more ≡ kept_in kept ++ entry_of made ∷ [] = rw (items, map-append entry_of kept.entries.items (made ∷ [])) refl in
-    let stands : Stands made w = stands-still made v w (defer_hands (entry_of made) v w one.grows) one.grows.sys again.stands in
+    let stands : EntryStands made w = stands-still made v w (defer_hands (entry_of made) v w one.grows) one.grows.sys again.stands in
     record {
       answer = Granted;
       g = again.head ++ note ∷ [];

@@ -3,18 +3,18 @@ use Rattle.std.proofs.Common.{◌≡◌, ℕ, ◌<◌, true, false, List, [], �
 use Rattle.qp_model.specs.declared.systems.System.{System}
 use Rattle.qp_model.specs.declared.bodies.Entry as model
 use Rattle.qp_model.specs.declared.bodies.Body.TheVariants.{Inc, Short, NoBlock, Post, Lifo, Full, NoEntry, NoLifo}
-use Rattle.qp_model.specs.Told.{Event, plain, given}
+use Rattle.qp_model.specs.Told.{Event, plain, told_new}
 use Rattle.qp_model.specs.Calls.{Granted, Refused, AtQueue, AtPool, AtFront}
 use Rattle.qp_model.specs.Parts.{is_static, first_pool, sizes_of}
 use Rattle.qp_model.specs.Shapes.{Posts, PostsFront, MakesBlock, MakesNew, NoBlockFor}
 use Rattle.qp_calls.specs.declared.did.Did.{Did}
 use Rattle.qp_calls.specs.declared.did.Did.TheVariants as did
 use Rattle.qp_calls.specs.declared.tokens.Fresh.{Fresh}
-use Rattle.qp_calls.specs.declared.tokens.Entry.{Entry}
-use Rattle.qp_calls.specs.declared.tokens.Entry.TheVariants as token
+use Rattle.qp_calls.specs.declared.tokens.HeldEntry.{HeldEntry}
+use Rattle.qp_calls.specs.declared.tokens.HeldEntry.TheVariants as token
 use Rattle.qp_calls.specs.Tokens.{Hold, Held, Loose, take_out, without_entry, hands_after, hands_by}
 use Rattle.qp_calls.specs.LaneView.{LaneView, Grows}
-use Rattle.qp_calls.specs.Clauses.{GivesOut, GivesNone, Makes, PostsIt, PostsNot, PutsFront, PutsNot, Stands, StandsFresh, entry_of}
+use Rattle.qp_calls.specs.Clauses.{GivesOut, GivesNone, Makes, PostsIt, PostsNot, PutsFront, PutsNot, EntryStands, StandsFresh, entry_of}
 use Rattle.qp_calls.specs.Entries.{Made, Unmade, PostsEntry, PostsFirst, Refuses, Released, Unposted, is_value}
 use Rattle.qp_calls.proofs.Growing.{grows-then, gains-none, stands-still}
 use Rattle.qp_calls.proofs.HandLemmas.{held-first, loose-first}
@@ -35,17 +35,17 @@ unfolding hands_after hands_by
 lifo_hands f l m e a v g = g.hands
 
 -- a refused post leaves the hands as they were
-full_hands : (margin : Option ℕ) (to f l m : ℕ) (e same : Entry) (a v : LaneView) → PostsNot to e same margin f l m a v → v.hands ≡ a.hands
+full_hands : (margin : Option ℕ) (to f l m : ℕ) (e same : HeldEntry) (a v : LaneView) → PostsNot to e same margin f l m a v → v.hands ≡ a.hands
 unfolding hands_after hands_by
 full_hands (Some k) to f l m e same a v h = h.adds.grows.hands
 full_hands None to f l m e same a v h = h.adds.grows.hands
 
 -- the entry comes back
-pub back-stands : (margin : Option ℕ) (to f l m : ℕ) (e same : Entry) (a v : LaneView) → PostsNot to e same margin f l m a v → Stands e a → Stands same v
+pub back-stands : (margin : Option ℕ) (to f l m : ℕ) (e same : HeldEntry) (a v : LaneView) → PostsNot to e same margin f l m a v → EntryStands e a → EntryStands same v
 back-stands margin to f l m e same a v h s =
-    subst (λ x. Stands x v) (sym h.given_back) (stands-still e a v (full_hands margin to f l m e same a v h) h.adds.grows.sys s)
+    subst (λ x. EntryStands x v) (sym h.given_back) (stands-still e a v (full_hands margin to f l m e same a v h) h.adds.grows.sys s)
 
-pub posted-done : (to : ℕ) (e : Entry) (margin : Option ℕ) (a v : LaneView) → PostsIt to e margin a v → PostsEntry to margin (entry_of e) (did.Value 1) a v
+pub posted-done : (to : ℕ) (e : HeldEntry) (margin : Option ℕ) (a v : LaneView) → PostsIt to e margin a v → PostsEntry to margin (entry_of e) (did.Value 1) a v
 unfolding Posts
 posted-done to e margin a v h = record {
   answer = Granted;
@@ -56,7 +56,7 @@ posted-done to e margin a v h = record {
   hands = λ is. post_hands to h.f h.l h.m (entry_of e) a v h.adds.grows;
 }
 
-pub posted-short : (margin : Option ℕ) (to f l m : ℕ) (e same : Entry) (d : Did) (a v w : LaneView)
+pub posted-short : (margin : Option ℕ) (to f l m : ℕ) (e same : HeldEntry) (d : Did) (a v w : LaneView)
     → PostsNot to e same margin f l m a v → Refuses margin 1 d → Unposted margin (entry_of same) v w → PostsEntry to margin (entry_of e) d a w
 unfolding Posts
 posted-short (Some k) to f l m e same d a v w h said rel =
@@ -80,7 +80,7 @@ posted-short None to f l m e same d a v w h said rel = record {
 
 -- Last-in posts.
 
-pub front-done : (e : Entry) (a v : LaneView) → PutsFront e a v → PostsFirst (entry_of e) (did.Value 1) a v
+pub front-done : (e : HeldEntry) (a v : LaneView) → PutsFront e a v → PostsFirst (entry_of e) (did.Value 1) a v
 unfolding PostsFront
 front-done e a v h = record {
   answer = Granted;
@@ -93,15 +93,15 @@ front-done e a v h = record {
   spare = omega (arith, h.adds.spare);
 }
 
-no_lifo_hands : (e same : Entry) (f l m : ℕ) (a v : LaneView) → PutsNot e same f l m a v → v.hands ≡ a.hands
+no_lifo_hands : (e same : HeldEntry) (f l m : ℕ) (a v : LaneView) → PutsNot e same f l m a v → v.hands ≡ a.hands
 unfolding hands_after hands_by
 no_lifo_hands e same f l m a v h = h.adds.grows.hands
 
-pub front-stands : (e same : Entry) (f l m : ℕ) (a v : LaneView) → PutsNot e same f l m a v → Stands e a → Stands same v
+pub front-stands : (e same : HeldEntry) (f l m : ℕ) (a v : LaneView) → PutsNot e same f l m a v → EntryStands e a → EntryStands same v
 front-stands e same f l m a v h s =
-    subst (λ x. Stands x v) (sym h.given_back) (stands-still e a v (no_lifo_hands e same f l m a v h) h.adds.grows.sys s)
+    subst (λ x. EntryStands x v) (sym h.given_back) (stands-still e a v (no_lifo_hands e same f l m a v h) h.adds.grows.sys s)
 
-pub front-short : (e same : Entry) (f l m : ℕ) (a v w : LaneView) → PutsNot e same f l m a v → w ≡ v → PostsFirst (entry_of e) (did.Assert 5) a w
+pub front-short : (e same : HeldEntry) (f l m : ℕ) (a v w : LaneView) → PutsNot e same f l m a v → w ≡ v → PostsFirst (entry_of e) (did.Assert 5) a w
 unfolding PostsFront
 front-short e same f l m a v w h left =
     subst (λ x. PostsFirst (entry_of e) (did.Assert 5) a x) (sym left)
@@ -118,7 +118,7 @@ front-short e same f l m a v w h left =
 
 -- New events.
 
-given_hands : (p n b from sig free : ℕ) (pars : List ℕ) (a v : LaneView) → Grows (given p n b from sig pars free ∷ []) a v → v.hands ≡ Loose p b false ∷ a.hands
+given_hands : (p n b from sig free : ℕ) (pars : List ℕ) (a v : LaneView) → Grows (told_new p n b from sig pars free ∷ []) a v → v.hands ≡ Loose p b false ∷ a.hands
 unfolding hands_after hands_by
 given_hands p n b from sig free pars a v g = g.hands
 
@@ -143,14 +143,14 @@ made-given p reserve ev f made a v w some pool h first =
     let inc : Grows (plain (Inc p made.block made.name) ∷ []) v w =
     subst (λ x. Grows (plain (Inc x made.block made.name) ∷ []) v w) h.its_pool
     (subst (λ x. Grows (plain (Inc f.pool x made.name) ∷ []) v w) (sym block) first.adds.grows) in
-    let new : Grows (given p h.number made.block h.from ev.sig ev.pars h.free ∷ []) a v =
-    subst (λ x. Grows (given p h.number x h.from ev.sig ev.pars h.free ∷ []) a v) (sym block) h.adds.grows in
+    let new : Grows (told_new p h.number made.block h.from ev.sig ev.pars h.free ∷ []) a v =
+    subst (λ x. Grows (told_new p h.number x h.from ev.sig ev.pars h.free ∷ []) a v) (sym block) h.adds.grows in
     let hands : w.hands ≡ Held p made.block made.name ∷ a.hands =
     inc_hands p made.block made.name v w inc
     ∙ rw (given_hands p h.number made.block h.from ev.sig h.free ev.pars a v new, take_out-first (Loose p made.block false) a.hands) refl in
     record {
-      head = given p h.number made.block h.from ev.sig ev.pars h.free ∷ plain (Inc p made.block made.name) ∷ [];
-      grows = grows-then (given p h.number made.block h.from ev.sig ev.pars h.free ∷ []) (plain (Inc p made.block made.name) ∷ []) a v w new inc;
+      head = told_new p h.number made.block h.from ev.sig ev.pars h.free ∷ plain (Inc p made.block made.name) ∷ [];
+      grows = grows-then (told_new p h.number made.block h.from ev.sig ev.pars h.free ∷ []) (plain (Inc p made.block made.name) ∷ []) a v w new inc;
       makes = (p, h.number, made.block, h.from, h.free, made.name, refl, rw same refl, pool, h.enough);
       stands = (rw same some, rw (same, hands) (held-first p made.block made.name a.hands));
       hands = rw same (hands ∙ sym (with-pool p made.block made.name a.hands some));

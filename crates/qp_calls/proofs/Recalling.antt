@@ -14,11 +14,11 @@ use Rattle.circular_buffer.specs.Buffer.{Buffer}
 use Rattle.qp_calls.specs.declared.deferred.Deferred.{Deferred}
 use Rattle.qp_calls.specs.declared.did.Did.{Did}
 use Rattle.qp_calls.specs.declared.did.Did.TheVariants as did
-use Rattle.qp_calls.specs.declared.tokens.Entry.{Entry}
-use Rattle.qp_calls.specs.declared.tokens.Entry.TheVariants as token
+use Rattle.qp_calls.specs.declared.tokens.HeldEntry.{HeldEntry}
+use Rattle.qp_calls.specs.declared.tokens.HeldEntry.TheVariants as token
 use Rattle.qp_calls.specs.Tokens.{Token, Held, with_entry, without_entry, hands_after, hands_by}
-use Rattle.qp_calls.specs.LaneView.{LaneView, Grows, Adds, Roomier}
-use Rattle.qp_calls.specs.Clauses.{Stands, entry_of}
+use Rattle.qp_calls.specs.LaneView.{LaneView, Grows, AddsTold, Roomier}
+use Rattle.qp_calls.specs.Clauses.{EntryStands, entry_of}
 use Rattle.qp_calls.specs.Entries.{Again, PostsFirst, Released, did_of, is_value}
 use Rattle.qp_calls.specs.Deferring.{AnswersKept, FlushesEntry, RecallsOne, StandAll, kept_in, tokens_in}
 use Rattle.qp_calls.proofs.HandLemmas.{stands-with}
@@ -53,8 +53,8 @@ note_hands : (k : model.Entry) (a v : LaneView) → Grows (plain (item.Recall k)
 unfolding hands_after hands_by
 note_hands k a v g = g.hands
 
-pub recalled-value : (k : Entry) (made : Entry) (n : ℕ) (a v x y w : LaneView)
-    → Adds (plain (item.Recall (entry_of k)) ∷ []) a v → Again (entry_of k) made v x → PostsFirst (entry_of made) (did.Value n) x y → Released (entry_of k) y w
+pub recalled-value : (k : HeldEntry) (made : HeldEntry) (n : ℕ) (a v x y w : LaneView)
+    → AddsTold (plain (item.Recall (entry_of k)) ∷ []) a v → Again (entry_of k) made v x → PostsFirst (entry_of made) (did.Value n) x y → Released (entry_of k) y w
     → RecallsOne (entry_of k) (did.Value n) a w
 unfolding Recalls
 recalled-value k made n a v x y w note again post rel =
@@ -79,8 +79,8 @@ recalled-value k made n a v x y w note again post rel =
       left = λ no. absurd (cc);
     }
 
-pub recalled-assert : (k : Entry) (made : Entry) (code : ℕ) (a v x y w : LaneView)
-    → Adds (plain (item.Recall (entry_of k)) ∷ []) a v → Again (entry_of k) made v x → PostsFirst (entry_of made) (did.Assert code) x y → w ≡ y
+pub recalled-assert : (k : HeldEntry) (made : HeldEntry) (code : ℕ) (a v x y w : LaneView)
+    → AddsTold (plain (item.Recall (entry_of k)) ∷ []) a v → Again (entry_of k) made v x → PostsFirst (entry_of made) (did.Assert code) x y → w ≡ y
     → RecallsOne (entry_of k) (did.Assert code) a w
 unfolding Recalls
 recalled-assert k made code a v x y w note again post left =
@@ -104,8 +104,8 @@ recalled-assert k made code a v x y w note again post left =
     }
 
 -- an entry that stood still does where an entry came and went, or came alone
-pub recalled-stands : (k : Entry) (made : Entry) (n : ℕ) (a v x y : LaneView)
-    → Adds (plain (item.Recall (entry_of k)) ∷ []) a v → Again (entry_of k) made v x → PostsFirst (entry_of made) (did.Value n) x y → Stands k a → Stands k y
+pub recalled-stands : (k : HeldEntry) (made : HeldEntry) (n : ℕ) (a v x y : LaneView)
+    → AddsTold (plain (item.Recall (entry_of k)) ∷ []) a v → Again (entry_of k) made v x → PostsFirst (entry_of made) (did.Value n) x y → EntryStands k a → EntryStands k y
 recalled-stands k made n a v x y note again post h =
     stands-still k a y
     (post.hands refl ∙ ap (λ z. without_entry (entry_of made) z) again.hands ∙ without-with (entry_of made) v.hands ∙ note_hands (entry_of k) a v note.grows)
@@ -124,7 +124,7 @@ pub entry-same : (e : model.Entry) → same_entry e e ≡ true
 entry-same e = rw (same_number e.pool, same_number e.block, same_number e.name) refl
 
 -- the oldest entry of the list is recalled
-pub recall-kept : (k : Entry) (kept more : Deferred) (d : Did) (a r q w : LaneView) → Roomier a r → q ≡ r → RecallsOne (entry_of k) d q w
+pub recall-kept : (k : HeldEntry) (kept more : Deferred) (d : Did) (a r q w : LaneView) → Roomier a r → q ≡ r → RecallsOne (entry_of k) d q w
     → kept.entries.items ≡ k ∷ more.entries.items → more.entries.capacity ≡ kept.entries.capacity → StandAll kept.entries.items a → AnswersKept None call.Recall d kept more a w
 unfolding Fits KeepsDeferred kept_after keep
 recall-kept k kept more d a r q w room same one items cap stand =
@@ -163,7 +163,7 @@ unfolding hands_after hands_by
 no_recall_hands v w g = g.hands
 
 -- an empty list
-pub recall-none : (kept more : Deferred) (a r q w : LaneView) → Roomier a r → q ≡ r → Adds (plain item.NoRecall ∷ []) q w → kept.entries.items ≡ [] → more.entries.items ≡ []
+pub recall-none : (kept more : Deferred) (a r q w : LaneView) → Roomier a r → q ≡ r → AddsTold (plain item.NoRecall ∷ []) q w → kept.entries.items ≡ [] → more.entries.items ≡ []
     → more.entries.capacity ≡ kept.entries.capacity → StandAll kept.entries.items a → AnswersKept None call.Recall (did.Value 0) kept more a w
 unfolding Fits Recalls KeepsDeferred kept_after keep
 recall-none kept more a r q w room same one items none cap stand =
@@ -182,17 +182,17 @@ recall-none kept more a r q w room same one items none cap stand =
     }
 
 -- what is left of a list whose first entry was taken
-pub popped : (kept more : Buffer Entry) (k : Entry) → Some k ≡ slice_get kept.items 0 → more ≡ record { items = drop 1 kept.items; capacity = kept.capacity } → kept.items ≡ k ∷ more.items
+pub popped : (kept more : Buffer HeldEntry) (k : HeldEntry) → Some k ≡ slice_get kept.items 0 → more ≡ record { items = drop 1 kept.items; capacity = kept.capacity } → kept.items ≡ k ∷ more.items
 popped kept more k first is = rw is (front-is kept.items k first)
 
-pub popped-none : (kept more : Buffer Entry) → more ≡ record { items = drop 1 kept.items; capacity = kept.capacity } → kept.items ≡ [] → more.items ≡ []
+pub popped-none : (kept more : Buffer HeldEntry) → more ≡ record { items = drop 1 kept.items; capacity = kept.capacity } → kept.items ≡ [] → more.items ≡ []
 popped-none kept more is none = rw (is, none) refl
 
-pub popped-cap : (kept more : Buffer Entry) → more ≡ record { items = drop 1 kept.items; capacity = kept.capacity } → more.capacity ≡ kept.capacity
+pub popped-cap : (kept more : Buffer HeldEntry) → more ≡ record { items = drop 1 kept.items; capacity = kept.capacity } → more.capacity ≡ kept.capacity
 popped-cap kept more is = rw is refl
 
 -- the first entry may be handed in
-pub front-stands_here : (items : List Entry) (k : Entry) (a r q : LaneView) → Roomier a r → q ≡ r → Some k ≡ slice_get items 0 → StandAll items a → Stands k q
+pub front-stands_here : (items : List HeldEntry) (k : HeldEntry) (a r q : LaneView) → Roomier a r → q ≡ r → Some k ≡ slice_get items 0 → StandAll items a → EntryStands k q
 front-stands_here items k a r q room same first stand =
     let all : StandAll (k ∷ drop 1 items) a = subst (λ xs. StandAll xs a) (front-is items k first) stand in
     stands-still k a q (rw (same, room.same) refl) (rw (same, room.same) refl) (stand-front k (drop 1 items) a all)
@@ -202,11 +202,11 @@ unfolding hands_after hands_by
 flush_hands k a v g = g.hands
 
 -- it may still be handed in after the note that it is flushed
-pub flushed-stands : (k : Entry) (q v : LaneView) → Adds (plain (item.Flush (entry_of k)) ∷ []) q v → Stands k q → Stands k v
+pub flushed-stands : (k : HeldEntry) (q v : LaneView) → AddsTold (plain (item.Flush (entry_of k)) ∷ []) q v → EntryStands k q → EntryStands k v
 flushed-stands k q v note h = stands-still k q v (flush_hands (entry_of k) q v note.grows) note.grows.sys h
 
 -- the oldest entry of the list is dropped
-pub flushed-one : (k : Entry) (kept more : Deferred) (a r q v w : LaneView) → Roomier a r → q ≡ r → Adds (plain (item.Flush (entry_of k)) ∷ []) q v → Released (entry_of k) v w
+pub flushed-one : (k : HeldEntry) (kept more : Deferred) (a r q v w : LaneView) → Roomier a r → q ≡ r → AddsTold (plain (item.Flush (entry_of k)) ∷ []) q v → Released (entry_of k) v w
     → kept.entries.items ≡ k ∷ more.entries.items → more.entries.capacity ≡ kept.entries.capacity → FlushesEntry kept more a w
 flushed-one k kept more a r q v w room same note rel items cap =
     let one : List Told = plain (item.Flush (entry_of k)) ∷ [] in
@@ -222,16 +222,16 @@ flushed-one k kept more a r q v w room same note rel items cap =
     }
 
 -- an entry that stood still does where another came
-pub recalled-left : (k : Entry) (made : Entry) (code : ℕ) (a v x y : LaneView)
-    → Adds (plain (item.Recall (entry_of k)) ∷ []) a v → Again (entry_of k) made v x → PostsFirst (entry_of made) (did.Assert code) x y → Stands k a → Stands k y
+pub recalled-left : (k : HeldEntry) (made : HeldEntry) (code : ℕ) (a v x y : LaneView)
+    → AddsTold (plain (item.Recall (entry_of k)) ∷ []) a v → Again (entry_of k) made v x → PostsFirst (entry_of made) (did.Assert code) x y → EntryStands k a → EntryStands k y
 recalled-left k made code a v x y note again post h =
     more k h
     (post.left refl ∙ again.hands ∙ ap (λ z. with_entry (entry_of made) z) (note_hands (entry_of k) a v note.grows))
     (post.grows.sys ∙ again.grows.sys ∙ note.grows.sys)
   where
-    more : (j : Entry) → Stands j a → y.hands ≡ with_entry (entry_of made) a.hands → y.sys ≡ a.sys → Stands j y
+    more : (j : HeldEntry) → EntryStands j a → y.hands ≡ with_entry (entry_of made) a.hands → y.sys ≡ a.sys → EntryStands j y
     more (token.Static sig) s hands sys = rw sys s
     more (token.Pool j) s hands sys = (s.0, rw hands (stands-with (Held j.pool j.block j.name) (entry_of made) a.hands s.1))
 
-pub recall_noted-stands : (k : Entry) (a v : LaneView) → Adds (plain (item.Recall (entry_of k)) ∷ []) a v → Stands k a → Stands k v
+pub recall_noted-stands : (k : HeldEntry) (a v : LaneView) → AddsTold (plain (item.Recall (entry_of k)) ∷ []) a v → EntryStands k a → EntryStands k v
 recall_noted-stands k a v note h = stands-still k a v (note_hands (entry_of k) a v note.grows) note.grows.sys h

@@ -6,10 +6,10 @@ use Rattle.qp_model.specs.Record.{entry}
 use Rattle.qp_model.specs.Told.{Told, plain, dropped}
 use Rattle.qp_model.specs.Shapes.{Drops, Releases, MakesAgain}
 use Rattle.qp_calls.specs.declared.tokens.Fresh.{Fresh}
-use Rattle.qp_calls.specs.declared.tokens.Entry.TheVariants as token
+use Rattle.qp_calls.specs.declared.tokens.HeldEntry.TheVariants as token
 use Rattle.qp_calls.specs.Tokens.{Hold, Token, Held, Loose, take_out, stands, with_entry, without_entry, hands_after, hands_by}
-use Rattle.qp_calls.specs.LaneView.{LaneView, Grows, Adds, mark_after, mark_by}
-use Rattle.qp_calls.specs.Clauses.{DropsOne, GoesBack, MakesMore, Stands, entry_of}
+use Rattle.qp_calls.specs.LaneView.{LaneView, Grows, AddsTold, mark_after, mark_by}
+use Rattle.qp_calls.specs.Clauses.{DropsOne, GoesBack, MakesMore, EntryStands, entry_of}
 use Rattle.qp_calls.specs.Entries.{Release, Again}
 use Rattle.qp_calls.proofs.HandLemmas.{loose-first, held-first, same-self}
 use Rattle.qp_calls.proofs.Growing.{grows-then, gains-none}
@@ -70,10 +70,10 @@ release-last h f a v w some one pool block back =
     let p = h.pool in
     let b = h.block in
     let d = one.number in
-    let to_pool : Adds (plain (Back p back.number f.block (v.mark (word.Block p f.block))) ∷ []) v w =
-    subst (λ x. Adds (plain (Back x back.number f.block (v.mark (word.Block x f.block))) ∷ []) v w) pool back.adds in
-    let moved : Adds (plain (Back p back.number b (v.mark (word.Block p b))) ∷ []) v w =
-    subst (λ x. Adds (plain (Back p back.number x (v.mark (word.Block p x))) ∷ []) v w) block to_pool in
+    let to_pool : AddsTold (plain (Back p back.number f.block (v.mark (word.Block p f.block))) ∷ []) v w =
+    subst (λ x. AddsTold (plain (Back x back.number f.block (v.mark (word.Block x f.block))) ∷ []) v w) pool back.adds in
+    let moved : AddsTold (plain (Back p back.number b (v.mark (word.Block p b))) ∷ []) v w =
+    subst (λ x. AddsTold (plain (Back p back.number x (v.mark (word.Block p x))) ∷ []) v w) block to_pool in
     let at : v.mark (word.Block p b) ≡ d + 1 = block_mark p b d h.name a v one.adds.grows ∙ sym (add-one d) in
     let last : Grows (plain (Back p back.number b (d + 1)) ∷ []) v w =
     subst (λ t. Grows (plain (Back p back.number b t) ∷ []) v w) at moved.grows in
@@ -96,7 +96,7 @@ release-static sig a = record { released = record { g = []; grows = gains-none a
 
 -- Another entry of the same event.
 
-pub again-static : (sig : ℕ) (a : LaneView) → Stands (token.Static sig) a → Again (entry 0 sig 0) (token.Static sig) a a
+pub again-static : (sig : ℕ) (a : LaneView) → EntryStands (token.Static sig) a → Again (entry 0 sig 0) (token.Static sig) a a
 unfolding MakesAgain entry_of
 again-static sig a fixed = record {
   head = [];

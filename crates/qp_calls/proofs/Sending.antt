@@ -19,13 +19,13 @@ use Rattle.qp_model.specs.WordLaw.{is_object}
 use Rattle.qp_calls.specs.declared.answers.RoomFault.{RoomFault}
 use Rattle.qp_calls.specs.declared.did.Did.{Did}
 use Rattle.qp_calls.specs.declared.did.Did.TheVariants as did
-use Rattle.qp_calls.specs.declared.tokens.Entry.{Entry}
-use Rattle.qp_calls.specs.declared.tokens.Entry.TheVariants as token
+use Rattle.qp_calls.specs.declared.tokens.HeldEntry.{HeldEntry}
+use Rattle.qp_calls.specs.declared.tokens.HeldEntry.TheVariants as token
 use Rattle.qp_calls.specs.Tokens.{Hold, without_entry}
 use Rattle.qp_calls.specs.LaneView.{LaneView, Grows, Roomier}
-use Rattle.qp_calls.specs.Clauses.{IsEvent, Stands, StandsHold, entry_of}
+use Rattle.qp_calls.specs.Clauses.{IsEvent, EntryStands, StandsHold, entry_of}
 use Rattle.qp_calls.specs.Entries.{Released}
-use Rattle.qp_calls.specs.Groups.{Answers}
+use Rattle.qp_calls.specs.Groups.{CallAnswers}
 use Rattle.qp_calls.specs.Publishing.{Announced, AreObjects, PostsAgain, PostsAll, PostsCut, PostsFront, PostsSome, PostsWhole, PublishCut, PublishesAll}
 use Rattle.qp_calls.proofs.Growing.{gains-none, grows-room, grows-then, stands-still}
 use Rattle.qp_calls.proofs.FirstPool.{pool_of_sound}
@@ -198,22 +198,22 @@ some-fixed sig all left a w some none = record {
 }
 
 -- the same by the entry's token
-pub kept-left : (made : Entry) (h : Hold) (all left : ℕ) (a v w : LaneView) → made ≡ token.Pool h → Stands made v → PostsSome (entry_of made) all left a v → left ≡ 0 → w ≡ v
+pub kept-left : (made : HeldEntry) (h : Hold) (all left : ℕ) (a v w : LaneView) → made ≡ token.Pool h → EntryStands made v → PostsSome (entry_of made) all left a v → left ≡ 0 → w ≡ v
     → PostsCut (entry_of made) all a w
 unfolding entry_of
 kept-left made h all left a v w is stands some none same =
-    let pooled : StandsHold h v = subst (λ x. Stands x v) is stands in
+    let pooled : StandsHold h v = subst (λ x. EntryStands x v) is stands in
     let at : PostsSome (entry h.pool h.block h.name) all left a v = subst (λ x. PostsSome (entry_of x) all left a v) is some in
     rw is (some-kept (entry h.pool h.block h.name) all left a v w at none same pooled.0)
 
-pub released-whole : (made : Entry) (h : Hold) (all left : ℕ) (a v r w : LaneView) → made ≡ token.Pool h → PostsSome (entry_of made) all left a v → left ≡ 0 → Roomier v r
+pub released-whole : (made : HeldEntry) (h : Hold) (all left : ℕ) (a v r w : LaneView) → made ≡ token.Pool h → PostsSome (entry_of made) all left a v → left ≡ 0 → Roomier v r
     → Released (entry h.pool h.block h.name) r w → PostsWhole (entry_of made) all a w
 unfolding entry_of
 released-whole made h all left a v r w is some none room rel =
     let at : PostsSome (entry h.pool h.block h.name) all left a v = subst (λ x. PostsSome (entry_of x) all left a v) is some in
     rw is (some-whole (entry h.pool h.block h.name) all left a v r w at none room rel)
 
-pub fixed-whole : (made : Entry) (sig all left : ℕ) (a w : LaneView) → made ≡ token.Static sig → PostsSome (entry_of made) all left a w → left ≡ 0 → PostsWhole (entry_of made) all a w
+pub fixed-whole : (made : HeldEntry) (sig all left : ℕ) (a w : LaneView) → made ≡ token.Static sig → PostsSome (entry_of made) all left a w → left ≡ 0 → PostsWhole (entry_of made) all a w
 unfolding entry_of
 fixed-whole made sig all left a w is some none =
     let at : PostsSome (entry 0 sig 0) all left a w = subst (λ x. PostsSome (entry_of x) all left a w) is some in
@@ -240,7 +240,7 @@ no_restore former [] = refl
 no_restore former (a ∷ ms) = refl
 
 -- its beginning, as a source makes it
-first-source : (ev : Event) (reserve : Option ℕ) (made : Entry) (all : ℕ) (fixed : Bool) (a r v : LaneView) → Roomier a r → fixed ≡ is_static r.sys ev.sig
+first-source : (ev : Event) (reserve : Option ℕ) (made : HeldEntry) (all : ℕ) (fixed : Bool) (a r v : LaneView) → Roomier a r → fixed ≡ is_static r.sys ev.sig
     → (first : Announced fixed ev reserve made all r v)
     → PublishesFirst (is_static a.sys ev.sig) (sizes_of a.sys) 0 ev.sig ev.pars reserve (entry_of made) 0 (members all) (first.head ++ (plain (item.Pub ev.sig first.number all) ∷ []))
 unfolding PublishesFirst
@@ -256,8 +256,8 @@ last-source : (e : model.Entry) (ms : List ℕ) (last : List Told) → Drops e l
 unfolding PublishesLast
 last-source e ms last drops = (last, drops, ap (λ x. x ++ last) (sym (no_restore 0 ms)))
 
-pub publish-value : (ev : Event) (reserve : Option ℕ) (made : Entry) (all n : ℕ) (fixed : Bool) (a r v w : LaneView) → Roomier a r → fixed ≡ is_static r.sys ev.sig
-    → Announced fixed ev reserve made all r v → (n ≡ 1) → PostsWhole (entry_of made) all v w → Answers a.sys 0 None (call.Publish ev.sig ev.pars reserve) (did.Value n) a w
+pub publish-value : (ev : Event) (reserve : Option ℕ) (made : HeldEntry) (all n : ℕ) (fixed : Bool) (a r v w : LaneView) → Roomier a r → fixed ≡ is_static r.sys ev.sig
+    → Announced fixed ev reserve made all r v → (n ≡ 1) → PostsWhole (entry_of made) all v w → CallAnswers a.sys 0 None (call.Publish ev.sig ev.pars reserve) (did.Value n) a w
 unfolding Fits Publishes
 publish-value ev reserve made all n fixed a r v w room is_fixed first one whole =
     let sys : v.sys ≡ a.sys = let here : r.sys ≡ a.sys = rw room.same refl in first.grows.sys ∙ here in
@@ -284,8 +284,8 @@ publish-value ev reserve made all n fixed a r v w room is_fixed first one whole 
       hands = λ is. whole.hands ∙ ap (λ x. without_entry (entry_of made) x) first.hands ∙ without-with (entry_of made) r.hands ∙ rw room.same refl;
     }
 
-pub publish-assert : (ev : Event) (reserve : Option ℕ) (made : Entry) (all code : ℕ) (fixed : Bool) (a r v w : LaneView) → Roomier a r → fixed ≡ is_static r.sys ev.sig
-    → Announced fixed ev reserve made all r v → (code ≡ 1) → PostsFront (entry_of made) all v w → Answers a.sys 0 None (call.Publish ev.sig ev.pars reserve) (did.Assert code) a w
+pub publish-assert : (ev : Event) (reserve : Option ℕ) (made : HeldEntry) (all code : ℕ) (fixed : Bool) (a r v w : LaneView) → Roomier a r → fixed ≡ is_static r.sys ev.sig
+    → Announced fixed ev reserve made all r v → (code ≡ 1) → PostsFront (entry_of made) all v w → CallAnswers a.sys 0 None (call.Publish ev.sig ev.pars reserve) (did.Assert code) a w
 unfolding Fits Publishes
 publish-assert ev reserve made all code fixed a r v w room is_fixed first one front =
     let sys : v.sys ≡ a.sys = let here : r.sys ≡ a.sys = rw room.same refl in first.grows.sys ∙ here in
@@ -301,7 +301,7 @@ publish-assert ev reserve made all code fixed a r v w room is_fixed first one fr
       hands = λ is. absurd (cc);
     }
 
-pub publish-cut : (ev : Event) (reserve : Option ℕ) (made : Entry) (all : ℕ) (fixed : Bool) (a r v w : LaneView) → Roomier a r → fixed ≡ is_static r.sys ev.sig
+pub publish-cut : (ev : Event) (reserve : Option ℕ) (made : HeldEntry) (all : ℕ) (fixed : Bool) (a r v w : LaneView) → Roomier a r → fixed ≡ is_static r.sys ev.sig
     → Announced fixed ev reserve made all r v → PostsCut (entry_of made) all v w → PublishCut ev reserve a w
 unfolding Fits Publishes
 publish-cut ev reserve made all fixed a r v w room is_fixed first cut =
@@ -334,7 +334,7 @@ publish-cut ev reserve made all fixed a r v w room is_fixed first cut =
     missing (inl pooled) = some-back cut.rest (could_drop (entry_of made)).0 ((could_drop (entry_of made)).2 pooled)
     missing (inr some) = some-front cut.rest (could_drop (entry_of made)).0 some
 
-pub publish-all : (ev : Event) (reserve : Option ℕ) (made : Entry) (all : ℕ) (fixed : Bool) (a r v w : LaneView) → Roomier a r → fixed ≡ is_static r.sys ev.sig
+pub publish-all : (ev : Event) (reserve : Option ℕ) (made : HeldEntry) (all : ℕ) (fixed : Bool) (a r v w : LaneView) → Roomier a r → fixed ≡ is_static r.sys ev.sig
     → Announced fixed ev reserve made all r v → (result : Result Did RoomFault) → PostsAll (entry_of made) all v w result → PublishesAll ev reserve a w result
 publish-all ev reserve made all fixed a r v w room is first (Ok (did.Value n)) h = publish-value ev reserve made all n fixed a r v w room is first h.0 h.1
 publish-all ev reserve made all fixed a r v w room is first (Ok (did.Assert code)) h = publish-assert ev reserve made all code fixed a r v w room is first h.0 h.1
@@ -372,7 +372,7 @@ publish-none ev reserve a w sound is same =
     record { answer = could.0; g = []; rest = could.1.0; grows = subst (λ x. Grows [] a x) (sym same) (gains-none a); fits = could.1.1; some = could.1.2 }
 
 -- the entry of a publication stands on after a post
-pub after-post : (e : Entry) (to n : ℕ) (v r w : LaneView) → Stands e v → Roomier v r → PostsAgain (entry_of e) to (did.Value n) r w → Stands e w
+pub after-post : (e : HeldEntry) (to n : ℕ) (v r w : LaneView) → EntryStands e v → Roomier v r → PostsAgain (entry_of e) to (did.Value n) r w → EntryStands e w
 after-post e to n v r w stands room post =
     let sys : r.sys ≡ v.sys = rw room.same refl in
     let hands : r.hands ≡ v.hands = rw room.same refl in

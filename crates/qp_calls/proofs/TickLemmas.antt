@@ -21,7 +21,7 @@ use Rattle.qp_model.proofs.ListLemmas.{every-at}
 use Rattle.qp_calls.specs.declared.did.Did.{Did}
 use Rattle.qp_calls.specs.declared.did.Did.TheVariants as did
 use Rattle.qp_calls.specs.Tokens.{hands_after, hands_by}
-use Rattle.qp_calls.specs.LaneView.{LaneView, Gains, Grows, AddsOf, Adds, Roomier}
+use Rattle.qp_calls.specs.LaneView.{LaneView, Gains, Grows, AddsOf, AddsTold, Roomier}
 use Rattle.qp_calls.specs.Entries.{PostsEntry, did_of}
 use Rattle.qp_calls.specs.Ticking.{FiredInVain, GrowsByTicks, TickCut, TickedAll, TickedSome, TickedTimer, TicksTimer, by_ticker, timer_of}
 use Rattle.qp_calls.proofs.Growing.{gains-none, gains-then, room-then}
@@ -49,7 +49,7 @@ ticks-then g h a b c first second =
     let on : Gains (map (by_ticker a.by) h) b c = subst (λ o. Gains (map (by_ticker o) h) b c) first.by second in
     rw (map-append (by_ticker a.by) g h) (gains-then (map (by_ticker a.by) g) (map (by_ticker a.by) h) a b c first on)
 
-pub tick-idle : (t object sig n : ℕ) (a r w : LaneView) → Roomier a r → Adds (plain (item.Idle t n) ∷ []) r w → TickedTimer t object sig a w
+pub tick-idle : (t object sig n : ℕ) (a r w : LaneView) → Roomier a r → AddsTold (plain (item.Idle t n) ∷ []) r w → TickedTimer t object sig a w
 unfolding TicksOne
 tick-idle t object sig n a r w room h = record {
   g = plain (item.Idle t n) ∷ [];

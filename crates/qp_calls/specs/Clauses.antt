@@ -14,13 +14,13 @@ use Rattle.qp_model.specs.declared.bodies.Entry as model
 use Rattle.qp_model.specs.declared.bodies.Body.{Body}
 use Rattle.qp_model.specs.declared.bodies.Body.TheVariants.{Nil, Seen, Short, Inc, Back, Post, Lifo, Full, Pub, Sub, Unsub, Arm, Disarm, Rearm, Idle, Tick, Fire, NoEntry, NoBlock, Armed, NoLifo}
 use Rattle.qp_model.specs.Record.{entry}
-use Rattle.qp_model.specs.Told.{Told, ToldItem, Event, plain, taken, given, dropped, same_in}
+use Rattle.qp_model.specs.Told.{Told, ToldItem, Event, plain, told_took, told_new, dropped, same_in}
 use Rattle.qp_model.specs.Sites.{ring_of}
 use Rattle.qp_model.specs.Parts.{is_static, room_before, sizes_of, members}
 use Rattle.qp_model.specs.WordLaw.{is_object}
 use Rattle.qp_calls.specs.declared.tokens.Fresh.{Fresh}
-use Rattle.qp_calls.specs.declared.tokens.Entry.{Entry}
-use Rattle.qp_calls.specs.declared.tokens.Entry.TheVariants as token
+use Rattle.qp_calls.specs.declared.tokens.HeldEntry.{HeldEntry}
+use Rattle.qp_calls.specs.declared.tokens.HeldEntry.TheVariants as token
 use Rattle.qp_calls.specs.declared.answers.RoomFault.{RoomFault}
 use Rattle.qp_calls.specs.declared.answers.RoomFault.TheVariants as fault
 use Rattle.qp_calls.specs.declared.answers.Counts as counts
@@ -37,12 +37,12 @@ use Rattle.qp_calls.specs.declared.answers.Arm.TheVariants as armed
 use Rattle.qp_calls.specs.declared.answers.Tick as ticking
 use Rattle.qp_calls.specs.declared.answers.Tick.TheVariants as ticked
 use Rattle.qp_calls.specs.Tokens.{Hold, Held, Loose, stands}
-use Rattle.qp_calls.specs.LaneView.{LaneView, Shown, FreeBlocks, References, Counts, NotShown, Adds, AddsOf, Looks, is_codeless}
+use Rattle.qp_calls.specs.LaneView.{LaneView, Shown, FreeBlocks, References, Counts, NotShown, AddsTold, AddsOf, Looks, is_codeless}
 
 -- Tokens and entries.
 
 -- an entry as records state it
-unfoldable pub entry_of : Entry → model.Entry
+unfoldable pub entry_of : HeldEntry → model.Entry
 entry_of (token.Static sig) = entry 0 sig 0
 entry_of (token.Pool h) = entry h.pool h.block h.name
 
@@ -53,9 +53,9 @@ StandsHold h v = (0 < h.pool) × IsTrue (stands (Held h.pool h.block h.name) v.h
 abbrev pub StandsFresh : Fresh → LaneView → Type 0
 StandsFresh f v = (0 < f.pool) × IsTrue (stands (Loose f.pool f.block f.used) v.hands)
 
-abbrev pub Stands : Entry → LaneView → Type 0
-Stands (token.Static sig) v = IsTrue (is_static v.sys sig)
-Stands (token.Pool h) v = StandsHold h v
+abbrev pub EntryStands : HeldEntry → LaneView → Type 0
+EntryStands (token.Static sig) v = IsTrue (is_static v.sys sig)
+EntryStands (token.Pool h) v = StandsHold h v
 
 -- Events.
 
@@ -109,7 +109,7 @@ pub record GivesOut (pool : ℕ) (reserve : Option ℕ) (ev : Event) (f : Fresh)
   pub number : ℕ
   pub from : ℕ
   pub free : ℕ
-  pub adds : Adds (given pool number f.block from ev.sig ev.pars free ∷ []) old new
+  pub adds : AddsTold (told_new pool number f.block from ev.sig ev.pars free ∷ []) old new
   pub its_pool : f.pool ≡ pool
   pub unused : IsFalse f.used
   pub enough : IsTrue (nat_lt (unwrap_or reserve 0) free)
@@ -123,13 +123,13 @@ shortage_of (Some r) pool n free = Short pool n free r
 shortage_of None pool n free = NoBlock pool n free
 
 pub record GivesNone (pool : ℕ) (reserve : Option ℕ) (n free : ℕ) (old new : LaneView) : Type 0 where
-  pub adds : Adds (plain (shortage_of reserve pool n free) ∷ []) old new
+  pub adds : AddsTold (plain (shortage_of reserve pool n free) ∷ []) old new
   pub few : free ≤ unwrap_or reserve 0
   pub says : new.shown (word.Pool pool) ≡ FreeBlocks free
 
-abbrev pub Gives : ℕ → Option ℕ → Event → LaneView → LaneView → Give → Type 0
-Gives pool reserve ev old new (give.Given f) = GivesOut pool reserve ev f old new
-Gives pool reserve ev old new (give.Short n free) = GivesNone pool reserve n free old new
+abbrev pub GivesBlock : ℕ → Option ℕ → Event → LaneView → LaneView → Give → Type 0
+GivesBlock pool reserve ev old new (give.Given f) = GivesOut pool reserve ev f old new
+GivesBlock pool reserve ev old new (give.Short n free) = GivesNone pool reserve n free old new
 
 abbrev pub draws_given : Give → ℕ
 draws_given (give.Given f) = 1
@@ -137,7 +137,7 @@ draws_given (give.Short n free) = 0
 
 -- a reference is made, after which so many stand
 pub record Makes (p b count : ℕ) (old new : LaneView) (h : Hold) : Type 0 where
-  pub adds : Adds (plain (Inc p b h.name) ∷ []) old new
+  pub adds : AddsTold (plain (Inc p b h.name) ∷ []) old new
   pub its_pool : h.pool ≡ p
   pub its_block : h.block ≡ b
   pub draws : Draws (word.Block p b) (References count) old new
@@ -151,7 +151,7 @@ pub record MakesMore (h : Hold) (old new : LaneView) (made : Hold) : Type 0 wher
 -- the reference is dropped, and so many are left
 pub record DropsOne (h : Hold) (left : ℕ) (old new : LaneView) : Type 0 where
   pub number : ℕ
-  pub adds : Adds (dropped h.pool h.block number h.name left ∷ []) old new
+  pub adds : AddsTold (dropped h.pool h.block number h.name left ∷ []) old new
   pub draws : Draws (word.Block h.pool h.block) (References left) old new
 
 -- the block is used and loose where none is left
@@ -163,7 +163,7 @@ LetsGo h old new (dec.Last f) = DropsOne h 0 old new × (f.pool ≡ h.pool) × (
 pub record GoesBack (f : Fresh) (old new : LaneView) : Type 0 where
   pub number : ℕ
   pub others : ℕ
-  pub adds : Adds (plain (Back f.pool number f.block (old.mark (word.Block f.pool f.block))) ∷ []) old new
+  pub adds : AddsTold (plain (Back f.pool number f.block (old.mark (word.Block f.pool f.block))) ∷ []) old new
   pub draws : Draws (word.Pool f.pool) (FreeBlocks (suc others)) old new
 
 -- Queues.
@@ -178,11 +178,11 @@ pub record ShowsQueue (a f l m : ℕ) (new : LaneView) : Type 0 where
   pub own : AreOwn a l m new
 
 -- an entry is posted; before it more entries were free than the margin
-pub record PostsIt (to : ℕ) (e : Entry) (margin : Option ℕ) (old new : LaneView) : Type 0 where
+pub record PostsIt (to : ℕ) (e : HeldEntry) (margin : Option ℕ) (old new : LaneView) : Type 0 where
   pub f : ℕ
   pub l : ℕ
   pub m : ℕ
-  pub adds : Adds (plain (Post to f l m (entry_of e)) ∷ []) old new
+  pub adds : AddsTold (plain (Post to f l m (entry_of e)) ∷ []) old new
   pub enough : IsTrue (nat_lt (unwrap_or margin 0) (room_before (ring_of old.sys to) f l m))
   pub up : old.mark (word.Queue to) < new.mark (word.Queue to)
   pub shows : ShowsQueue to f l m new
@@ -192,54 +192,54 @@ abbrev pub refusal_of : Option ℕ → ℕ → ℕ → ℕ → ℕ → Body
 refusal_of (Some k) to f l m = Full to f l m k
 refusal_of None to f l m = NoEntry to f l m
 
-pub record PostsNot (to : ℕ) (e same : Entry) (margin : Option ℕ) (f l m : ℕ) (old new : LaneView) : Type 0 where
-  pub adds : Adds (plain (refusal_of margin to f l m) ∷ []) old new
+pub record PostsNot (to : ℕ) (e same : HeldEntry) (margin : Option ℕ) (f l m : ℕ) (old new : LaneView) : Type 0 where
+  pub adds : AddsTold (plain (refusal_of margin to f l m) ∷ []) old new
   pub given_back : same ≡ e
   pub few : ring_of old.sys to + 1 - (f + l - m) ≤ unwrap_or margin 0
   pub shows : ShowsQueue to f l m new
 
-abbrev pub Claims : ℕ → Entry → Option ℕ → LaneView → LaneView → Claim → Type 0
-Claims to e margin old new claim.Done = PostsIt to e margin old new
-Claims to e margin old new (claim.Short same f l m) = PostsNot to e same margin f l m old new
+abbrev pub ClaimsEntry : ℕ → HeldEntry → Option ℕ → LaneView → LaneView → Claim → Type 0
+ClaimsEntry to e margin old new claim.Done = PostsIt to e margin old new
+ClaimsEntry to e margin old new (claim.Short same f l m) = PostsNot to e same margin f l m old new
 
 abbrev pub draws_claimed : Claim → ℕ
 draws_claimed claim.Done = 1
 draws_claimed (claim.Short same f l m) = 0
 
 -- a last-in post to the object's own queue, which had a free entry
-pub record PutsFront (e : Entry) (old new : LaneView) : Type 0 where
+pub record PutsFront (e : HeldEntry) (old new : LaneView) : Type 0 where
   pub f : ℕ
   pub l : ℕ
   pub m : ℕ
-  pub adds : Adds (plain (Lifo f l m (entry_of e)) ∷ []) old new
+  pub adds : AddsTold (plain (Lifo f l m (entry_of e)) ∷ []) old new
   pub enough : f + (l - 1) - m ≤ ring_of old.sys old.by
   pub up : old.mark (word.Queue old.by) < new.mark (word.Queue old.by)
   pub shows : ShowsQueue old.by f l m new
 
-pub record PutsNot (e same : Entry) (f l m : ℕ) (old new : LaneView) : Type 0 where
-  pub adds : Adds (plain (NoLifo old.by f l m) ∷ []) old new
+pub record PutsNot (e same : HeldEntry) (f l m : ℕ) (old new : LaneView) : Type 0 where
+  pub adds : AddsTold (plain (NoLifo old.by f l m) ∷ []) old new
   pub given_back : same ≡ e
   pub full : f + l - m ≡ ring_of old.sys old.by + 1
   pub shows : ShowsQueue old.by f l m new
 
-abbrev pub ClaimsFront : Entry → LaneView → LaneView → Claim → Type 0
+abbrev pub ClaimsFront : HeldEntry → LaneView → LaneView → Claim → Type 0
 ClaimsFront e old new claim.Done = PutsFront e old new
 ClaimsFront e old new (claim.Short same f l m) = PutsNot e same f l m old new
 
 -- a static event has its signal and no parameters
-abbrev pub EventIs : Entry → LaneView → Type 0
+abbrev pub EventIs : HeldEntry → LaneView → Type 0
 EventIs (token.Static sig) v = v.event (entry 0 sig 0) ≡ record { sig = sig; pars = [] }
 EventIs (token.Pool h) v = ⊤
 
 -- the front entry is taken; its event is one of the system
-pub record TakesIt (me : ℕ) (e : Entry) (old new : LaneView) : Type 0 where
+pub record TakesIt (me : ℕ) (e : HeldEntry) (old new : LaneView) : Type 0 where
   pub f : ℕ
   pub l : ℕ
   pub m : ℕ
-  pub adds : AddsOf me (taken f l m (entry_of e) (new.event (entry_of e)) ∷ []) old new
+  pub adds : AddsOf me (told_took f l m (entry_of e) (new.event (entry_of e)) ∷ []) old new
   pub some : m ≤ f + l
   pub up : old.mark (word.Queue me) < new.mark (word.Queue me)
-  pub stands : Stands e new
+  pub stands : EntryStands e new
   pub event : IsEvent new.sys (new.event (entry_of e))
   pub fixed : EventIs e new
   pub shows : ShowsQueue me f l m new
@@ -278,21 +278,21 @@ Counted p old new c = Looks (word.Queue p) (c.f + c.l + c.m) (Counts c.f c.l c.m
 
 -- a number of the word was drawn by this record
 abbrev pub Does : Word → (ℕ → Told) → LaneView → LaneView → Type 0
-Does w t old new = (n : ℕ) × Adds (t n ∷ []) old new × (old.mark w < new.mark w)
+Does w t old new = (n : ℕ) × AddsTold (t n ∷ []) old new × (old.mark w < new.mark w)
 
 -- the answer tells whether the set changed
 abbrev pub Subscribing : ℕ → LaneView → LaneView → Bool → Type 0
 Subscribing sig old new true = Does (word.Signal sig) (λ n. plain (Sub sig n)) old new
-Subscribing sig old new false = (n : ℕ) × Adds (same_in sig n true ∷ []) old new
+Subscribing sig old new false = (n : ℕ) × AddsTold (same_in sig n true ∷ []) old new
 
 abbrev pub Unsubscribing : ℕ → LaneView → LaneView → Bool → Type 0
 Unsubscribing sig old new true = Does (word.Signal sig) (λ n. plain (Unsub sig n)) old new
-Unsubscribing sig old new false = (n : ℕ) × Adds (same_in sig n false ∷ []) old new
+Unsubscribing sig old new false = (n : ℕ) × AddsTold (same_in sig n false ∷ []) old new
 
 -- the set shown, whose members are objects of the system
-abbrev pub Reads : ℕ → LaneView → LaneView → ℕ → Type 0
-Reads sig old new set =
-    (n : ℕ) × Adds (plain (Pub sig n set) ∷ []) old new × IsTrue (list_all (λ a. is_object new.sys a) (members set))
+abbrev pub ReadsSubscribers : ℕ → LaneView → LaneView → ℕ → Type 0
+ReadsSubscribers sig old new set =
+    (n : ℕ) × AddsTold (plain (Pub sig n set) ∷ []) old new × IsTrue (list_all (λ a. is_object new.sys a) (members set))
 
 -- Time events.
 
@@ -305,7 +305,7 @@ pub record Owns (v : LaneView) (t : ℕ) : Type 0 where
 
 abbrev pub Arms : ℕ → ℕ → ℕ → LaneView → LaneView → arming.Arm → Type 0
 Arms t ticks interval old new armed.Done = Does (word.Timer t) (λ n. plain (Arm t n ticks interval)) old new
-Arms t ticks interval old new (armed.Armed n c) = Adds (plain (Armed t n c) ∷ []) old new × (0 < c)
+Arms t ticks interval old new (armed.Armed n c) = AddsTold (plain (Armed t n c) ∷ []) old new × (0 < c)
 
 abbrev pub draws_armed : arming.Arm → ℕ
 draws_armed armed.Done = 1
@@ -313,7 +313,7 @@ draws_armed (armed.Armed n c) = 0
 
 -- the answer is the former counter
 abbrev pub Disarms : ℕ → LaneView → LaneView → ℕ → Type 0
-Disarms t old new zero = (n : ℕ) × Adds (plain (Idle t n) ∷ []) old new
+Disarms t old new zero = (n : ℕ) × AddsTold (plain (Idle t n) ∷ []) old new
 Disarms t old new (suc c) = Does (word.Timer t) (λ n. plain (Disarm t n (suc c))) old new
 
 abbrev pub draws_disarmed : ℕ → ℕ
@@ -329,7 +329,7 @@ TickedTo t told old new =
     (n : ℕ) × AddsOf 0 (told n ∷ []) old new × (old.mark (word.Timer t) < new.mark (word.Timer t))
 
 abbrev pub TicksOne : ℕ → LaneView → LaneView → ticking.Tick → Type 0
-TicksOne t old new ticked.Idle = (n : ℕ) × Adds (plain (Idle t n) ∷ []) old new
+TicksOne t old new ticked.Idle = (n : ℕ) × AddsTold (plain (Idle t n) ∷ []) old new
 TicksOne t old new ticked.Down = (counter : ℕ) × (0 < counter) × TickedTo t (λ n. plain (Tick t n counter)) old new
 TicksOne t old new ticked.Fired = (reload : ℕ) × TickedTo t (λ n. plain (Fire t n reload)) old new
 

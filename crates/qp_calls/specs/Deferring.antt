@@ -15,8 +15,8 @@ use Rattle.qp_model.specs.Shapes.{Fits, Drops, Recalls, Flushes}
 use Rattle.qp_calls.specs.declared.answers.RoomFault.{RoomFault}
 use Rattle.qp_calls.specs.declared.deferred.Deferred.{Deferred}
 use Rattle.qp_calls.specs.declared.did.Did.{Did}
-use Rattle.qp_calls.specs.declared.tokens.Entry.{Entry}
-use Rattle.qp_calls.specs.declared.tokens.Entry.TheVariants as token
+use Rattle.qp_calls.specs.declared.tokens.HeldEntry.{HeldEntry}
+use Rattle.qp_calls.specs.declared.tokens.HeldEntry.TheVariants as token
 use Rattle.qp_calls.specs.Tokens.{Token, with_entry, without_entry}
 use Rattle.qp_calls.specs.Counting.{count_of}
 use Rattle.qp_calls.specs.LaneView.{LaneView, Grows}
@@ -33,12 +33,12 @@ tokens_in (e ∷ es) = with_entry e (tokens_in es)
 abbrev pub kept_in : Deferred → List model.Entry
 kept_in list = map entry_of list.entries.items
 
-abbrev pub is_named : System → Entry → Bool
+abbrev pub is_named : System → HeldEntry → Bool
 is_named sys (token.Static sig) = is_static sys sig
 is_named sys (token.Pool h) = nat_lt 0 h.pool
 
 -- the entries of a list may be handed in, each for itself
-pub record StandAll (entries : List Entry) (v : LaneView) : Type 0 where
+pub record StandAll (entries : List HeldEntry) (v : LaneView) : Type 0 where
   pub named : IsTrue (list_all (λ e. is_named v.sys e) entries)
   pub counts : (t : Token) → count_of t (tokens_in (map entry_of entries)) ≤ count_of t v.hands
 
@@ -77,7 +77,7 @@ pub record RecallsOne (k : model.Entry) (d : Did) (old new : LaneView) : Type 0 
 
 -- the oldest entry of a list was dropped
 pub record FlushesEntry (kept more : Deferred) (old new : LaneView) : Type 0 where
-  pub k : Entry
+  pub k : HeldEntry
   pub rel : List Told
   pub grows : Grows (plain (item.Flush (entry_of k)) ∷ rel) old new
   pub drops : Drops (entry_of k) rel

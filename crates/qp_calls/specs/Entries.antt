@@ -10,10 +10,10 @@ use Rattle.qp_model.specs.Parts.{sizes_of}
 use Rattle.qp_model.specs.Shapes.{Drops, MakesNew, MakesAgain, NoBlockFor, Posts, PostsFront}
 use Rattle.qp_calls.specs.declared.did.Did.{Did}
 use Rattle.qp_calls.specs.declared.did.Did.TheVariants as did
-use Rattle.qp_calls.specs.declared.tokens.Entry.{Entry}
+use Rattle.qp_calls.specs.declared.tokens.HeldEntry.{HeldEntry}
 use Rattle.qp_calls.specs.Tokens.{with_entry, without_entry}
 use Rattle.qp_calls.specs.LaneView.{LaneView, Grows}
-use Rattle.qp_calls.specs.Clauses.{Stands, entry_of}
+use Rattle.qp_calls.specs.Clauses.{EntryStands, entry_of}
 
 -- what a group says of an answer
 abbrev pub did_of : Answer → Did
@@ -53,20 +53,20 @@ Unposted (Some k) e old new = Released e old new
 Unposted None e old new = new ≡ old
 
 -- another entry of the same event was made, with a reference of its own
-pub record Again (e : model.Entry) (made : Entry) (old new : LaneView) : Type 0 where
+pub record Again (e : model.Entry) (made : HeldEntry) (old new : LaneView) : Type 0 where
   pub head : List Told
   pub grows : Grows head old new
   pub again : MakesAgain e head (entry_of made)
-  pub stands : Stands made new
+  pub stands : EntryStands made new
   pub hands : new.hands ≡ with_entry (entry_of made) old.hands
   pub spare : old.spare ≤ new.spare + 1
 
 -- a new event got its entry
-pub record Made (fixed : Bool) (ev : Event) (reserve : Option ℕ) (made : Entry) (old new : LaneView) : Type 0 where
+pub record Made (fixed : Bool) (ev : Event) (reserve : Option ℕ) (made : HeldEntry) (old new : LaneView) : Type 0 where
   pub head : List Told
   pub grows : Grows head old new
   pub makes : MakesNew fixed (sizes_of old.sys) ev.sig ev.pars reserve head (entry_of made)
-  pub stands : Stands made new
+  pub stands : EntryStands made new
   pub hands : new.hands ≡ with_entry (entry_of made) old.hands
   pub spare : old.spare ≤ new.spare + 2
 
@@ -79,7 +79,7 @@ pub record Unmade (fixed : Bool) (ev : Event) (reserve : Option ℕ) (d : Did) (
   pub none : NoBlockFor fixed (sizes_of old.sys) ev.pars reserve answer g
   pub hands : new.hands ≡ old.hands
 
-abbrev pub MakesEntry : Bool → Event → Option ℕ → LaneView → LaneView → Result Entry Did → Type 0
+abbrev pub MakesEntry : Bool → Event → Option ℕ → LaneView → LaneView → Result HeldEntry Did → Type 0
 MakesEntry fixed ev reserve old new (Ok made) = Made fixed ev reserve made old new
 MakesEntry fixed ev reserve old new (Err d) = Unmade fixed ev reserve d old new
 

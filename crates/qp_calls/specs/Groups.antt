@@ -20,7 +20,7 @@ Refused fault old new = (new ≡ old) × IsFault old fault
 
 -- The records that a call of object o added to its lane fit the answer; a step works on the entry `now`. A value leaves
 -- the hands as they were.
-pub record Answers (sys : System) (o : ℕ) (now : Option model.Entry) (c : Call) (d : Did) (old new : LaneView) : Type 0 where
+pub record CallAnswers (sys : System) (o : ℕ) (now : Option model.Entry) (c : Call) (d : Did) (old new : LaneView) : Type 0 where
   pub answer : Answer
   pub g : List Told
   pub said : d ≡ did_of answer
@@ -30,7 +30,7 @@ pub record Answers (sys : System) (o : ℕ) (now : Option model.Entry) (c : Call
 
 -- the call answers, or `room` refused
 abbrev pub DoesCall : Option model.Entry → Call → LaneView → LaneView → Result Did RoomFault → Type 0
-DoesCall now c old new (Ok d) = Answers old.sys old.by now c d old new
+DoesCall now c old new (Ok d) = CallAnswers old.sys old.by now c d old new
 DoesCall now c old new (Err fault) = Refused fault old new
 
 -- a step has ended: the reference of its entry was dropped

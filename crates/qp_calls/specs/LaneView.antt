@@ -187,8 +187,8 @@ pub record AddsOf (o : ℕ) (g : List Told) (old new : LaneView) : Type 0 where
   pub grows : GrowsOf o g old new
   pub spare : new.spare + length g ≡ old.spare
 
-abbrev pub Adds : List Told → LaneView → LaneView → Type 0
-Adds g old new = AddsOf old.by g old new
+abbrev pub AddsTold : List Told → LaneView → LaneView → Type 0
+AddsTold g old new = AddsOf old.by g old new
 
 -- only the spare may grow
 pub record Roomier (old new : LaneView) : Type 0 where

@@ -19,29 +19,29 @@ use Rattle.qp_calls.specs.declared.did.Did.TheVariants as did
 use Rattle.qp_calls.specs.declared.publication.Publication.{Publication}
 use Rattle.qp_calls.specs.declared.publication.Begun.{Begun}
 use Rattle.qp_calls.specs.declared.publication.Begun.TheVariants as begun
-use Rattle.qp_calls.specs.declared.tokens.Entry.{Entry}
+use Rattle.qp_calls.specs.declared.tokens.HeldEntry.{HeldEntry}
 use Rattle.qp_calls.specs.Tokens.{with_entry, without_entry}
 use Rattle.qp_calls.specs.LaneView.{LaneView, Grows}
-use Rattle.qp_calls.specs.Clauses.{IsFault, Stands, entry_of}
+use Rattle.qp_calls.specs.Clauses.{IsFault, EntryStands, entry_of}
 use Rattle.qp_calls.specs.Entries.{Unmade, did_of, is_value}
-use Rattle.qp_calls.specs.Groups.{Answers, Refused}
+use Rattle.qp_calls.specs.Groups.{CallAnswers, Refused}
 
 -- every member is an object
 abbrev pub AreObjects : System → ℕ → Type 0
 AreObjects sys set = IsTrue (list_all (λ a. is_object sys a) (members set))
 
 -- a new event got its entry, and its subscribers were read
-pub record Announced (fixed : Bool) (ev : Event) (reserve : Option ℕ) (made : Entry) (set : ℕ) (old new : LaneView) : Type 0 where
+pub record Announced (fixed : Bool) (ev : Event) (reserve : Option ℕ) (made : HeldEntry) (set : ℕ) (old new : LaneView) : Type 0 where
   pub head : List Told
   pub number : ℕ
   pub grows : Grows (head ++ (plain (item.Pub ev.sig number set) ∷ [])) old new
   pub makes : MakesNew fixed (sizes_of old.sys) ev.sig ev.pars reserve head (entry_of made)
-  pub stands : Stands made new
+  pub stands : EntryStands made new
   pub hands : new.hands ≡ with_entry (entry_of made) old.hands
   pub objects : AreObjects new.sys set
   pub spare : old.spare ≤ new.spare + 3
 
-abbrev pub Announces : Bool → Event → Option ℕ → LaneView → LaneView → Result (Entry × ℕ) Did → Type 0
+abbrev pub Announces : Bool → Event → Option ℕ → LaneView → LaneView → Result (HeldEntry × ℕ) Did → Type 0
 Announces fixed ev reserve old new (Ok made) = Announced fixed ev reserve made.0 made.1 old new
 Announces fixed ev reserve old new (Err d) = Unmade fixed ev reserve d old new
 
@@ -71,7 +71,7 @@ pub record BeginsGoing (ev : Event) (reserve : Option ℕ) (ceiling : ℕ) (p : 
   pub left : p.left ≡ p.all
   pub former : p.former ≡ ceiling
   pub objects : AreObjects new.sys p.all
-  pub stands : Stands p.entry new
+  pub stands : EntryStands p.entry new
   pub hands : new.hands ≡ with_entry (entry_of p.entry) old.hands
 
 abbrev pub Begins : Event → Option ℕ → ℕ → LaneView → LaneView → Result Begun RoomFault → Type 0
@@ -89,7 +89,7 @@ pub record GoesOnGoing (p q : Publication) (old new : LaneView) : Type 0 where
   pub g : List Told
   pub grows : Grows g old new
   pub fits : PostsOne (ring_of old.sys to) (entry_of p.entry) to Granted g
-  pub stands : Stands q.entry new
+  pub stands : EntryStands q.entry new
   pub hands : new.hands ≡ old.hands
 
 -- or that one's queue had no free entry
@@ -102,10 +102,10 @@ pub record GoesOnAssert (p : Publication) (d : Did) (old new : LaneView) : Type 
   pub grows : Grows g old new
   pub fits : PostsOne (ring_of old.sys to) (entry_of p.entry) to AtQueue g
 
-abbrev pub GoesOn : Publication → LaneView → LaneView → Result Begun RoomFault → Type 0
-GoesOn p old new (Ok (begun.Going q)) = GoesOnGoing p q old new
-GoesOn p old new (Ok (begun.Did d)) = GoesOnAssert p d old new
-GoesOn p old new (Err fault) = Refused fault old new
+abbrev pub PublishingGoesOn : Publication → LaneView → LaneView → Result Begun RoomFault → Type 0
+PublishingGoesOn p old new (Ok (begun.Going q)) = GoesOnGoing p q old new
+PublishingGoesOn p old new (Ok (begun.Did d)) = GoesOnAssert p d old new
+PublishingGoesOn p old new (Err fault) = Refused fault old new
 
 -- it has ended
 pub record EndsGoing (p : Publication) (d : Did) (old new : LaneView) : Type 0 where
@@ -168,5 +168,5 @@ pub record PublishCut (ev : Event) (reserve : Option ℕ) (old new : LaneView) :
   pub some : rest ≢ []
 
 abbrev pub PublishesAll : Event → Option ℕ → LaneView → LaneView → Result Did RoomFault → Type 0
-PublishesAll ev reserve old new (Ok d) = Answers old.sys 0 None (call.Publish ev.sig ev.pars reserve) d old new
+PublishesAll ev reserve old new (Ok d) = CallAnswers old.sys 0 None (call.Publish ev.sig ev.pars reserve) d old new
 PublishesAll ev reserve old new (Err fault) = PublishCut ev reserve old new × IsFault new fault

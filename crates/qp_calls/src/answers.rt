@@ -1,6 +1,6 @@
 //! The answers of the calls of a lane.
 
-use crate::tokens::{Entry, Fresh};
+use crate::tokens::{Fresh, HeldEntry};
 
 /// Why a lane has no room for eight more records.
 #[derive(Drop)]
@@ -42,7 +42,7 @@ pub enum Claim {
     Done,
     /// The entry comes back; the queue showed these counts, with too few free entries.
     Short {
-        entry: Entry,
+        entry: HeldEntry,
         f: u32,
         l: u32,
         m: u32,
@@ -52,7 +52,7 @@ pub enum Claim {
 /// The front entry of a queue.
 #[derive(Drop)]
 pub enum Take {
-    Taken(Entry),
+    Taken(HeldEntry),
     /// The queue was found empty at these counts.
     Empty { f: u32, l: u32, m: u32 },
 }

@@ -2,7 +2,7 @@
 
 use crate::deferred::Deferred;
 use crate::publication::Publication;
-use crate::tokens::{Entry, Fresh, Hold};
+use crate::tokens::{Fresh, HeldEntry, Hold};
 
 fn goes<T: Send>() {}
 
@@ -10,7 +10,7 @@ fn goes<T: Send>() {}
 pub fn tokens_cross_threads() {
     goes::<Fresh>();
     goes::<Hold>();
-    goes::<Entry>();
+    goes::<HeldEntry>();
     goes::<Publication>();
     goes::<Deferred>();
 }

@@ -3,7 +3,7 @@
 ghost use Rattle.std.specs.Prelude.{◌≡◌, ◌<◌, ◌≤◌, IsTrue, Some, None, length};
 ghost use Rattle.qp_model.specs.Calls as call;
 ghost use Rattle.qp_model.specs.WordLaw.{is_object};
-ghost use Rattle.qp_calls.specs.Clauses.{Stands, entry_of};
+ghost use Rattle.qp_calls.specs.Clauses.{EntryStands, entry_of};
 ghost use Rattle.qp_calls.specs.Deferring.{DefersCall, FlushesAll, FlushesOne, RecallsOne, StandAll};
 
 use crate::answers::RoomFault;
@@ -11,7 +11,7 @@ use crate::deferred::Deferred;
 use crate::did::Did;
 use crate::entries::{again, drop_entry, post_front};
 use crate::ops::Ops;
-use crate::tokens::Entry;
+use crate::tokens::HeldEntry;
 use qp_base::Steps;
 use qp_model::Rec;
 use std::sync::ledger::Ledger;
@@ -28,16 +28,16 @@ pub(crate) fn object<O: Ops>(ops: &mut O) -> u8
 
 /// An entry as records state it.
 #[tactic(auto, unfolding(crate::specs::Clauses::entry_of))]
-fn stated(e: &Entry) -> qp_model::Entry
+fn stated(e: &HeldEntry) -> qp_model::Entry
     ensures { result ≡ entry_of e.now }
 {
     match e {
-        Entry::Static(sig) => qp_model::Entry {
+        HeldEntry::Static(sig) => qp_model::Entry {
             pool: 0,
             block: u64::from(*sig),
             name: 0,
         },
-        Entry::Pool(h) => qp_model::Entry {
+        HeldEntry::Pool(h) => qp_model::Entry {
             pool: u64::from(h.pool()),
             block: u64::from(h.block()),
             name: h.name(),
@@ -46,8 +46,8 @@ fn stated(e: &Entry) -> qp_model::Entry
 }
 
 /// Defers the entry that a step works on, with a reference of its own, and answers 1; 0 where the list is full.
-pub fn defer<O: Ops>(ops: &mut O, list: &mut Deferred, now: &Entry) -> Result<Did, RoomFault>
-    requires stands { Stands now.now (O.lane ops.old) }
+pub fn defer<O: Ops>(ops: &mut O, list: &mut Deferred, now: &HeldEntry) -> Result<Did, RoomFault>
+    requires stands { EntryStands now.now (O.lane ops.old) }
     requires kept { StandAll list.old.entries.items (O.lane ops.old) }
     ensures { DefersCall (Some (entry_of now.now)) call.Defer list.old list.new (O.lane ops.old) (O.lane ops.new) result }
 {
@@ -87,12 +87,12 @@ pub fn recall<O: Ops, L: Ledger>(
 }
 
 /// Posts a deferred entry last-in with a new reference, and drops the deferral's.
-fn recall_entry<O: Ops, L: Ledger>(ops: &mut O, k: Entry, o: u8, steps: &mut Steps<L>) -> Did
+fn recall_entry<O: Ops, L: Ledger>(ops: &mut O, k: HeldEntry, o: u8, steps: &mut Steps<L>) -> Did
     requires room { 8 ≤ (O.lane ops.old).spare }
     requires mine { o ≡ (O.lane ops.old).by }
     requires object { IsTrue (is_object (O.lane ops.old).sys (O.lane ops.old).by) }
     requires serves { IsTrue ((O.lane ops.old).serves (O.lane ops.old).by) }
-    requires stands { Stands k (O.lane ops.old) }
+    requires stands { EntryStands k (O.lane ops.old) }
     ensures { RecallsOne (entry_of k) result (O.lane ops.old) (O.lane ops.new) }
 {
     ops.note(Rec::recall(o, stated(&k)));

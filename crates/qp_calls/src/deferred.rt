@@ -2,7 +2,7 @@
 
 ghost use Rattle.std.specs.Prelude.{◌≡◌, ◌≤◌, IfOk, [], length, nat_lt, not};
 
-use crate::tokens::Entry;
+use crate::tokens::HeldEntry;
 use circular_buffer::HeapCircularBuffer;
 use qp_base::Memory;
 use std::alloc::Global;
@@ -10,7 +10,7 @@ use std::alloc::Global;
 /// Entries that an object has deferred, the oldest first, and room for at most so many.
 #[derive(Drop)]
 pub struct Deferred {
-    pub(crate) entries: HeapCircularBuffer<Entry>,
+    pub(crate) entries: HeapCircularBuffer<HeldEntry>,
     ghost few: { entries.capacity ≤ 255 },
 }
 

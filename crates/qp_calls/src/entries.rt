@@ -5,14 +5,14 @@ ghost use Rattle.qp_model.specs.Record.{entry};
 ghost use Rattle.qp_model.specs.Parts.{is_static};
 ghost use Rattle.qp_model.specs.Sound.{IsSound};
 ghost use Rattle.qp_model.specs.WordLaw.{is_object};
-ghost use Rattle.qp_calls.specs.Clauses.{IsEvent, Stands, StandsHold, entry_of, event_of};
+ghost use Rattle.qp_calls.specs.Clauses.{IsEvent, EntryStands, StandsHold, entry_of, event_of};
 ghost use Rattle.qp_calls.specs.Entries.{Again, MakesEntry, PostsEntry, PostsFirst, Refuses, Release, Unposted};
 
 use crate::answers::{Claim, Dec, Give};
 use crate::did::Did;
 use crate::ops::Ops;
 use crate::pools::pool_for;
-use crate::tokens::{Entry, Hold};
+use crate::tokens::{HeldEntry, Hold};
 use qp_base::{Ev, Steps};
 use qp_model::{System, stops};
 use std::sync::ledger::Ledger;
@@ -41,33 +41,33 @@ pub(crate) fn release<O: Ops>(ops: &mut O, h: Hold)
 
 /// Drops an entry's reference, if it has one.
 #[inline(always)]
-pub(crate) fn drop_entry<O: Ops>(ops: &mut O, e: Entry)
+pub(crate) fn drop_entry<O: Ops>(ops: &mut O, e: HeldEntry)
     requires room { 2 ≤ (O.lane ops.old).spare }
-    requires stands { Stands e (O.lane ops.old) }
+    requires stands { EntryStands e (O.lane ops.old) }
     ensures { Release (entry_of e) (O.lane ops.old) (O.lane ops.new) }
 {
     match e {
-        Entry::Static(_) => {}
-        Entry::Pool(h) => release(ops, h),
+        HeldEntry::Static(_) => {}
+        HeldEntry::Pool(h) => release(ops, h),
     }
 }
 
 /// Makes another entry of the same event, with a reference of its own.
-pub(crate) fn again<O: Ops>(ops: &mut O, e: &Entry) -> Entry
+pub(crate) fn again<O: Ops>(ops: &mut O, e: &HeldEntry) -> HeldEntry
     requires room { 0 < (O.lane ops.old).spare }
-    requires stands { Stands e.now (O.lane ops.old) }
+    requires stands { EntryStands e.now (O.lane ops.old) }
     ensures { Again (entry_of e.now) result (O.lane ops.old) (O.lane ops.new) }
 {
     match e {
-        Entry::Static(sig) => Entry::Static(*sig),
-        Entry::Pool(h) => Entry::Pool(ops.inc(h)),
+        HeldEntry::Static(sig) => HeldEntry::Static(*sig),
+        HeldEntry::Pool(h) => HeldEntry::Pool(ops.inc(h)),
     }
 }
 
 /// Drops the entry of a post that found no room, or leaves it where that is an assertion.
-fn unposted<O: Ops>(ops: &mut O, e: Entry, margin: Option<u8>) -> Did
+fn unposted<O: Ops>(ops: &mut O, e: HeldEntry, margin: Option<u8>) -> Did
     requires room { 2 ≤ (O.lane ops.old).spare }
-    requires stands { Stands e (O.lane ops.old) }
+    requires stands { EntryStands e (O.lane ops.old) }
     ensures did { Refuses margin 1 result }
     ensures adds { Unposted margin (entry_of e) (O.lane ops.old) (O.lane ops.new) }
 {
@@ -90,13 +90,13 @@ fn unposted<O: Ops>(ops: &mut O, e: Entry, margin: Option<u8>) -> Did
 pub(crate) fn post_entry<O: Ops, L: Ledger>(
     ops: &mut O,
     to: u8,
-    e: Entry,
+    e: HeldEntry,
     margin: Option<u8>,
     steps: &mut Steps<L>,
 ) -> Did
     requires room { 3 ≤ (O.lane ops.old).spare }
     requires object { IsTrue (is_object (O.lane ops.old).sys to) }
-    requires stands { Stands e (O.lane ops.old) }
+    requires stands { EntryStands e (O.lane ops.old) }
     ensures { PostsEntry to margin (entry_of e) result (O.lane ops.old) (O.lane ops.new) }
 {
     match ops.claim(to, e, margin, steps) {
@@ -106,11 +106,11 @@ pub(crate) fn post_entry<O: Ops, L: Ledger>(
 }
 
 /// Posts an entry last-in to the object set by `by`.
-pub(crate) fn post_front<O: Ops, L: Ledger>(ops: &mut O, e: Entry, steps: &mut Steps<L>) -> Did
+pub(crate) fn post_front<O: Ops, L: Ledger>(ops: &mut O, e: HeldEntry, steps: &mut Steps<L>) -> Did
     requires room { 0 < (O.lane ops.old).spare }
     requires object { IsTrue (is_object (O.lane ops.old).sys (O.lane ops.old).by) }
     requires serves { IsTrue ((O.lane ops.old).serves (O.lane ops.old).by) }
-    requires stands { Stands e (O.lane ops.old) }
+    requires stands { EntryStands e (O.lane ops.old) }
     ensures { PostsFirst (entry_of e) result (O.lane ops.old) (O.lane ops.new) }
 {
     match ops.lifo(e, steps) {
@@ -131,7 +131,7 @@ pub(crate) fn make<O: Ops, L: Ledger>(
     ev: &Ev,
     reserve: Option<u8>,
     steps: &mut Steps<L>,
-) -> Result<Entry, Did>
+) -> Result<HeldEntry, Did>
     requires room { 2 ≤ (O.lane ops.old).spare }
     requires of { (O.lane ops.old).sys ≡ sys.now }
     requires sound { IsSound sys.now }
@@ -142,7 +142,7 @@ pub(crate) fn make<O: Ops, L: Ledger>(
     let pool = pool_for(sys, ev.pars.len());
     match ops.give(pool, reserve, ev, steps) {
         Give::Short { .. } => Err(refused(reserve, 2)),
-        Give::Given(f) => Ok(Entry::Pool(ops.first(f))),
+        Give::Given(f) => Ok(HeldEntry::Pool(ops.first(f))),
     }
 }
 
@@ -153,7 +153,7 @@ pub(crate) fn make_entry<O: Ops, L: Ledger>(
     ev: &Ev,
     reserve: Option<u8>,
     steps: &mut Steps<L>,
-) -> Result<Entry, Did>
+) -> Result<HeldEntry, Did>
     requires room { 2 ≤ (O.lane ops.old).spare }
     requires of { (O.lane ops.old).sys ≡ sys.now }
     requires sound { IsSound sys.now }
@@ -161,7 +161,7 @@ pub(crate) fn make_entry<O: Ops, L: Ledger>(
     ensures { MakesEntry (is_static sys.now ev.now.sig) (event_of ev.now) reserve (O.lane ops.old) (O.lane ops.new) result }
 {
     if sys.is_static(u64::from(ev.sig)) {
-        return Ok(Entry::Static(ev.sig));
+        return Ok(HeldEntry::Static(ev.sig));
     }
     make(ops, sys, ev, reserve, steps)
 }

@@ -27,4 +27,4 @@ pub use posts::{end_step, forward, lifo_new, post, post_new, post_static};
 pub use publication::{Begun, Publication};
 pub use publishing::{publish, publish_begin, publish_end, publish_post};
 pub use ticks::tick_rate;
-pub use tokens::{Entry, Fresh, Hold};
+pub use tokens::{Fresh, HeldEntry, Hold};

@@ -7,10 +7,10 @@ ghost use Rattle.qp_model.specs.declared.words.Word.TheVariants as word;
 ghost use Rattle.qp_calls.specs.LaneView.{GrowsOf, LaneView, Roomier, Sets};
 ghost use Rattle.qp_calls.specs.LaneLaws.{HasCauses, IsWithinLimit};
 ghost use Rattle.qp_calls.specs.Notes.{MayNote, MayStop, spare_after, told_note};
-ghost use Rattle.qp_calls.specs.Clauses.{Arms, Claims, ClaimsFront, Counted, Disarms, Faults, FitsPool, Gives, GoesBack, IsEvent, LetsGo, Makes, MakesMore, Owns, Reads, Rearms, Sees, Stands, StandsFresh, StandsHold, Stopped, Stops, Subscribing, Takes, TicksOne, Tries, Unsubscribing, draws_armed, draws_claimed, draws_disarmed, draws_given, draws_ticked, event_of};
+ghost use Rattle.qp_calls.specs.Clauses.{Arms, ClaimsEntry, ClaimsFront, Counted, Disarms, Faults, FitsPool, GivesBlock, GoesBack, IsEvent, LetsGo, Makes, MakesMore, Owns, ReadsSubscribers, Rearms, Sees, EntryStands, StandsFresh, StandsHold, Stopped, Stops, Subscribing, Takes, TicksOne, Tries, Unsubscribing, draws_armed, draws_claimed, draws_disarmed, draws_given, draws_ticked, event_of};
 
 use crate::answers::{Arm, Claim, Counts, Dec, Give, RoomFault, Take, Tick};
-use crate::tokens::{Entry, Fresh, Hold};
+use crate::tokens::{Fresh, HeldEntry, Hold};
 use qp_base::{Ev, Steps};
 use qp_model::Rec;
 use std::sync::Wait;
@@ -56,7 +56,7 @@ pub trait Ops {
     ) -> Give
         requires room { 0 < (lane self.old).spare }
         requires fits { FitsPool (lane self.old).sys pool (event_of ev.now) }
-        ensures gives { Gives pool reserve (event_of ev.now) (lane self.old) (lane self.new) result }
+        ensures gives { GivesBlock pool reserve (event_of ev.now) (lane self.old) (lane self.new) result }
         ensures tries { Tries (word.Pool pool) (draws_given result)
             steps.old steps.new (lane self.old) (lane self.new) };
 
@@ -105,24 +105,24 @@ pub trait Ops {
     fn claim<L: Ledger>(
         &mut self,
         to: u8,
-        e: Entry,
+        e: HeldEntry,
         margin: Option<u8>,
         steps: &mut Steps<L>,
     ) -> Claim
         requires room { 0 < (lane self.old).spare }
         requires object { IsTrue (is_object (lane self.old).sys to) }
-        requires stands { Stands e (lane self.old) }
-        ensures claims { Claims to e margin (lane self.old) (lane self.new) result }
+        requires stands { EntryStands e (lane self.old) }
+        ensures claims { ClaimsEntry to e margin (lane self.old) (lane self.new) result }
         ensures tries { Tries (word.Queue to) (draws_claimed result)
             steps.old steps.new (lane self.old) (lane self.new) };
 
     /// Posts an entry last-in to the object set by `by`, where an entry is free. Otherwise it comes back, and the
     /// record is `assert` 5.
-    fn lifo<L: Ledger>(&mut self, e: Entry, steps: &mut Steps<L>) -> Claim
+    fn lifo<L: Ledger>(&mut self, e: HeldEntry, steps: &mut Steps<L>) -> Claim
         requires room { 0 < (lane self.old).spare }
         requires object { IsTrue (is_object (lane self.old).sys (lane self.old).by) }
         requires serves { IsTrue ((lane self.old).serves (lane self.old).by) }
-        requires stands { Stands e (lane self.old) }
+        requires stands { EntryStands e (lane self.old) }
         ensures claims { ClaimsFront e (lane self.old) (lane self.new) result }
         ensures tries { Tries (word.Queue (lane self.old).by) (draws_claimed result)
             steps.old steps.new (lane self.old) (lane self.new) };
@@ -165,7 +165,7 @@ pub trait Ops {
     fn subscribers(&mut self, sig: u16) -> u32
         requires room { 0 < (lane self.old).spare }
         requires signal { IsTrue (is_signal (lane self.old).sys sig) }
-        ensures { Reads sig (lane self.old) (lane self.new) result };
+        ensures { ReadsSubscribers sig (lane self.old) (lane self.new) result };
 
     /// Arms a timer of the object set by `by`. `Armed` exactly where its counter isn't 0.
     fn arm<L: Ledger>(&mut self, t: u8, ticks: u16, interval: u16, steps: &mut Steps<L>) -> Arm
@@ -210,8 +210,8 @@ pub trait Ops {
         ensures { Stopped (lane self.old) (lane self.new) result };
 
     /// Gives an entry up without a record: its reference stays in the hands.
-    fn leave(&mut self, e: Entry)
-        requires { Stands e (lane self.old) }
+    fn leave(&mut self, e: HeldEntry)
+        requires { EntryStands e (lane self.old) }
         ensures { lane self.new ≡ lane self.old };
 
     /// Gives a block up without a record: it stays in the hands.

@@ -5,14 +5,14 @@ ghost use Rattle.qp_model.specs.Calls as call;
 ghost use Rattle.qp_model.specs.Parts.{is_static};
 ghost use Rattle.qp_model.specs.Sound.{IsSound};
 ghost use Rattle.qp_model.specs.WordLaw.{is_object};
-ghost use Rattle.qp_calls.specs.Clauses.{IsEvent, Stands, entry_of, event_of};
+ghost use Rattle.qp_calls.specs.Clauses.{IsEvent, EntryStands, entry_of, event_of};
 ghost use Rattle.qp_calls.specs.Groups.{DoesCall, EndsStep, Refused};
 
 use crate::answers::RoomFault;
 use crate::did::Did;
 use crate::entries::{again, drop_entry, make, make_entry, post_entry, post_front};
 use crate::ops::Ops;
-use crate::tokens::Entry;
+use crate::tokens::HeldEntry;
 use qp_base::{Ev, Steps};
 use qp_model::System;
 use std::sync::ledger::Ledger;
@@ -57,7 +57,7 @@ pub fn post_static<O: Ops, L: Ledger>(
     ensures { DoesCall None (call.Post to sig [] margin None) (O.lane ops.old) (O.lane ops.new) result }
 {
     ops.room()?;
-    Ok(post_entry(ops, to, Entry::Static(sig), margin, steps))
+    Ok(post_entry(ops, to, HeldEntry::Static(sig), margin, steps))
 }
 
 /// Posts a new event: as `post_static` where its signal is static, and else as `post_new`.
@@ -88,12 +88,12 @@ pub fn post<O: Ops, L: Ledger>(
 pub fn forward<O: Ops, L: Ledger>(
     ops: &mut O,
     to: u8,
-    now: &Entry,
+    now: &HeldEntry,
     margin: Option<u8>,
     steps: &mut Steps<L>,
 ) -> Result<Did, RoomFault>
     requires object { IsTrue (is_object (O.lane ops.old).sys to) }
-    requires stands { Stands now.now (O.lane ops.old) }
+    requires stands { EntryStands now.now (O.lane ops.old) }
     ensures { DoesCall (Some (entry_of now.now)) (call.Forward to margin) (O.lane ops.old) (O.lane ops.new) result }
 {
     ops.room()?;
@@ -125,8 +125,8 @@ pub fn lifo_new<O: Ops, L: Ledger>(
 
 /// Ends a step: drops the reference of its entry. The answer is 1.
 #[inline(always)]
-pub fn end_step<O: Ops>(ops: &mut O, e: Entry) -> Result<Did, RoomFault>
-    requires { Stands e (O.lane ops.old) }
+pub fn end_step<O: Ops>(ops: &mut O, e: HeldEntry) -> Result<Did, RoomFault>
+    requires { EntryStands e (O.lane ops.old) }
     ensures ok { IfOk result (λ did. EndsStep (entry_of e) did (O.lane ops.old) (O.lane ops.new)) }
     ensures err { IfErr result (λ fault. Refused fault (O.lane ops.old) (O.lane ops.new)) }
 {

@@ -6,13 +6,13 @@ ghost use Rattle.qp_calls.specs.Raising.{raised_to};
 
 use crate::did::Did;
 use crate::members::highest;
-use crate::tokens::Entry;
+use crate::tokens::HeldEntry;
 
 /// A publication between its posts: its own entry, the subscribers, those to whom it is still to be posted, and the
 /// ceiling to be restored.
 #[derive(Drop)]
 pub struct Publication {
-    pub(crate) entry: Entry,
+    pub(crate) entry: HeldEntry,
     pub(crate) all: u32,
     pub(crate) left: u32,
     pub(crate) former: u8,

@@ -6,8 +6,8 @@ ghost use Rattle.qp_model.specs.Shapes.{raising, restoring};
 ghost use Rattle.qp_model.specs.Sound.{IsSound};
 ghost use Rattle.qp_model.specs.WordLaw.{is_object};
 ghost use Rattle.qp_calls.specs.LaneView.{ceiling_in};
-ghost use Rattle.qp_calls.specs.Clauses.{IsEvent, Stands, entry_of, event_of};
-ghost use Rattle.qp_calls.specs.Publishing.{Announces, AreObjects, Begins, EndsPublication, GoesOn, Marks, PostsAgain, PostsAll, PublishesAll};
+ghost use Rattle.qp_calls.specs.Clauses.{IsEvent, EntryStands, entry_of, event_of};
+ghost use Rattle.qp_calls.specs.Publishing.{Announces, AreObjects, Begins, EndsPublication, PublishingGoesOn, Marks, PostsAgain, PostsAll, PublishesAll};
 
 use crate::answers::RoomFault;
 use crate::deferral::object;
@@ -16,7 +16,7 @@ use crate::entries::{again, drop_entry, make_entry, post_entry, release};
 use crate::members::highest;
 use crate::ops::Ops;
 use crate::publication::{Begun, Publication};
-use crate::tokens::Entry;
+use crate::tokens::HeldEntry;
 use qp_base::{Ev, Steps};
 use qp_model::{Rec, System};
 use std::sync::ledger::Ledger;
@@ -28,7 +28,7 @@ fn announce<O: Ops, L: Ledger>(
     ev: &Ev,
     reserve: Option<u8>,
     steps: &mut Steps<L>,
-) -> Result<(Entry, u32), Did>
+) -> Result<(HeldEntry, u32), Did>
     requires room { 3 ≤ (O.lane ops.old).spare }
     requires of { (O.lane ops.old).sys ≡ sys.now }
     requires sound { IsSound sys.now }
@@ -71,10 +71,10 @@ fn lower<O: Ops>(ops: &mut O, former: u8, all: u32)
 }
 
 /// Posts the event of an entry to one subscriber, with a reference of its own.
-fn post_one<O: Ops, L: Ledger>(ops: &mut O, e: &Entry, to: u8, steps: &mut Steps<L>) -> Did
+fn post_one<O: Ops, L: Ledger>(ops: &mut O, e: &HeldEntry, to: u8, steps: &mut Steps<L>) -> Did
     requires room { 4 ≤ (O.lane ops.old).spare }
     requires object { IsTrue (is_object (O.lane ops.old).sys to) }
-    requires stands { Stands e.now (O.lane ops.old) }
+    requires stands { EntryStands e.now (O.lane ops.old) }
     ensures { PostsAgain (entry_of e.now) to result (O.lane ops.old) (O.lane ops.new) }
 {
     let made = again(ops, e);
@@ -120,8 +120,8 @@ pub fn publish_post<O: Ops, L: Ledger>(
 ) -> Result<Begun, RoomFault>
     requires some { 0 < p.left }
     requires objects { AreObjects (O.lane ops.old).sys p.left }
-    requires stands { Stands p.entry (O.lane ops.old) }
-    ensures { GoesOn p (O.lane ops.old) (O.lane ops.new) result }
+    requires stands { EntryStands p.entry (O.lane ops.old) }
+    ensures { PublishingGoesOn p (O.lane ops.old) (O.lane ops.new) result }
 {
     ops.room()?;
     let Publication {
@@ -145,7 +145,7 @@ pub fn publish_post<O: Ops, L: Ledger>(
 /// Ends a handler's publication: the ceiling is restored, and the publication's own reference dropped. The answer is 1.
 pub fn publish_end<O: Ops>(ops: &mut O, p: Publication) -> Result<Did, RoomFault>
     requires none { p.left ≡ 0 }
-    requires stands { Stands p.entry (O.lane ops.old) }
+    requires stands { EntryStands p.entry (O.lane ops.old) }
     ensures { EndsPublication p (O.lane ops.old) (O.lane ops.new) result }
 {
     ops.room()?;
@@ -184,12 +184,12 @@ pub fn publish<O: Ops, L: Ledger>(
 /// Posts to all members, and drops the publication's own reference.
 fn post_all<O: Ops, L: Ledger>(
     ops: &mut O,
-    entry: Entry,
+    entry: HeldEntry,
     all: u32,
     steps: &mut Steps<L>,
 ) -> Result<Did, RoomFault>
     requires objects { AreObjects (O.lane ops.old).sys all }
-    requires stands { Stands entry (O.lane ops.old) }
+    requires stands { EntryStands entry (O.lane ops.old) }
     ensures { PostsAll (entry_of entry) all (O.lane ops.old) (O.lane ops.new) result }
 {
     let mut left = all;
@@ -202,8 +202,8 @@ fn post_all<O: Ops, L: Ledger>(
         left = rest;
     }
     match entry {
-        Entry::Static(_) => Ok(Did::Value(1)),
-        Entry::Pool(h) => {
+        HeldEntry::Static(_) => Ok(Did::Value(1)),
+        HeldEntry::Pool(h) => {
             ops.room()?;
             release(ops, h);
             Ok(Did::Value(1))

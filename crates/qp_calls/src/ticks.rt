@@ -10,7 +10,7 @@ use crate::answers::{RoomFault, Tick};
 use crate::did::Did;
 use crate::entries::post_entry;
 use crate::ops::Ops;
-use crate::tokens::Entry;
+use crate::tokens::HeldEntry;
 use qp_base::Steps;
 use qp_model::System;
 use std::sync::ledger::Ledger;
@@ -32,7 +32,7 @@ fn tick_timer<O: Ops, L: Ledger>(
     match ops.tick_one(t, steps) {
         Tick::Idle => Ok(Did::Value(1)),
         Tick::Down => Ok(Did::Value(1)),
-        Tick::Fired => Ok(post_entry(ops, object, Entry::Static(sig), None, steps)),
+        Tick::Fired => Ok(post_entry(ops, object, HeldEntry::Static(sig), None, steps)),
     }
 }
 

@@ -88,7 +88,7 @@ impl Hold {
 
 /// An entry of a queue: a static event by its signal, which has no reference, or a reference to a block.
 #[derive(Drop)]
-pub enum Entry {
+pub enum HeldEntry {
     Static(u16),
     Pool(Hold),
 }

@@ -9,7 +9,7 @@ use Rattle.qp_model.specs.Kernels.{sim}
 use Rattle.qp_model.specs.Sources.{priorities}
 use Rattle.qp_model.specs.Told.{Told, ToldItem, plain, for_object}
 use Rattle.qp_calls.specs.Tokens.{hands_after, hands_by}
-use Rattle.qp_calls.specs.LaneView.{LaneView, Adds, Grows, Roomier, own_after}
+use Rattle.qp_calls.specs.LaneView.{LaneView, AddsTold, Grows, Roomier, own_after}
 use Rattle.qp_calls.specs.Notes.{spills_told}
 use Rattle.qp_calls.specs.Clauses.{Stops}
 use Rattle.qp_calls.proofs.Growing.{gains-none, grows-room, grows-then}
@@ -19,21 +19,21 @@ use Rattle.qp_calls_stimulus.specs.declared.doing.Stimulated.{Stimulated}
 use Rattle.qp_calls_stimulus.specs.declared.doing.Stimulated.TheVariants as stimulated
 use Rattle.qp_calls_stimulus.specs.Calling.{Calls, CallsCut}
 use Rattle.qp_calls.specs.Halting.{HaltsFull}
-use Rattle.qp_calls_stimulus.specs.Stimulating.{Asserts, Halts, Happens, KeepsOwn, Stimulates, Tries, begun}
+use Rattle.qp_calls_stimulus.specs.Stimulating.{Asserts, StimulusHalts, Happens, KeepsOwn, Stimulates, Tries, begun}
 use Rattle.qp_calls_stimulus.proofs.Aloof.{aloof-begun, aloof-front, entry-aloof, own-same, stimulus-aloof}
 use Rattle.qp_calls_stimulus.proofs.Halting.{cut-spills}
 
 -- the lane had no room for the `stim`
-pub halts-first : (sys : System) (s : Stim) (place look : ℕ) (v m w : LaneView) (r : Stimulated) → m ≡ v → Halts m w r → Stimulates sys s place look v w r
-halts-first sys s place look v m w r same h = go r (subst (λ x. Halts x w r) same h)
+pub halts-first : (sys : System) (s : Stim) (place look : ℕ) (v m w : LaneView) (r : Stimulated) → m ≡ v → StimulusHalts m w r → Stimulates sys s place look v w r
+halts-first sys s place look v m w r same h = go r (subst (λ x. StimulusHalts x w r) same h)
   where
-    go : (r : Stimulated) → Halts v w r → Stimulates sys s place look v w r
+    go : (r : Stimulated) → StimulusHalts v w r → Stimulates sys s place look v w r
     go stimulated.Done h = absurd h
     go stimulated.Tried h = absurd h
     go stimulated.Stopped h = inr (inr h)
     go stimulated.Memory h = record { g = []; mid = v; grows = gains-none v; own = λ a. refl; dry = h }
 
-module _ (sys : System) (s : Stim) (place look : ℕ) (v r n : LaneView) (room : Roomier v r) (note : Adds (plain (body.Stim place look) ∷ []) r n) where
+module _ (sys : System) (s : Stim) (place look : ℕ) (v r n : LaneView) (room : Roomier v r) (note : AddsTold (plain (body.Stim place look) ∷ []) r n) where
   begins : Grows (plain (body.Stim place look) ∷ []) v n
   begins = grows-room (plain (body.Stim place look) ∷ []) v r n room note.grows
 
@@ -79,7 +79,7 @@ module _ (sys : System) (s : Stim) (place look : ℕ) (v r n : LaneView) (room :
       let h = came x (called.Asserted code) mid is calls in
       record { one = h.one; mid = mid; code = code; grows = goes h.one mid h.grows; fits = h.fits; some = h.some; few = h.few; last = h.last; stops = stops }
 
-  pub cuts : (mid w : LaneView) (e : Stimulated) → CallsCut sys s n mid → Halts mid w e → Stimulates sys s place look v w e
+  pub cuts : (mid w : LaneView) (e : Stimulated) → CallsCut sys s n mid → StimulusHalts mid w e → Stimulates sys s place look v w e
   cuts mid w stimulated.Done cut h = absurd h
   cuts mid w stimulated.Tried cut h = absurd h
   cuts mid w stimulated.Stopped cut h =

@@ -26,7 +26,7 @@ use Rattle.qp_calls.specs.LaneView.{LaneView, Grows}
 use Rattle.qp_calls.specs.Notes.{last_code, stop_code}
 use Rattle.qp_calls.specs.Clauses.{IsEvent, event_of}
 use Rattle.qp_calls.specs.Entries.{did_of}
-use Rattle.qp_calls.specs.Groups.{Answers}
+use Rattle.qp_calls.specs.Groups.{CallAnswers}
 use Rattle.qp_calls.specs.Ticking.{TicksRate}
 use Rattle.qp_calls.proofs.NoteLemmas.{last-snoc}
 use Rattle.qp_calls_stimulus.specs.declared.calling.Called.{Called}
@@ -100,7 +100,7 @@ last-told front t g v w grows is =
 
 module _ (sys : System) (s : Stim) (x : Call) (v w : LaneView)
     (wrap : (kernel : ℕ) (asserted : Bool) (g : List Told) → CallFits sys x asserted g → StimFits sys kernel s asserted g) where
-  all : (n : ℕ) → Answers sys 0 None x (did.Value n) v w → CallsAll sys s v w
+  all : (n : ℕ) → CallAnswers sys 0 None x (did.Value n) v w → CallsAll sys s v w
   unfolding CallFits
   all n h = record {
     one = h.g;
@@ -109,7 +109,7 @@ module _ (sys : System) (s : Stim) (x : Call) (v w : LaneView)
     hands = h.hands refl;
   }
 
-  fail : (code : ℕ) → Answers sys 0 None x (did.Assert code) v w → CallsFail sys s code v w
+  fail : (code : ℕ) → CallAnswers sys 0 None x (did.Assert code) v w → CallsFail sys s code v w
   unfolding CallFits Forms Ending
   fail code h =
       let is : is_assertion h.answer ≡ true = assert-is h.answer code h.said in
@@ -127,7 +127,7 @@ module _ (sys : System) (s : Stim) (x : Call) (v w : LaneView)
       by : is_assertion h.answer ≡ true → Forms Usual h.answer h.g → Ending Usual h.answer h.g
       by is k = rw is at k
 
-  pub answered : (d : Did) → Answers sys 0 None x d v w → Calls sys s v w (Ok (called_of d))
+  pub answered : (d : Did) → CallAnswers sys 0 None x d v w → Calls sys s v w (Ok (called_of d))
   answered (did.Value n) h = all n h
   answered (did.Assert code) h = fail code h
 
@@ -142,8 +142,8 @@ unfolding StimFits
 publish-fits sys ev reserve kernel asserted g h = h
 
 -- the answers of a group, for this system and no object
-pub answers-here : (sys : System) (x : Call) (d : Did) (o : ℕ) (v w : LaneView) → v.sys ≡ sys → o ≡ 0 → Answers v.sys o None x d v w → Answers sys 0 None x d v w
-answers-here sys x d o v w of none h = subst (λ k. Answers sys k None x d v w) none (subst (λ z. Answers z o None x d v w) of h)
+pub answers-here : (sys : System) (x : Call) (d : Did) (o : ℕ) (v w : LaneView) → v.sys ≡ sys → o ≡ 0 → CallAnswers v.sys o None x d v w → CallAnswers sys 0 None x d v w
+answers-here sys x d o v w of none h = subst (λ k. CallAnswers sys k None x d v w) none (subst (λ z. CallAnswers z o None x d v w) of h)
 
 -- A tick.
 

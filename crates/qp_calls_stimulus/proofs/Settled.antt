@@ -12,7 +12,7 @@ use Rattle.qp_model.specs.WordLaw.{is_object}
 use Rattle.qp_model.proofs.ObjectLemmas.{object-there}
 use Rattle.qp_calls.specs.declared.answers.Counts as counts
 use Rattle.qp_calls.specs.Tokens.{hands_after, hands_by}
-use Rattle.qp_calls.specs.LaneView.{LaneView, Adds, Grows, GrowsOf, Roomier}
+use Rattle.qp_calls.specs.LaneView.{LaneView, AddsTold, Grows, GrowsOf, Roomier}
 use Rattle.qp_calls.specs.Clauses.{Sees}
 use Rattle.qp_calls.proofs.Growing.{gains-none, grows-room, grows-then}
 use Rattle.qp_calls_stimulus.specs.Settling.{SeesNone, SeesSome, SettleCut}
@@ -77,7 +77,7 @@ settle_hands a v g = g.hands
 
 -- The loop over the objects.
 
-pub none-seen : (a r v : LaneView) → Roomier a r → Adds (plain body.Settle ∷ []) r v → SeesNone [] a v
+pub none-seen : (a r v : LaneView) → Roomier a r → AddsTold (plain body.Settle ∷ []) r v → SeesNone [] a v
 unfolding SeesEmpty
 none-seen a r v room note = record { one = []; grows = grows-room (plain body.Settle ∷ []) a r v room note.grows; fits = refl; hands = settle_hands r v note.grows ∙ rw room.same refl }
 

@@ -19,10 +19,10 @@ abbrev pub begun : ℕ → ℕ → List Told → List Told
 begun place look one = plain (body.Stim place look) ∷ one
 
 -- a full lane told its `spill`, and one without memory did not; either has stopped
-abbrev pub Halts : LaneView → LaneView → Stimulated → Type 0
-Halts v w stimulated.Stopped = HaltsFull v w
-Halts v w stimulated.Memory = HaltsDry v w
-Halts v w _ = ⊥
+abbrev pub StimulusHalts : LaneView → LaneView → Stimulated → Type 0
+StimulusHalts v w stimulated.Stopped = HaltsFull v w
+StimulusHalts v w stimulated.Memory = HaltsDry v w
+StimulusHalts v w _ = ⊥
 
 -- all records came, and the hands are as they were
 pub record Happens (sys : System) (s : Stim) (place look : ℕ) (v w : LaneView) : Type 0 where

@@ -5,13 +5,12 @@ ghost use Rattle.qp_model.specs.Sound.{IsSound};
 ghost use Rattle.qp_stim.specs.Rules.{StimFits};
 ghost use Rattle.qp_calls.specs.Clauses.{IsFault};
 ghost use Rattle.qp_calls.specs.Notes.{spills_told};
-ghost use Rattle.qp_calls_stimulus.specs.Stimulating.{Halts, KeepsOwn, Stimulates};
+ghost use Rattle.qp_calls_stimulus.specs.Stimulating.{StimulusHalts, KeepsOwn, Stimulates};
 
 use crate::calling::{Called, make};
-use qp_base::Steps;
+use qp_base::{Steps, Tells};
 use qp_calls::{Halted, Ops, RoomFault, halt};
 use qp_model::{Rec, Stim, System};
-use qp_tells::Tells;
 use std::sync::ledger::Ledger;
 
 /// What became of a stimulus.
@@ -31,7 +30,7 @@ pub enum Stimulated {
 fn give_up<O: Ops>(ops: &mut O, fault: RoomFault) -> Stimulated
     requires fault { IsFault (O.lane ops.old) fault }
     requires spills { spills_told (O.lane ops.old).told ≡ false }
-    ensures { Halts (O.lane ops.old) (O.lane ops.new) result }
+    ensures { StimulusHalts (O.lane ops.old) (O.lane ops.new) result }
 {
     match halt(ops, fault) {
         Halted::Full => Stimulated::Stopped,

@@ -3,7 +3,7 @@ use denote.Param.Send.{IsSend, IsSync, sendable}
 use Rattle.std.proofs.Crossing.{crosses}
 use Rattle.qp_chart.proofs.expression.Bound.TheLaws.TheKnot as knot
 use Rattle.qp_chart.specs.contracts.expression.Bound as bound
-use Rattle.qp_chart.specs.contracts.expression.Bounds as bounds
+use Rattle.qp_chart.specs.contracts.expression.BoundExprs as bounds
 use Rattle.qp_chart.specs.contracts.actions.Plain as plain
 use Rattle.qp_chart.specs.contracts.actions.Plains as plains
 use Rattle.qp_chart.specs.contracts.actions.Act as act

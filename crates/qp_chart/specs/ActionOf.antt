@@ -12,7 +12,7 @@ use Rattle.qp_chart.specs.declared.actions.Act.TheVariants as act
 use Rattle.qp_chart_names.specs.declared.raw.RawChart.{RawChart}
 use Rattle.qp_chart_names.specs.declared.raw.ObjName.{ObjName}
 use Rattle.qp_chart_names.specs.declared.raw.Names.{Names}
-use Rattle.qp_chart_text.specs.Terms.{Term, Address, ToMe, ToObject, Event, Order, Set, Say, Post, Lifo, Forward, Publish, Defer, Recall, Flush, Subscribe, Unsubscribe, Arm, Rearm, Disarm, Command, Plain, Locked}
+use Rattle.qp_chart_text.specs.Terms.{Term, Address, ToMe, ToObject, EventTerm, Order, Set, Say, Post, Lifo, Forward, Publish, Defer, Recall, Flush, Subscribe, Unsubscribe, Arm, Rearm, Disarm, Command, Plain, Locked}
 use Rattle.qp_chart_text.specs.Reading.{term_of_text}
 use Rattle.qp_chart_text.specs.ReadingActions.{command_of_text}
 use Rattle.qp_chart_names.specs.ActionFaults.{command_known, command_in_range, command_fits, params_in}
@@ -30,7 +30,7 @@ IsTargetOf names ToMe to = to ≡ target.Me
 IsTargetOf names (ToObject name) to = (object : ObjName) × (object_named names name ≡ Some object) × (to ≡ target.Object object.priority)
 
 -- an event's signal by its number, and its parameters
-pub record IsEventOf (names : Names) (chart : RawChart) (params : ℕ) (event : Event) (signal : ℕ) (pars : List Bound) : Type 0 where
+pub record IsEventOf (names : Names) (chart : RawChart) (params : ℕ) (event : EventTerm) (signal : ℕ) (pars : List Bound) : Type 0 where
   pub signal_is : signal_number names event.signal ≡ Some signal
   pub pars_are : Corresponds (IsBoundOf chart params) event.pars pars
 

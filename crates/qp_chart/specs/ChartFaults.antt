@@ -69,12 +69,12 @@ row_fault names chart at earlier row =
     ∷ [])
 
 -- the first fault of the j-th row of the k-th state
-unfoldable pub row_at : Names → RawChart → ℕ → List RawRow → ℕ → RawRow → Option Fault
-row_at names chart k rows j row = row_fault names chart (row_place k j) (take (j - 1) rows) row
+unfoldable pub row_fault_at : Names → RawChart → ℕ → List RawRow → ℕ → RawRow → Option Fault
+row_fault_at names chart k rows j row = row_fault names chart (row_place k j) (take (j - 1) rows) row
 
 -- the first fault of the rows of the k-th state
 unfoldable pub rows_fault : Names → RawChart → ℕ → List RawRow → Option Fault
-rows_fault names chart k rows = first_in (row_at names chart k rows) 1 rows
+rows_fault names chart k rows = first_in (row_fault_at names chart k rows) 1 rows
 
 -- the first fault of the k-th state: its texts, its initial target and its rows, key by key
 unfoldable pub state_fault : Names → RawChart → ℕ → RawState → Option Fault

@@ -13,8 +13,8 @@ pub record Plan : Type 0 where
   pub tasks : List Task
   pub leaf : ℕ
 
-abbrev pub before : List Task → Plan → Plan
-before tasks plan = record { tasks = tasks ++ plan.tasks; leaf = plan.leaf }
+abbrev pub plan_before : List Task → Plan → Plan
+plan_before tasks plan = record { tasks = tasks ++ plan.tasks; leaf = plan.leaf }
 
 -- the initial target of a state
 unfoldable pub init_of : Chart → ℕ → Option ℕ
@@ -31,7 +31,7 @@ unfoldable pub drill_to : Chart → ℕ → ℕ → Option ℕ → Plan
 unfolding init_of initial
 drill_to chart n s None = record { tasks = []; leaf = s }
 drill_to chart zero s (Some t) = record { tasks = []; leaf = s }
-drill_to chart (suc n) s (Some t) = before (initial chart s t) (drill_to chart n t (init_of chart t))
+drill_to chart (suc n) s (Some t) = plan_before (initial chart s t) (drill_to chart n t (init_of chart t))
 
 -- the initial transitions from s on, and the leaf after them: each goes down the tree, so there are fewer than states
 unfoldable pub drill : Chart → ℕ → Plan

@@ -1,6 +1,6 @@
 //! Actions of a checked chart.
 
-use crate::expression::{Bound, Bounds};
+use crate::expression::{Bound, BoundExprs};
 use std::marker::Model;
 
 /// To which object an event is posted.
@@ -20,13 +20,13 @@ pub enum Plain {
     Post {
         to: Target,
         sig: u16,
-        pars: Bounds,
+        pars: BoundExprs,
         margin: Option<u8>,
         reserve: Option<u8>,
     },
     Lifo {
         sig: u16,
-        pars: Bounds,
+        pars: BoundExprs,
         reserve: Option<u8>,
     },
     Forward {
@@ -35,7 +35,7 @@ pub enum Plain {
     },
     Publish {
         sig: u16,
-        pars: Bounds,
+        pars: BoundExprs,
         reserve: Option<u8>,
     },
     Defer,

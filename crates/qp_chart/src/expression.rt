@@ -43,11 +43,11 @@ impl Model for Bound {
 
 /// Some expressions, in order. Contracts see the list.
 #[derive(Drop)]
-pub struct Bounds {
+pub struct BoundExprs {
     pub items: Vec<Bound>,
 }
 
-impl Model for Bounds {
+impl Model for BoundExprs {
     ghost use Rattle.std.specs.Prelude.{List};
     ghost use Rattle.qp_chart.specs.declared.expression.Bound.{Bound};
     ghost use Rattle.std.specs.Coded.{codes};

@@ -18,7 +18,7 @@ pub use actions::{Act, Acts, Plain, Plains, Target};
 pub use binding::{BindFault, bind};
 pub use checked::{Chart, Row, Rows, State, States, Timer, Timers};
 pub use evaluate::{Env, eval};
-pub use expression::{Bound, Bounds, Node};
+pub use expression::{Bound, BoundExprs, Node};
 pub use qp_chart_names::{
     ChartFault, Names, ObjName, ObjNames, Part, Path, RawChart, RawRow, RawRows, RawState,
     RawStates, RawTimer, RawTimers, SigName, SigNames, Vars, code, key,

@@ -4,7 +4,7 @@
 ghost use Rattle.std.specs.Prelude.{◌≡◌, All, Some, None, map, true, IfOk, IfErr};
 ghost use Rattle.std.specs.Option.{is_some};
 ghost use Rattle.qp_chart_names.specs.Pairs.{Corresponds};
-ghost use Rattle.qp_chart_text.specs.Terms.{Set, Say, Post, Lifo, Publish, Arm, Rearm, term_of, event_of, order_of, command_of, address_of};
+ghost use Rattle.qp_chart_text.specs.Terms.{Set, Say, Post, Lifo, Publish, Arm, Rearm, term_of, event_of_tree, order_of, command_of, address_of};
 ghost use Rattle.qp_chart_names.specs.RawNumbers.{signal_number, timer_number, variable_number};
 ghost use Rattle.qp_chart_names.specs.ActionFaults.{IsAllowed, IsSound, command_known, command_in_range, command_fits, event_known, event_fits, receiver_known, is_byte, params_in};
 ghost use Rattle.qp_chart.specs.ActionOf.{IsBoundOf, IsTargetOf, IsEventOf, IsByteOf, IsPlainOf, IsActOf};
@@ -12,7 +12,7 @@ ghost use Rattle.qp_chart_names.specs.Faults.{IsFault};
 
 use crate::actions::{Act, Plain, Plains, Target};
 use crate::binding::{BindFault, bind};
-use crate::expression::{Bound, Bounds};
+use crate::expression::{Bound, BoundExprs};
 use qp_chart_names::{ChartFault, Scope};
 use qp_chart_text::{Action, EventTree, Expr, Name, PlainAction, Receiver};
 use std::alloc::Global;
@@ -42,7 +42,7 @@ fn bounds(
     scope: &Scope<'_>,
     params: u8,
     exprs: &[Expr],
-) -> Result<Bounds, ChartFault>
+) -> Result<BoundExprs, ChartFault>
     requires { All (λ e. IsSound scope.now.chart.now params (term_of e)) exprs.now }
     ensures ok { IfOk result (λ pars. Corresponds (IsBoundOf scope.now.chart.now params) (map term_of exprs.now) pars) }
     ensures memory { IfErr result (IsFault None) }
@@ -52,7 +52,7 @@ fn bounds(
         let item = bound(alloc, scope, params, e)?;
         items.push(item)?;
     }
-    Ok(Bounds { items })
+    Ok(BoundExprs { items })
 }
 
 fn declared_signal(scope: &Scope<'_>, name: &Name) -> u16
@@ -115,10 +115,10 @@ fn event(
     scope: &Scope<'_>,
     params: u8,
     event: &EventTree,
-) -> Result<(u16, Bounds), ChartFault>
-    requires known { event_known scope.now.names.now scope.now.chart.now (event_of event.now) ≡ true }
-    requires fits { event_fits scope.now.names.now params (event_of event.now) ≡ true }
-    ensures ok { IfOk result (λ e. IsEventOf scope.now.names.now scope.now.chart.now params (event_of event.now) e.0 e.1) }
+) -> Result<(u16, BoundExprs), ChartFault>
+    requires known { event_known scope.now.names.now scope.now.chart.now (event_of_tree event.now) ≡ true }
+    requires fits { event_fits scope.now.names.now params (event_of_tree event.now) ≡ true }
+    ensures ok { IfOk result (λ e. IsEventOf scope.now.names.now scope.now.chart.now params (event_of_tree event.now) e.0 e.1) }
     ensures memory { IfErr result (IsFault None) }
 {
     let signal = declared_signal(scope, &event.signal);
@@ -168,9 +168,9 @@ fn resolved_post(
     margin: Option<i64>,
     reserve: Option<i64>,
 ) -> Result<Plain, ChartFault>
-    requires { IsAllowed scope.now.names.now scope.now.chart.now inside (Post (address_of to.now) (event_of posted.now) margin reserve) }
+    requires { IsAllowed scope.now.names.now scope.now.chart.now inside (Post (address_of to.now) (event_of_tree posted.now) margin reserve) }
     ensures ok { IfOk result (IsPlainOf scope.now.names.now scope.now.chart.now (params_in inside)
-        (Post (address_of to.now) (event_of posted.now) margin reserve)) }
+        (Post (address_of to.now) (event_of_tree posted.now) margin reserve)) }
     ensures memory { IfErr result (IsFault None) }
 {
     let to = target(scope, to);
@@ -194,8 +194,8 @@ fn resolved_lifo(
     posted: &EventTree,
     reserve: Option<i64>,
 ) -> Result<Plain, ChartFault>
-    requires { IsAllowed scope.now.names.now scope.now.chart.now inside (Lifo (event_of posted.now) reserve) }
-    ensures ok { IfOk result (IsPlainOf scope.now.names.now scope.now.chart.now (params_in inside) (Lifo (event_of posted.now) reserve)) }
+    requires { IsAllowed scope.now.names.now scope.now.chart.now inside (Lifo (event_of_tree posted.now) reserve) }
+    ensures ok { IfOk result (IsPlainOf scope.now.names.now scope.now.chart.now (params_in inside) (Lifo (event_of_tree posted.now) reserve)) }
     ensures memory { IfErr result (IsFault None) }
 {
     let (sig, pars) = event(alloc, scope, inside.unwrap_or(0), posted)?;
@@ -211,8 +211,8 @@ fn resolved_publish(
     posted: &EventTree,
     reserve: Option<i64>,
 ) -> Result<Plain, ChartFault>
-    requires { IsAllowed scope.now.names.now scope.now.chart.now inside (Publish (event_of posted.now) reserve) }
-    ensures ok { IfOk result (IsPlainOf scope.now.names.now scope.now.chart.now (params_in inside) (Publish (event_of posted.now) reserve)) }
+    requires { IsAllowed scope.now.names.now scope.now.chart.now inside (Publish (event_of_tree posted.now) reserve) }
+    ensures ok { IfOk result (IsPlainOf scope.now.names.now scope.now.chart.now (params_in inside) (Publish (event_of_tree posted.now) reserve)) }
     ensures memory { IfErr result (IsFault None) }
 {
     let (sig, pars) = event(alloc, scope, inside.unwrap_or(0), posted)?;

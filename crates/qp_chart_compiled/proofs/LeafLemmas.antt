@@ -13,7 +13,7 @@ use Rattle.qp_chart_compiled.specs.declared.code.Code.TheVariants as code
 use Rattle.qp_chart_compiled.specs.declared.compiled.Compiled.{Compiled}
 use Rattle.qp_chart_compiled.specs.Codes.{task_at, tasks_at}
 use Rattle.qp_chart_compiled.specs.Rows.{rows_on, leaves_rest}
-use Rattle.qp_chart_compiled.specs.Compiled.{IsClass, IsLeaf, AreClasses, AreLeaves, IsCompiled, items_of, classes_of, between}
+use Rattle.qp_chart_compiled.specs.Compiled.{IsClass, IsLeaf, AreClasses, AreLeaves, IsCompiled, choices_of, classes_of, between}
 use Rattle.qp_chart_compiled.specs.Building.{Extends, Offers, Places, MakesLeaf, MakesLeaves}
 use Rattle.qp_chart_compiled.proofs.ChoiceLemmas.{extends-trans, choices-stay, plan-stays}
 
@@ -68,7 +68,7 @@ classes-more chart width leaf count a b c path classes new made is h e k =
     record {
       more = extends-trans a b c k.more h.more;
       whole = omega (arith, ap length e, length-append classes (made ∷ []), k.whole);
-      each = each-more (λ rest o. IsClass chart c width leaf rest (items_of o)) classes new made e
+      each = each-more (λ rest o. IsClass chart c width leaf rest (choices_of o)) classes new made e
           (λ rest below. choices-stay chart leaf b c h.more _ _ (k.each rest below))
           (rw k.whole (rw is at (h.choices [] tt)));
     }

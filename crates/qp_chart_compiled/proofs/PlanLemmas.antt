@@ -15,7 +15,7 @@ use Rattle.qp_chart_compiled.specs.declared.code.Code.TheVariants as code
 use Rattle.qp_chart_compiled.specs.declared.code.ActionList.TheVariants as of
 use Rattle.qp_chart_compiled.specs.Codes.{row_at, acts_in, task_at, tasks_at}
 use Rattle.qp_chart_compiled.specs.Compiled.{between}
-use Rattle.qp_chart_tree.specs.Plans.{Adds}
+use Rattle.qp_chart_tree.specs.Plans.{AddsTasks}
 use Rattle.qp_chart_tree.proofs.PlanLemmas.{adds-more}
 use Rattle.qp_chart_compiled.specs.Building.{Places}
 use Rattle.qp_chart_compiled.proofs.PushLemmas.{pushed}
@@ -51,7 +51,7 @@ placed-plan chart whole codes new from to after e l one two =
 
 -- a step by a row
 pub step-is : (chart : Chart) (leaf s k : ℕ) (row : Row) (codes note acts mid new : List Code) (from to after : ℕ) → row_at chart s k ≡ Some row → note ≡ codes ++ code.Run s k ∷ []
-    → tasks_at chart acts ≡ tasks_at chart note ++ tasks_of (acts_in chart (of.Row s k)) → Adds (moves chart leaf s row.to) (tasks_at chart acts) (tasks_at chart mid) after
+    → tasks_at chart acts ≡ tasks_at chart note ++ tasks_of (acts_in chart (of.Row s k)) → AddsTasks (moves chart leaf s row.to) (tasks_at chart acts) (tasks_at chart mid) after
     → new ≡ mid ++ code.Done ∷ [] → from ≡ length codes → to ≡ length new
     → Places (ended (handled chart leaf (Some (record { state = s; place = k; row = row })))) (tasks_at chart codes) (tasks_at chart new) (record { agenda = record { from = from; to = to }; leaf = after })
 unfolding handled task_at acts_in
@@ -69,7 +69,7 @@ step-is chart leaf s k row codes note acts mid new from to after is one two thre
 -- a start
 pub start-is : (chart : Chart) (path : List ℕ) (codes note acts inner mid new : List Code) (from to leaf : ℕ) → note ≡ codes ++ code.Begin ∷ []
     → tasks_at chart acts ≡ tasks_at chart note ++ tasks_of (acts_in chart of.Start) → path ≡ entered chart None chart.init
-    → tasks_at chart inner ≡ tasks_at chart acts ++ entries chart path → Adds (drill chart chart.init) (tasks_at chart inner) (tasks_at chart mid) leaf
+    → tasks_at chart inner ≡ tasks_at chart acts ++ entries chart path → AddsTasks (drill chart chart.init) (tasks_at chart inner) (tasks_at chart mid) leaf
     → new ≡ mid ++ code.Done ∷ [] → from ≡ length codes → to ≡ length new
     → Places (start_plan chart) (tasks_at chart codes) (tasks_at chart new) (record { agenda = record { from = from; to = to }; leaf = leaf })
 unfolding start_plan task_at acts_in

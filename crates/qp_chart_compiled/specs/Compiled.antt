@@ -48,13 +48,13 @@ pub record IsChoice (chart : Chart) (ts : List Task) (leaf : ℕ) (h : Handler) 
 abbrev pub IsClass : Chart → List Task → (width leaf rest : ℕ) → List Choice → Type 0
 IsClass chart ts width leaf rest choices = Corresponds (IsChoice chart ts leaf) (filter (leaves_rest width rest) (rows_on chart (up chart leaf))) choices
 
-abbrev pub items_of : Option Choices → List Choice
-items_of None = []
-items_of (Some choices) = choices.items.items
+abbrev pub choices_of : Option Choices → List Choice
+choices_of None = []
+choices_of (Some choices) = choices.items.items
 
 -- the choices of one rest
 abbrev pub choices_in : List Choices → ℕ → List Choice
-choices_in classes rest = items_of (slice_get classes rest)
+choices_in classes rest = choices_of (slice_get classes rest)
 
 abbrev pub classes_of : Option Leaf → List Choices
 classes_of None = []

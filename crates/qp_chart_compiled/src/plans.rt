@@ -5,7 +5,7 @@ ghost use Rattle.qp_chart.specs.Drill.{initial, drill};
 ghost use Rattle.qp_chart.specs.Agenda.{crossing, moves, handled, ended, start_plan};
 ghost use Rattle.qp_chart.specs.Handler.{Handler};
 ghost use Rattle.qp_chart_compiled.specs.Codes.{row_at, tasks_at};
-ghost use Rattle.qp_chart_tree.specs.Plans.{Adds};
+ghost use Rattle.qp_chart_tree.specs.Plans.{AddsTasks};
 ghost use Rattle.qp_chart_compiled.specs.Building.{Places};
 
 use crate::agenda::{Agenda, Plan};
@@ -34,7 +34,7 @@ fn push_initial(
 
 /// Adds the initial transitions from `s` on, and tells the leaf after them.
 fn push_drill(alloc: Global, chart: &Chart, s: u8, codes: &mut Vec<Code>) -> Result<u8, AllocError>
-    ensures { IfOk result (λ leaf. Adds (drill chart.now s) (tasks_at chart.now codes.old.items) (tasks_at chart.now codes.new.items) leaf) }
+    ensures { IfOk result (λ leaf. AddsTasks (drill chart.now s) (tasks_at chart.now codes.old.items) (tasks_at chart.now codes.new.items) leaf) }
 {
     let mut leaf = s;
     for _ in chart.state() {
@@ -76,7 +76,7 @@ fn push_moves(
     to: Option<u8>,
     codes: &mut Vec<Code>,
 ) -> Result<u8, AllocError>
-    ensures { IfOk result (λ after. Adds (moves chart.now leaf s to) (tasks_at chart.now codes.old.items)
+    ensures { IfOk result (λ after. AddsTasks (moves chart.now leaf s to) (tasks_at chart.now codes.old.items)
         (tasks_at chart.now codes.new.items) after) }
 {
     match to {

@@ -8,8 +8,8 @@ use Rattle.std.proofs.lemmas.Bool.{false≢true}
 use Rattle.std.proofs.lemmas.Option.{none-some}
 use Rattle.std.specs.List.{list_any}
 use Rattle.qp_chart_names.specs.Known.{words}
-use Rattle.qp_chart_names.specs.declared.places.Places.{Places}
-use Rattle.qp_chart_names.specs.Numbering.{number_in, number_at, IsNumbering, Adds}
+use Rattle.qp_chart_names.specs.declared.places.NumbersByName.{NumbersByName}
+use Rattle.qp_chart_names.specs.Numbering.{number_in, number_at, IsNumbering, AddsName}
 
 -- a test, with what it answers
 pub bool_cases : (b : Bool) → (b ≡ true) ⊎ (b ≡ false)
@@ -76,7 +76,7 @@ number_in-push k (y ∷ names) x q = by_test (number_in-push (k + 1) names x q) 
         later ∙ ap (λ n. option_or (number_in (k + 1) names q) (cond (bytes_eq q x) (Some n) None)) place
 
 -- a table that numbers some names numbers one more
-pub IsNumbering-push : (k : ℕ) (names : List (List ℕ)) (old new : Places) (x : List ℕ) (n : ℕ) (added : Bool) → n ≡ k + length names → IsNumbering k names old → Adds old new x n added → IsNumbering k (names ++ x ∷ []) new
+pub IsNumbering-push : (k : ℕ) (names : List (List ℕ)) (old new : NumbersByName) (x : List ℕ) (n : ℕ) (added : Bool) → n ≡ k + length names → IsNumbering k names old → AddsName old new x n added → IsNumbering k (names ++ x ∷ []) new
 IsNumbering-push k names old new x n added place known adds =
     λ q. adds.numbers q ∙ rw (known q, place) (sym (number_in-push k names x q))
 
@@ -101,13 +101,13 @@ number_in-below k (x ∷ names) q n e = by_test (λ h. number_in-below (k + 1) n
     by_test later false h = omega (arith, later h)
 
 -- a table without names numbers none
-pub IsNumbering-none : (k : ℕ) (places : Places) → ((name : List ℕ) → number_at places name ≡ None) → IsNumbering k [] places
+pub IsNumbering-none : (k : ℕ) (places : NumbersByName) → ((name : List ℕ) → number_at places name ≡ None) → IsNumbering k [] places
 unfolding number_in
 IsNumbering-none k places empty = empty
 
 -- a table of the first i things, with the next one more
-pub IsNumbering-more : {A : Type 0} (name_of : A → List ℕ) (k : ℕ) (xs : List A) (i : ℕ) (x : A) (old new : Places) (n : ℕ) (added : Bool)
-    → i < length xs → x ≡ get_or xs i x → n ≡ i + k → IsNumbering k (map name_of (take i xs)) old → Adds old new (name_of x) n added → IsNumbering k (map name_of (take (i + 1) xs)) new
+pub IsNumbering-more : {A : Type 0} (name_of : A → List ℕ) (k : ℕ) (xs : List A) (i : ℕ) (x : A) (old new : NumbersByName) (n : ℕ) (added : Bool)
+    → i < length xs → x ≡ get_or xs i x → n ≡ i + k → IsNumbering k (map name_of (take i xs)) old → AddsName old new (name_of x) n added → IsNumbering k (map name_of (take (i + 1) xs)) new
 IsNumbering-more name_of k xs i x old new n added inside is number known adds =
     let item : take (i + 1) xs ≡ take i xs ++ x ∷ [] = take_more xs i x inside ∙ ap (λ y. take i xs ++ y ∷ []) (sym is) in
     let count : length (map name_of (take i xs)) ≡ i = length-map (take i xs) name_of ∙ length-take-le i xs (omega arith) in
@@ -116,7 +116,7 @@ IsNumbering-more name_of k xs i x old new n added inside is number known adds =
     rw names (IsNumbering-push k (map name_of (take i xs)) old new (name_of x) n added place known adds)
 
 -- a name was new where none of those numbered has it
-pub Adds-fresh : (k : ℕ) (names : List (List ℕ)) (old new : Places) (name : List ℕ) (n : ℕ) (added : Bool) → IsNumbering k names old → Adds old new name n added → list_any (bytes_eq name) names ≡ not added
+pub Adds-fresh : (k : ℕ) (names : List (List ℕ)) (old new : NumbersByName) (name : List ℕ) (n : ℕ) (added : Bool) → IsNumbering k names old → AddsName old new name n added → list_any (bytes_eq name) names ≡ not added
 Adds-fresh k names old new name n added known adds =
     sym (is_some-number_in k names name) ∙ ap is_some (sym (known name)) ∙ twice (is_some (number_at old name)) ∙ ap not (sym adds.fresh)
   where
@@ -135,7 +135,7 @@ number_in-above k (x ∷ names) q n e = by_test (λ h. number_in-above (k + 1) n
     by_test later false h = omega (arith, later h)
 
 -- what a table gives is at least the first number, and below it and the count
-pub number_at-range : {A : Type 0} (name_of : A → List ℕ) (k : ℕ) (xs : List A) (places : Places) (q : List ℕ) (n : ℕ)
+pub number_at-range : {A : Type 0} (name_of : A → List ℕ) (k : ℕ) (xs : List A) (places : NumbersByName) (q : List ℕ) (n : ℕ)
     → IsNumbering k (map name_of xs) places → Some n ≡ number_at places q → (k ≤ n) × (n < k + length xs)
 number_at-range name_of k xs places q n known e =
     let is : number_in k (map name_of xs) q ≡ Some n = sym (known q) ∙ sym e in

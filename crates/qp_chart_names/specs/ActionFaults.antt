@@ -8,7 +8,7 @@ use Rattle.qp_chart_names.specs.declared.place.Part.TheVariants.{Key, Pos}
 use Rattle.qp_chart_names.specs.Codes.{NO_SUCH_NAME, RANGE, WRONG_ARITY, BAD_TEXT}
 use Rattle.qp_chart_names.specs.declared.raw.RawChart.{RawChart}
 use Rattle.qp_chart_names.specs.declared.raw.Names.{Names}
-use Rattle.qp_chart_text.specs.Terms.{Term, Address, ToMe, ToObject, Event, Order, Set, Say, Post, Lifo, Forward, Publish, Defer, Recall, Flush, Subscribe, Unsubscribe, Arm, Rearm, Disarm, Command, Plain, Locked}
+use Rattle.qp_chart_text.specs.Terms.{Term, Address, ToMe, ToObject, EventTerm, Order, Set, Say, Post, Lifo, Forward, Publish, Defer, Recall, Flush, Subscribe, Unsubscribe, Arm, Rearm, Disarm, Command, Plain, Locked}
 use Rattle.qp_chart_text.specs.Reading.{term_of_text}
 use Rattle.qp_chart_text.specs.ReadingActions.{command_of_text}
 use Rattle.qp_chart_names.specs.Known.{knows, reaches}
@@ -23,7 +23,7 @@ abbrev pub receiver_known : Names → Address → Bool
 receiver_known names ToMe = true
 receiver_known names (ToObject name) = is_some (object_named names name)
 
-abbrev pub event_known : Names → RawChart → Event → Bool
+abbrev pub event_known : Names → RawChart → EventTerm → Bool
 event_known names chart event = is_some (signal_number names event.signal) && list_all (λ e. term_known chart e) event.pars
 
 -- each name of the action is declared
@@ -56,7 +56,7 @@ abbrev pub is_static : Names → List ℕ → Bool
 is_static names signal = unwrap_or (option_map (λ s. s.fixed) (signal_named names signal)) false
 
 -- a reserve is in range, and stands on no static signal
-abbrev pub reserve_allowed : Names → Event → Option ℤ → Bool
+abbrev pub reserve_allowed : Names → EventTerm → Option ℤ → Bool
 reserve_allowed names event reserve = is_byte reserve && not (is_some reserve && is_static names event.signal)
 
 -- each number of the action is in its range
@@ -75,7 +75,7 @@ params_of names signal = unwrap_or (option_map (λ s. s.params) (signal_named na
 abbrev pub params_in : Option ℕ → ℕ
 params_in inside = unwrap_or inside 0
 
-abbrev pub event_fits : Names → ℕ → Event → Bool
+abbrev pub event_fits : Names → ℕ → EventTerm → Bool
 event_fits names params event = (length event.pars == params_of names event.signal) && list_all (λ e. reaches params e) event.pars
 
 -- events have as many parameters as their signals, parameters are within reach, and only a row forwards or defers

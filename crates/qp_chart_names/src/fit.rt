@@ -1,7 +1,7 @@
 //! Whether an action names what is declared, keeps its ranges, and fits its place.
 ghost use Rattle.std.specs.Prelude.{◌≡◌, ◌&&◌, not, is_some};
 ghost use Rattle.std.specs.List.{list_all};
-ghost use Rattle.qp_chart_text.specs.Terms.{term_of, event_of, order_of, command_of, address_of};
+ghost use Rattle.qp_chart_text.specs.Terms.{term_of, event_of_tree, order_of, command_of, address_of};
 ghost use Rattle.qp_chart_names.specs.Known.{reaches};
 ghost use Rattle.qp_chart_names.specs.ActionFaults.{term_known, receiver_known, event_known, order_known, command_known, is_between, is_byte, is_static, reserve_allowed, order_in_range, command_in_range, params_of, params_in, event_fits, order_fits, command_fits};
 
@@ -65,9 +65,9 @@ fn receiver_is_known(scope: &Scope<'_>, to: &Receiver) -> bool
     }
 }
 
-#[tactic(auto, unfolding(qp_chart_text::specs::Terms::event_of))]
+#[tactic(auto, unfolding(qp_chart_text::specs::Terms::event_of_tree))]
 fn event_is_known(scope: &Scope<'_>, event: &EventTree) -> bool
-    ensures { result ≡ event_known scope.now.names.now scope.now.chart.now (event_of event.now) }
+    ensures { result ≡ event_known scope.now.names.now scope.now.chart.now (event_of_tree event.now) }
 {
     scope.signal_number(&event.signal).is_some() && all_known(scope, event.pars.as_slice())
 }
@@ -97,7 +97,7 @@ fn all_in_range(scope: &Scope<'_>, plains: &[PlainAction]) -> bool
     plains.iter().all(|plain| plain_in_range(scope, plain))
 }
 
-#[tactic(auto, unfolding(qp_chart_text::specs::Terms::order_of, qp_chart_text::specs::Terms::event_of, crate::specs::ActionFaults::order_in_range))]
+#[tactic(auto, unfolding(qp_chart_text::specs::Terms::order_of, qp_chart_text::specs::Terms::event_of_tree, crate::specs::ActionFaults::order_in_range))]
 fn plain_in_range(scope: &Scope<'_>, plain: &PlainAction) -> bool
     ensures { result ≡ order_in_range scope.now.names.now (order_of plain.now) }
 {
@@ -199,9 +199,9 @@ fn plain_fits(scope: &Scope<'_>, inside: Option<u8>, plain: &PlainAction) -> boo
     }
 }
 
-#[tactic(auto, unfolding(qp_chart_text::specs::Terms::event_of))]
+#[tactic(auto, unfolding(qp_chart_text::specs::Terms::event_of_tree))]
 fn event_is_fit(scope: &Scope<'_>, params: u8, event: &EventTree) -> bool
-    ensures { result ≡ event_fits scope.now.names.now params (event_of event.now) }
+    ensures { result ≡ event_fits scope.now.names.now params (event_of_tree event.now) }
 {
     event.pars.as_slice().len() == count_of(scope, &event.signal) as usize
         && all_reach(event.pars.as_slice(), params)

@@ -6,18 +6,18 @@ use std::collections::BTreeMap;
 
 /// Numbers by name. The first number that a name is given stays.
 #[derive(Drop)]
-pub struct Places {
+pub struct NumbersByName {
     map: BTreeMap<Name, u16>,
 }
 
-impl Places {
+impl NumbersByName {
     ghost use Rattle.std.specs.Prelude.{◌≡◌, ℕ, List, None, IfOk};
-    ghost use Rattle.qp_chart_names.specs.Numbering.{number_at, Adds};
+    ghost use Rattle.qp_chart_names.specs.Numbering.{number_at, AddsName};
 
-    pub fn new(alloc: Global) -> Places
+    pub fn new(alloc: Global) -> NumbersByName
         ensures { (name : List ℕ) → number_at result name ≡ None }
     {
-        Places {
+        NumbersByName {
             map: BTreeMap::new(alloc),
         }
     }
@@ -30,7 +30,7 @@ impl Places {
 
     /// Gives the name this number, and tells whether the name was new. A known name keeps its number.
     pub fn add(&mut self, name: &Name, number: u16) -> Result<bool, AllocError>
-        ensures { IfOk result (λ added. Adds self.old self.new name.now number added) }
+        ensures { IfOk result (λ added. AddsName self.old self.new name.now number added) }
     {
         if self.map.contains_key(name) {
             return Ok(false);

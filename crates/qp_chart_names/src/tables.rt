@@ -10,7 +10,7 @@ ghost use Rattle.qp_chart_names.specs.RawNumbers.{state_names, timer_names};
 
 use crate::fault::ChartFault;
 use crate::place::Part;
-use crate::places::Places;
+use crate::places::NumbersByName;
 use crate::raw::{Names, ObjName, RawChart, RawState, RawTimer, SigName};
 use crate::{code, key};
 use qp_chart_text::Name;
@@ -19,11 +19,11 @@ use std::alloc::{AllocError, Global};
 /// Numbers by name, of all that a chart may name. The names of the variables stand in their order too.
 #[derive(Drop)]
 pub struct Tables {
-    pub signals: Places,
-    pub objects: Places,
-    pub states: Places,
-    pub timers: Places,
-    pub variables: Places,
+    pub signals: NumbersByName,
+    pub objects: NumbersByName,
+    pub states: NumbersByName,
+    pub timers: NumbersByName,
+    pub variables: NumbersByName,
     pub vars: Vec<Name>,
 }
 
@@ -48,7 +48,10 @@ pub fn tables_of(alloc: Global, raw: &RawChart, names: &Names) -> Result<Tables,
 }
 
 /// The tables of the time events and of the states.
-fn distinct_names(alloc: Global, raw: &RawChart) -> Result<(Places, Places), ChartFault>
+fn distinct_names(
+    alloc: Global,
+    raw: &RawChart,
+) -> Result<(NumbersByName, NumbersByName), ChartFault>
     requires timers { length raw.now.timer ≤ 8 }
     requires states { length raw.now.state ≤ 64 }
     ensures ok { IfOk result (λ tables. (doubles_fault raw.now ≡ None) × IsNumbering 1 (timer_names raw.now.timer) tables.0 × IsNumbering 1
@@ -63,11 +66,11 @@ fn distinct_names(alloc: Global, raw: &RawChart) -> Result<(Places, Places), Cha
 }
 
 /// The names numbered from `first`.
-fn numbered(alloc: Global, first: u16, names: &[Name]) -> Result<Places, AllocError>
+fn numbered(alloc: Global, first: u16, names: &[Name]) -> Result<NumbersByName, AllocError>
     requires { first + length names.now < 2 ^ 16 }
     ensures { IfOk result (IsNumbering first (words names.now)) }
 {
-    let mut places = Places::new(alloc);
+    let mut places = NumbersByName::new(alloc);
     for (i, name) in names.iter().enumerate() {
         places.add(name, first + i as u16)?;
     }
@@ -75,12 +78,12 @@ fn numbered(alloc: Global, first: u16, names: &[Name]) -> Result<Places, AllocEr
 }
 
 /// The names numbered from 1, where no two are the same. They are those in the list at this key.
-fn distinct(alloc: Global, list: u8, names: &[Name]) -> Result<Places, ChartFault>
+fn distinct(alloc: Global, list: u8, names: &[Name]) -> Result<NumbersByName, ChartFault>
     requires { length names.now < 2 ^ 15 }
     ensures ok { IfOk result (λ places. (double_fault list (words names.now) ≡ None) × IsNumbering 1 (words names.now) places) }
     ensures fault { IfErr result (IsFault (double_fault list (words names.now))) }
 {
-    let mut places = Places::new(alloc);
+    let mut places = NumbersByName::new(alloc);
     for (i, name) in names.iter().enumerate() {
         let place = i as u16 + 1;
         if !places.add(name, place)? {

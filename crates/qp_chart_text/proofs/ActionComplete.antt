@@ -2,12 +2,12 @@
 use Rattle.std.proofs.Common.{◌≡◌, ◌≤◌, inl, inr, ℕ, ℤ, zero, suc, List, [], ◌∷◌, ◌++◌, length, Option, Some, None, refl, ap, sym, ◌∙◌, arith, append_assoc, append-nil, length-append}
 use Rattle.qp_chart_text.specs.declared.tokens.Keyword.{Keyword}
 use Rattle.qp_chart_text.specs.declared.tokens.Keyword.TheVariants as key
-use Rattle.qp_chart_text.specs.Terms.{Word, Term, Address, ToMe, ToObject, Event, Order, Set, Say, Post, Lifo, Forward, Publish, Defer, Recall, Flush, Subscribe, Unsubscribe, Arm, Rearm, Disarm, Command, Plain, Locked}
+use Rattle.qp_chart_text.specs.Terms.{Word, Term, Address, ToMe, ToObject, EventTerm, Order, Set, Say, Post, Lifo, Forward, Publish, Defer, Recall, Flush, Subscribe, Unsubscribe, Arm, Rearm, Disarm, Command, Plain, Locked}
 use Rattle.qp_chart_text.specs.Tokens.{Tok}
 use Rattle.qp_chart_text.specs.Tokens as tok
 use Rattle.qp_chart_text.specs.Reading.{operator_at, expr_at, after_close}
-use Rattle.qp_chart_text.specs.ReadingActions.{after_open, after_comma, after_assign, after_semicolon, after_open_list, after_close_list, name_at, number_at, receiver_at, margin_at, reserve_at, plain_command_at, more_terms, terms_at, pars_at, event_at, set_at, say_at, post_at, lifo_at, forward_at, publish_at, arm_at, rearm_at, behind, plain_at, more_orders, orders_at, locked_at, command_at}
-use Rattle.qp_chart_text.specs.ActionGrammar.{IsTerm, IsTerms, one_term, one_more_term, IsPars, IsEvent, receiver_token, option_tokens, IsOrder, IsOrders, one_order, one_more_order, IsCommand}
+use Rattle.qp_chart_text.specs.ReadingActions.{after_open, after_comma, after_assign, after_semicolon, after_open_list, after_close_list, name_at, number_at, receiver_at, margin_at, reserve_at, plain_command_at, more_terms, terms_at, pars_at, event_tree_at, set_at, say_at, post_at, lifo_at, forward_at, publish_at, arm_at, rearm_at, behind, plain_at, more_orders, orders_at, locked_at, command_at}
+use Rattle.qp_chart_text.specs.ActionGrammar.{IsTerm, IsTerms, one_term, one_more_term, IsPars, IsEventText, receiver_token, option_tokens, IsOrder, IsOrders, one_order, one_more_order, IsCommand}
 use Rattle.qp_chart_text.proofs.GrammarLemmas.{Stops, expr_complete}
 use Rattle.qp_chart_text.proofs.ActionLemmas.{terms_stop, orders_stop}
 
@@ -83,8 +83,8 @@ pars_complete : (ts : List Tok) (xs : List Term) (rest : List Tok) → IsPars ts
 pars_complete ts xs rest (inl (e, f)) h = rw (e, f) (pars_none rest h)
 pars_complete ts xs rest (inr (us, e, is)) h = rw e (pars_some us xs rest is)
 
-event_complete : (ts : List Tok) (event : Event) (rest : List Tok) → IsEvent ts event → after_open rest ≡ None → event_at (ts ++ rest) ≡ Some (event, rest)
-unfolding event_at name_at
+event_complete : (ts : List Tok) (event : EventTerm) (rest : List Tok) → IsEventText ts event → after_open rest ≡ None → event_tree_at (ts ++ rest) ≡ Some (event, rest)
+unfolding event_tree_at name_at
 event_complete ts event rest (us, e, is) h = rw e (rw (pars_complete us event.pars rest is h) refl)
 
 receiver_complete : (to : Address) (rest : List Tok) → receiver_at (receiver_token to ∷ rest) ≡ Some (to, rest)
@@ -122,7 +122,7 @@ reads ts ts' o rest e h = ap (λ ts. plain_at (ts ++ rest)) e ∙ h
 regrouped : (a b c rest : List Tok) → (a ++ (b ++ c)) ++ rest ≡ a ++ (b ++ (c ++ rest))
 regrouped a b c rest = simp append_assoc
 
-post_complete : (us : List Tok) (to : Address) (event : Event) (m r : Option ℤ) (rest : List Tok) → IsEvent us event → Ends rest → post_at (receiver_token to ∷ ((us ++ (option_tokens key.Margin m ++ option_tokens key.Reserve r)) ++ rest)) ≡ Some (Post to event m r, rest)
+post_complete : (us : List Tok) (to : Address) (event : EventTerm) (m r : Option ℤ) (rest : List Tok) → IsEventText us event → Ends rest → post_at (receiver_token to ∷ ((us ++ (option_tokens key.Margin m ++ option_tokens key.Reserve r)) ++ rest)) ≡ Some (Post to event m r, rest)
 unfolding post_at
 post_complete us to event m r rest is ends =
     rw (receiver_complete to)
@@ -131,14 +131,14 @@ post_complete us to event m r rest is ends =
     (rw (margin_complete m (option_tokens key.Reserve r ++ rest) (no_margin_before r rest ends.no_margin))
     (rw (reserve_complete r rest ends.no_reserve) refl))))
 
-lifo_complete : (us : List Tok) (event : Event) (r : Option ℤ) (rest : List Tok) → IsEvent us event → Ends rest → lifo_at ((us ++ option_tokens key.Reserve r) ++ rest) ≡ Some (Lifo event r, rest)
+lifo_complete : (us : List Tok) (event : EventTerm) (r : Option ℤ) (rest : List Tok) → IsEventText us event → Ends rest → lifo_at ((us ++ option_tokens key.Reserve r) ++ rest) ≡ Some (Lifo event r, rest)
 unfolding lifo_at
 lifo_complete us event r rest is ends =
     rw (append_assoc us (option_tokens key.Reserve r) rest)
     (rw (event_complete us event (option_tokens key.Reserve r ++ rest) is (no_open_before key.Reserve r rest ends.no_open))
     (rw (reserve_complete r rest ends.no_reserve) refl))
 
-publish_complete : (us : List Tok) (event : Event) (r : Option ℤ) (rest : List Tok) → IsEvent us event → Ends rest → publish_at ((us ++ option_tokens key.Reserve r) ++ rest) ≡ Some (Publish event r, rest)
+publish_complete : (us : List Tok) (event : EventTerm) (r : Option ℤ) (rest : List Tok) → IsEventText us event → Ends rest → publish_at ((us ++ option_tokens key.Reserve r) ++ rest) ≡ Some (Publish event r, rest)
 unfolding publish_at
 publish_complete us event r rest is ends =
     rw (append_assoc us (option_tokens key.Reserve r) rest)

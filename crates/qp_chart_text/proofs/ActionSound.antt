@@ -2,12 +2,12 @@
 use Rattle.std.proofs.Common.{◌≡◌, inl, inr, ℕ, ℤ, zero, suc, List, [], ◌∷◌, ◌++◌, length, Option, Some, None, refl, ap, sym, ◌∙◌, subst, append_assoc}
 use Rattle.qp_chart_text.specs.declared.tokens.Keyword.{Keyword}
 use Rattle.qp_chart_text.specs.declared.tokens.Keyword.TheVariants as key
-use Rattle.qp_chart_text.specs.Terms.{Word, Term, Address, ToMe, ToObject, Event, Order, Set, Say, Post, Lifo, Forward, Publish, Defer, Recall, Flush, Subscribe, Unsubscribe, Arm, Rearm, Disarm, Command, Plain, Locked}
+use Rattle.qp_chart_text.specs.Terms.{Word, Term, Address, ToMe, ToObject, EventTerm, Order, Set, Say, Post, Lifo, Forward, Publish, Defer, Recall, Flush, Subscribe, Unsubscribe, Arm, Rearm, Disarm, Command, Plain, Locked}
 use Rattle.qp_chart_text.specs.Tokens.{Tok}
 use Rattle.qp_chart_text.specs.Tokens as tok
 use Rattle.qp_chart_text.specs.Reading.{expr_at, after_close}
-use Rattle.qp_chart_text.specs.ReadingActions.{after_open, after_comma, after_assign, after_semicolon, after_open_list, after_close_list, name_at, number_at, receiver_at, margin_at, reserve_at, number_behind, plain_command_at, next_term, more_terms, terms_at, pars_in, pars_at, event_at, set_at, say_at, post_at, lifo_at, forward_at, publish_at, arm_at, rearm_at, named_at, behind, plain_at, next_order, more_orders, orders_at, locked_at, command_at}
-use Rattle.qp_chart_text.specs.ActionGrammar.{IsTerms, one_term, one_more_term, IsPars, IsEvent, receiver_token, option_tokens, IsOrder, IsOrders, one_order, one_more_order, IsCommand}
+use Rattle.qp_chart_text.specs.ReadingActions.{after_open, after_comma, after_assign, after_semicolon, after_open_list, after_close_list, name_at, number_at, receiver_at, margin_at, reserve_at, number_behind, plain_command_at, next_term, more_terms, terms_at, pars_in, pars_at, event_tree_at, set_at, say_at, post_at, lifo_at, forward_at, publish_at, arm_at, rearm_at, named_at, behind, plain_at, next_order, more_orders, orders_at, locked_at, command_at}
+use Rattle.qp_chart_text.specs.ActionGrammar.{IsTerms, one_term, one_more_term, IsPars, IsEventText, receiver_token, option_tokens, IsOrder, IsOrders, one_order, one_more_order, IsCommand}
 use Rattle.qp_chart_text.proofs.GrammarLemmas.{expr_sound, bind_ok, some_pair, close_sound}
 
 -- a front of the tokens is such
@@ -137,18 +137,18 @@ pars_sound ts xs rest h =
           }
     ] refl h
 
-event_sound : (ts : List Tok) (event : Event) (rest : List Tok) → event_at ts ≡ Some (event, rest) → Cut (λ f. IsEvent f event) ts rest
-unfolding event_at
+event_sound : (ts : List Tok) (event : EventTerm) (rest : List Tok) → event_tree_at ts ≡ Some (event, rest) → Cut (λ f. IsEventText f event) ts rest
+unfolding event_tree_at
 event_sound ts event rest h =
     let i = bind_ok (name_at ts) _ _ h in
     let j = bind_ok (pars_at i.0.1) _ _ i.2 in
-    let made : Event = record { signal = i.0.0; pars = j.0.0 } in
+    let made : EventTerm = record { signal = i.0.0; pars = j.0.0 } in
     let p = some_pair made event j.0.1 rest j.2 in
     let c = pars_sound i.0.1 j.0.0 j.0.1 j.1 in
     record {
       front = tok.Name i.0.0 ∷ c.front;
       splits = name_sound ts i.0.0 i.0.1 i.1 ∙ ap (λ r. tok.Name i.0.0 ∷ r) (c.splits ∙ ap (λ r. c.front ++ r) p.1);
-      is = subst (λ e. IsEvent (tok.Name i.0.0 ∷ c.front) e) p.0 (c.front, refl, c.is);
+      is = subst (λ e. IsEventText (tok.Name i.0.0 ∷ c.front) e) p.0 (c.front, refl, c.is);
     }
 
 -- the plain action that a word or a name begins
@@ -182,7 +182,7 @@ post_sound : (ts : List Tok) (o : Order) (rest : List Tok) → post_at ts ≡ So
 unfolding post_at IsOrder
 post_sound ts o rest h =
     let i = bind_ok (receiver_at ts) _ _ h in
-    let j = bind_ok (event_at i.0.1) _ _ i.2 in
+    let j = bind_ok (event_tree_at i.0.1) _ _ i.2 in
     let k = bind_ok (margin_at j.0.1) _ _ j.2 in
     let l = bind_ok (reserve_at k.0.1) _ _ k.2 in
     let p = some_pair (Post i.0.0 j.0.0 k.0.0 l.0.0) o l.0.1 rest l.2 in
@@ -196,7 +196,7 @@ post_sound ts o rest h =
 lifo_sound : (ts : List Tok) (o : Order) (rest : List Tok) → lifo_at ts ≡ Some (o, rest) → Orders (tok.Key key.Lifo) ts o rest
 unfolding lifo_at IsOrder
 lifo_sound ts o rest h =
-    let j = bind_ok (event_at ts) _ _ h in
+    let j = bind_ok (event_tree_at ts) _ _ h in
     let l = bind_ok (reserve_at j.0.1) _ _ j.2 in
     let p = some_pair (Lifo j.0.0 l.0.0) o l.0.1 rest l.2 in
     let e = event_sound ts j.0.0 j.0.1 j.1 in
@@ -208,7 +208,7 @@ lifo_sound ts o rest h =
 publish_sound : (ts : List Tok) (o : Order) (rest : List Tok) → publish_at ts ≡ Some (o, rest) → Orders (tok.Key key.Publish) ts o rest
 unfolding publish_at IsOrder
 publish_sound ts o rest h =
-    let j = bind_ok (event_at ts) _ _ h in
+    let j = bind_ok (event_tree_at ts) _ _ h in
     let l = bind_ok (reserve_at j.0.1) _ _ j.2 in
     let p = some_pair (Publish j.0.0 l.0.0) o l.0.1 rest l.2 in
     let e = event_sound ts j.0.0 j.0.1 j.1 in

@@ -5,7 +5,7 @@ use Rattle.std.proofs.lemmas.List.Sums.{prefix_len_passes}
 use Rattle.std.proofs.lemmas.List.{get_or-take, get_or_past, length-take}
 use Rattle.std.specs.List.{prefix_len}
 use Rattle.std.specs.Str.{IsAscii}
-use Rattle.qp_chart_text.specs.Tokens.{value_after, number_in, is_letter, is_word_byte, Tok, Lexed, before, or_else, ◌>>=◌, word_token, number_token, mark_of, mark_at, token_at, is_space, tokens_of}
+use Rattle.qp_chart_text.specs.Tokens.{value_after, number_within, is_letter, is_word_byte, Tok, Lexed, lexed_before, or_else, ◌>>=◌, word_token, number_token, mark_of, mark_at, token_at, is_space, tokens_of}
 use Rattle.std.specs.Char.{is_ascii_digit}
 use Rattle.std.proofs.Common.{length-drop, append_assoc, append-nil}
 
@@ -13,11 +13,11 @@ pub value_above : (n : ℕ) (ds : List ℕ) → n ≤ value_after n ds
 value_above n [] = omega arith
 value_above n (d ∷ ds) = omega (arith, value_above (n * 10 + (d - 48)) ds)
 
-no_number : (n : ℕ) → 2 ^ 64 ≤ n → number_in n ≡ None
+no_number : (n : ℕ) → 2 ^ 64 ≤ n → number_within n ≡ None
 no_number n h = grind arith
 
 -- a number that passes 64 bits at a digit is none
-pub large : (n i : ℕ) (ds : List ℕ) → i < length ds → 2 ^ 64 ≤ n * 10 + (get_or ds i 0 - 48) → number_in (value_after n (drop i ds)) ≡ None
+pub large : (n i : ℕ) (ds : List ℕ) → i < length ds → 2 ^ 64 ≤ n * 10 + (get_or ds i 0 - 48) → number_within (value_after n (drop i ds)) ≡ None
 large n i ds h g = rw (drop-cons ds i 0) (no_number _ (omega (arith, g, value_above (n * 10 + (get_or ds i 0 - 48)) (drop (suc i) ds))))
 
 ascii_letter : (b : ℕ) → is_word_byte b ≡ true → b < 128
@@ -32,7 +32,7 @@ word_ascii bs i =
       | false ↦ λ h. rw (get_or_past (take n bs) i 0 (omega (arith, ltb-false i n h, length-take n bs))) (lit< tt)
     ] refl
 
-before_rest : (rest : List ℕ) (t : Option Tok) (found : Lexed) → before rest t ≡ Some found → found.1 ≡ rest
+before_rest : (rest : List ℕ) (t : Option Tok) (found : Lexed) → lexed_before rest t ≡ Some found → found.1 ≡ rest
 before_rest rest None found h = cc
 before_rest rest (Some t) found h = cc
 
@@ -50,16 +50,16 @@ mark_shorter : (bs : List ℕ) (found : Lexed) → mark_at bs ≡ Some found →
 unfolding mark_at mark_of
 mark_shorter [] found h = cc
 mark_shorter (b ∷ bs) found h =
-    elim (one_of (before (drop 2 (b ∷ bs)) (mark_of (take 2 (b ∷ bs)))) (before (drop 1 (b ∷ bs)) (mark_of (take 1 (b ∷ bs)))) found h) [
+    elim (one_of (lexed_before (drop 2 (b ∷ bs)) (mark_of (take 2 (b ∷ bs)))) (lexed_before (drop 1 (b ∷ bs)) (mark_of (take 1 (b ∷ bs)))) found h) [
       | inl two ↦ rw (before_rest (drop 2 (b ∷ bs)) (mark_of (take 2 (b ∷ bs))) found two) (drops 1 b bs)
       | inr one ↦ rw (before_rest (drop 1 (b ∷ bs)) (mark_of (take 1 (b ∷ bs))) found one) (drops 0 b bs)
     ]
 
 letter_token : ℕ → List ℕ → Option Lexed
-letter_token b bs = let n = prefix_len is_word_byte (b ∷ bs) in before (drop n (b ∷ bs)) (word_token (take n (b ∷ bs)))
+letter_token b bs = let n = prefix_len is_word_byte (b ∷ bs) in lexed_before (drop n (b ∷ bs)) (word_token (take n (b ∷ bs)))
 
 digit_token : ℕ → List ℕ → Option Lexed
-digit_token b bs = let n = prefix_len is_ascii_digit (b ∷ bs) in before (drop n (b ∷ bs)) (number_token (take n (b ∷ bs)))
+digit_token b bs = let n = prefix_len is_ascii_digit (b ∷ bs) in lexed_before (drop n (b ∷ bs)) (number_token (take n (b ∷ bs)))
 
 digit_shorter : (b : ℕ) (bs : List ℕ) (found : Lexed) (is : Bool) → is_ascii_digit b ≡ is → cond is (digit_token b bs) (mark_at (b ∷ bs)) ≡ Some found → length found.1 < length (b ∷ bs)
 unfolding digit_token

@@ -2,7 +2,7 @@
 use Rattle.std.specs.Prelude.{◌≡◌, ◌⊎◌, ℕ, ℤ, List, [], ◌∷◌, ◌++◌, Option, Some, None}
 use Rattle.qp_chart_text.specs.declared.tokens.Keyword.{Keyword}
 use Rattle.qp_chart_text.specs.declared.tokens.Keyword.TheVariants as key
-use Rattle.qp_chart_text.specs.Terms.{Term, Address, ToMe, ToObject, Event, Order, Set, Say, Post, Lifo, Forward, Publish, Defer, Recall, Flush, Subscribe, Unsubscribe, Arm, Rearm, Disarm, Command, Plain, Locked}
+use Rattle.qp_chart_text.specs.Terms.{Term, Address, ToMe, ToObject, EventTerm, Order, Set, Say, Post, Lifo, Forward, Publish, Defer, Recall, Flush, Subscribe, Unsubscribe, Arm, Rearm, Disarm, Command, Plain, Locked}
 use Rattle.qp_chart_text.specs.Tokens.{Tok, Num, Key, Name, Me, Assign, Open, Close, OpenList, CloseList, Comma, Semicolon, tokens_of_text}
 use Rattle.qp_chart_text.specs.Grammar.{IsExpr}
 
@@ -20,8 +20,8 @@ abbrev pub IsPars : List Tok → List Term → Type 0
 IsPars ts pars = ((ts ≡ []) × (pars ≡ [])) ⊎ ((us : List Tok) × (ts ≡ Open ∷ (us ++ Close ∷ [])) × IsTerms us pars)
 
 -- a signal and its parameters
-abbrev pub IsEvent : List Tok → Event → Type 0
-IsEvent ts event = (us : List Tok) × (ts ≡ Name event.signal ∷ us) × IsPars us event.pars
+abbrev pub IsEventText : List Tok → EventTerm → Type 0
+IsEventText ts event = (us : List Tok) × (ts ≡ Name event.signal ∷ us) × IsPars us event.pars
 
 abbrev pub receiver_token : Address → Tok
 receiver_token ToMe = Me
@@ -37,10 +37,10 @@ unfoldable pub IsOrder : List Tok → Order → Type 0
 IsOrder ts (Set name x) = (us : List Tok) × (ts ≡ Name name ∷ Assign ∷ us) × IsTerm us x
 IsOrder ts (Say x) = (us : List Tok) × (ts ≡ Key key.Say ∷ us) × IsTerm us x
 IsOrder ts (Post to event margin reserve) =
-    (us : List Tok) × (ts ≡ Key key.Post ∷ receiver_token to ∷ (us ++ (option_tokens key.Margin margin ++ option_tokens key.Reserve reserve))) × IsEvent us event
-IsOrder ts (Lifo event reserve) = (us : List Tok) × (ts ≡ Key key.Lifo ∷ (us ++ option_tokens key.Reserve reserve)) × IsEvent us event
+    (us : List Tok) × (ts ≡ Key key.Post ∷ receiver_token to ∷ (us ++ (option_tokens key.Margin margin ++ option_tokens key.Reserve reserve))) × IsEventText us event
+IsOrder ts (Lifo event reserve) = (us : List Tok) × (ts ≡ Key key.Lifo ∷ (us ++ option_tokens key.Reserve reserve)) × IsEventText us event
 IsOrder ts (Forward to margin) = ts ≡ Key key.Forward ∷ receiver_token to ∷ option_tokens key.Margin margin
-IsOrder ts (Publish event reserve) = (us : List Tok) × (ts ≡ Key key.Publish ∷ (us ++ option_tokens key.Reserve reserve)) × IsEvent us event
+IsOrder ts (Publish event reserve) = (us : List Tok) × (ts ≡ Key key.Publish ∷ (us ++ option_tokens key.Reserve reserve)) × IsEventText us event
 IsOrder ts Defer = ts ≡ Key key.Defer ∷ []
 IsOrder ts Recall = ts ≡ Key key.Recall ∷ []
 IsOrder ts Flush = ts ≡ Key key.Flush ∷ []

@@ -2,7 +2,7 @@
 use Rattle.std.specs.Prelude.{ℕ, ℤ, zero, suc, List, [], ◌∷◌, ◌++◌, length, Option, Some, None}
 use Rattle.qp_chart_text.specs.declared.tokens.Keyword.{Keyword}
 use Rattle.qp_chart_text.specs.declared.tokens.Keyword.TheVariants as key
-use Rattle.qp_chart_text.specs.Terms.{Word, Term, Address, ToMe, ToObject, Event, Order, Set, Say, Post, Lifo, Forward, Publish, Defer, Recall, Flush, Subscribe, Unsubscribe, Arm, Rearm, Disarm, Command, Plain, Locked}
+use Rattle.qp_chart_text.specs.Terms.{Word, Term, Address, ToMe, ToObject, EventTerm, Order, Set, Say, Post, Lifo, Forward, Publish, Defer, Recall, Flush, Subscribe, Unsubscribe, Arm, Rearm, Disarm, Command, Plain, Locked}
 use Rattle.qp_chart_text.specs.Tokens.{Tok, tokens_of_text, ◌>>=◌}
 use Rattle.qp_chart_text.specs.Tokens as tok
 use Rattle.qp_chart_text.specs.Reading.{Part, expr_at, after_close, all_of}
@@ -83,9 +83,9 @@ unfoldable pub pars_at : List Tok → Part (List Term)
 unfolding terms_at after_open after_close
 pars_at ts = pars_in ts (after_open ts)
 
-unfoldable pub event_at : List Tok → Part Event
+unfoldable pub event_tree_at : List Tok → Part EventTerm
 unfolding name_at pars_at
-event_at ts = name_at ts >>= (λ name. pars_at name.1 >>= (λ pars. Some (record { signal = name.0; pars = pars.0 }, pars.1)))
+event_tree_at ts = name_at ts >>= (λ name. pars_at name.1 >>= (λ pars. Some (record { signal = name.0; pars = pars.0 }, pars.1)))
 
 unfoldable pub set_at : Word → List Tok → Part Order
 unfolding expr_at after_assign
@@ -96,22 +96,22 @@ unfolding expr_at
 say_at ts = expr_at ts >>= (λ x. Some (Say x.0, x.1))
 
 unfoldable pub post_at : List Tok → Part Order
-unfolding receiver_at event_at margin_at reserve_at
+unfolding receiver_at event_tree_at margin_at reserve_at
 post_at ts =
-    receiver_at ts >>= (λ to. event_at to.1 >>= (λ event. margin_at event.1 >>= (λ margin. reserve_at margin.1 >>= (λ reserve.
+    receiver_at ts >>= (λ to. event_tree_at to.1 >>= (λ event. margin_at event.1 >>= (λ margin. reserve_at margin.1 >>= (λ reserve.
     Some (Post to.0 event.0 margin.0 reserve.0, reserve.1)))))
 
 unfoldable pub lifo_at : List Tok → Part Order
-unfolding event_at reserve_at
-lifo_at ts = event_at ts >>= (λ event. reserve_at event.1 >>= (λ reserve. Some (Lifo event.0 reserve.0, reserve.1)))
+unfolding event_tree_at reserve_at
+lifo_at ts = event_tree_at ts >>= (λ event. reserve_at event.1 >>= (λ reserve. Some (Lifo event.0 reserve.0, reserve.1)))
 
 unfoldable pub forward_at : List Tok → Part Order
 unfolding receiver_at margin_at
 forward_at ts = receiver_at ts >>= (λ to. margin_at to.1 >>= (λ margin. Some (Forward to.0 margin.0, margin.1)))
 
 unfoldable pub publish_at : List Tok → Part Order
-unfolding event_at reserve_at
-publish_at ts = event_at ts >>= (λ event. reserve_at event.1 >>= (λ reserve. Some (Publish event.0 reserve.0, reserve.1)))
+unfolding event_tree_at reserve_at
+publish_at ts = event_tree_at ts >>= (λ event. reserve_at event.1 >>= (λ reserve. Some (Publish event.0 reserve.0, reserve.1)))
 
 unfoldable pub arm_at : List Tok → Part Order
 unfolding name_at after_open expr_at after_comma after_close

@@ -31,7 +31,7 @@ pub data Address : Type 0 where
   ToObject : (name : Word) → Address
 
 -- an event to be made
-pub record Event : Type 0 where
+pub record EventTerm : Type 0 where
   pub signal : Word
   pub pars : List Term
 
@@ -39,10 +39,10 @@ pub record Event : Type 0 where
 pub data Order : Type 0 where
   Set : (var : Word) (value : Term) → Order
   Say : (value : Term) → Order
-  Post : (to : Address) (event : Event) (margin reserve : Option ℤ) → Order
-  Lifo : (event : Event) (reserve : Option ℤ) → Order
+  Post : (to : Address) (event : EventTerm) (margin reserve : Option ℤ) → Order
+  Lifo : (event : EventTerm) (reserve : Option ℤ) → Order
   Forward : (to : Address) (margin : Option ℤ) → Order
-  Publish : (event : Event) (reserve : Option ℤ) → Order
+  Publish : (event : EventTerm) (reserve : Option ℤ) → Order
   Defer : Order
   Recall : Order
   Flush : Order
@@ -71,19 +71,19 @@ abbrev pub address_of : receiver.Receiver → Address
 address_of to.Me = ToMe
 address_of (to.Object name) = ToObject name
 
-unfoldable pub event_of : event.EventTree → Event
+unfoldable pub event_of_tree : event.EventTree → EventTerm
 unfolding term_of
-event_of e = record { signal = e.signal; pars = map term_of e.pars }
+event_of_tree e = record { signal = e.signal; pars = map term_of e.pars }
 
 -- what a plain action says
 unfoldable pub order_of : plain.PlainAction → Order
-unfolding term_of event_of
+unfolding term_of event_of_tree
 order_of (act.Set var value) = Set var (term_of value)
 order_of (act.Say value) = Say (term_of value)
-order_of (act.Post to event margin reserve) = Post (address_of to) (event_of event) margin reserve
-order_of (act.Lifo event reserve) = Lifo (event_of event) reserve
+order_of (act.Post to event margin reserve) = Post (address_of to) (event_of_tree event) margin reserve
+order_of (act.Lifo event reserve) = Lifo (event_of_tree event) reserve
 order_of (act.Forward to margin) = Forward (address_of to) margin
-order_of (act.Publish event reserve) = Publish (event_of event) reserve
+order_of (act.Publish event reserve) = Publish (event_of_tree event) reserve
 order_of act.Defer = Defer
 order_of act.Recall = Recall
 order_of act.Flush = Flush

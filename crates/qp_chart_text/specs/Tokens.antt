@@ -113,14 +113,14 @@ value_after n [] = n
 value_after n (d ∷ ds) = value_after (n * 10 + (d - 48)) ds
 
 -- a number is at most 9223372036854775807
-abbrev pub number_in : ℕ → Option ℤ
-number_in n = if nat_le n 9223372036854775807 then Some (pos n) else None
+abbrev pub number_within : ℕ → Option ℤ
+number_within n = if nat_le n 9223372036854775807 then Some (pos n) else None
 
 -- a number of two or more digits doesn't begin with 0
 unfoldable pub number_token : List ℕ → Option Tok
 number_token digits =
     if (slice_index digits 0 == 48) && not (length digits == 1) then None
-    else number_in (value_after 0 digits) >>= (λ n. Some (Num n))
+    else number_within (value_after 0 digits) >>= (λ n. Some (Num n))
 
 -- operators and marks
 unfoldable pub mark_of : List ℕ → Option Tok
@@ -158,20 +158,20 @@ is_word_byte b = is_letter b || is_ascii_digit b
 abbrev pub Lexed : Type 0
 Lexed = Tok × List ℕ
 
-abbrev pub before : List ℕ → Option Tok → Option Lexed
-before rest token = token >>= (λ t. Some (t, rest))
+abbrev pub lexed_before : List ℕ → Option Tok → Option Lexed
+lexed_before rest token = token >>= (λ t. Some (t, rest))
 
 -- of the marks the longer is read
 unfoldable pub mark_at : List ℕ → Option Lexed
 unfolding mark_of
-mark_at bytes = or_else (before (drop 2 bytes) (mark_of (take 2 bytes))) (before (drop 1 bytes) (mark_of (take 1 bytes)))
+mark_at bytes = or_else (lexed_before (drop 2 bytes) (mark_of (take 2 bytes))) (lexed_before (drop 1 bytes) (mark_of (take 1 bytes)))
 
 -- the first token: words and numbers are read as long as possible
 unfoldable pub token_at : List ℕ → Option Lexed
 unfolding word_token number_token mark_at
 token_at bytes =
-    if is_letter (slice_index bytes 0) then (let n = prefix_len is_word_byte bytes in before (drop n bytes) (word_token (take n bytes)))
-    else (if is_ascii_digit (slice_index bytes 0) then (let n = prefix_len is_ascii_digit bytes in before (drop n bytes) (number_token (take n bytes)))
+    if is_letter (slice_index bytes 0) then (let n = prefix_len is_word_byte bytes in lexed_before (drop n bytes) (word_token (take n bytes)))
+    else (if is_ascii_digit (slice_index bytes 0) then (let n = prefix_len is_ascii_digit bytes in lexed_before (drop n bytes) (number_token (take n bytes)))
     else mark_at bytes)
 
 abbrev pub is_space : ℕ → Bool

@@ -1,10 +1,10 @@
 //! Reading an action.
 
 ghost use Rattle.std.specs.Prelude.{◌≡◌, ℕ, ◌<◌, ◌≤◌, length, map, IfOk};
-ghost use Rattle.qp_chart_text.specs.Terms.{Command, term_of, event_of, order_of, command_of};
+ghost use Rattle.qp_chart_text.specs.Terms.{Command, term_of, event_of_tree, order_of, command_of};
 ghost use Rattle.qp_chart_text.specs.Tokens.{tok_of};
 ghost use Rattle.qp_chart_text.specs.Reading.{Gives};
-ghost use Rattle.qp_chart_text.specs.ReadingActions.{more_terms, terms_at, pars_at, event_at, set_at, say_at, post_at, lifo_at, forward_at, publish_at, arm_at, rearm_at, behind, plain_at, more_orders, orders_at, locked_at, command_at, command_of_text};
+ghost use Rattle.qp_chart_text.specs.ReadingActions.{more_terms, terms_at, pars_at, event_tree_at, set_at, say_at, post_at, lifo_at, forward_at, publish_at, arm_at, rearm_at, behind, plain_at, more_orders, orders_at, locked_at, command_at, command_of_text};
 ghost use Rattle.qp_chart_text.specs.ActionGrammar.{IsActionText};
 
 use crate::names::Name;
@@ -293,9 +293,9 @@ fn rearm_at(alloc: Global, tokens: &[Token]) -> Result<(PlainAction, &[Token]), 
 }
 
 // A signal and its parameters.
-#[tactic(auto, unfolding(crate::specs::ReadingActions::event_at, crate::specs::Terms::event_of))]
+#[tactic(auto, unfolding(crate::specs::ReadingActions::event_tree_at, crate::specs::Terms::event_of_tree))]
 fn event_at(alloc: Global, tokens: &[Token]) -> Result<(EventTree, &[Token]), ExprFault>
-    ensures exact { Gives (λ x. (event_of x.0, map tok_of x.1.now)) result (event_at (map tok_of tokens.now)) }
+    ensures exact { Gives (λ x. (event_of_tree x.0, map tok_of x.1.now)) result (event_tree_at (map tok_of tokens.now)) }
     ensures no_longer { IfOk result (λ x. length x.1.now ≤ length tokens.now) }
 {
     let Some((signal, rest)) = name_at(tokens) else {

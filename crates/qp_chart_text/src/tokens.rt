@@ -5,7 +5,7 @@ ghost use Rattle.std.specs.List.{prefix_len};
 ghost use Rattle.std.specs.Char.{is_ascii_digit};
 ghost use Rattle.std.specs.Option.{option_map};
 ghost use Rattle.std.specs.Str.{IsAscii};
-ghost use Rattle.qp_chart_text.specs.Tokens.{tok_of, keyword_of, atom_of, word_token, number_token, number_in, value_after, name_token, mark_of, mark_at, token_at, tokens_of_text, is_letter, is_word_byte, is_space};
+ghost use Rattle.qp_chart_text.specs.Tokens.{tok_of, keyword_of, atom_of, word_token, number_token, number_within, value_after, name_token, mark_of, mark_at, token_at, tokens_of_text, is_letter, is_word_byte, is_space};
 ghost use Rattle.qp_chart_text.specs.Reading.{Gives};
 
 use crate::names::Name;
@@ -229,7 +229,7 @@ fn number_token_of(digits: &[u8]) -> Option<Token>
 
 // The number that decimal digits write.
 fn number(digits: &[u8]) -> Option<i64>
-    ensures { result ≡ number_in (value_after 0 digits.now) }
+    ensures { result ≡ number_within (value_after 0 digits.now) }
 {
     let mut value: u64 = 0;
     for d in digits {

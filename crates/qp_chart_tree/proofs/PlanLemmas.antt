@@ -1,14 +1,14 @@
 -- Plans of tasks that are made one after another: actions, initial transitions, the move of a row.
 use Rattle.std.proofs.Common.{◌≡◌, ℕ, suc, ◌+◌, ◌-◌, ◌<◌, List, ◌∷◌, ◌++◌, length, get_or, drop, sym, ◌∙◌, ap, append_assoc, add-one, drop-cons, ◌≤◌, [], append-nil, refl, arith, Some, None, Option, subst}
 use Rattle.std.proofs.lemmas.List.{drop_all}
-use Rattle.qp_chart.specs.Drill.{before, Plan, init_of, drill_to, drill, initial}
+use Rattle.qp_chart.specs.Drill.{plan_before, Plan, init_of, drill_to, drill, initial}
 use Rattle.qp_chart.specs.declared.actions.Act.{Act}
 use Rattle.qp_chart.specs.Task.{act_tasks, tasks_of}
 use Rattle.qp_chart.specs.declared.checked.Chart.{Chart}
 use Rattle.qp_chart.specs.declared.checked.State.{State}
 use Rattle.qp_chart.specs.Agenda.{transition, crossing, moves}
 use Rattle.qp_chart.specs.MainState.{main_state}
-use Rattle.qp_chart_tree.specs.Plans.{Adds}
+use Rattle.qp_chart_tree.specs.Plans.{AddsTasks}
 use Rattle.qp_chart.specs.Task as task
 
 -- what an element makes stands before what the others make
@@ -30,17 +30,17 @@ unfolding tasks_of
 acts-step = made-step tasks_of act_tasks (λ x xs. refl)
 
 -- a plan behind some tasks
-pub adds-more : (xs old mid new : List task.Task) (plan : Plan) (after : ℕ) → mid ≡ old ++ xs → Adds plan mid new after → Adds (before xs plan) old new after
+pub adds-more : (xs old mid new : List task.Task) (plan : Plan) (after : ℕ) → mid ≡ old ++ xs → AddsTasks plan mid new after → AddsTasks (plan_before xs plan) old new after
 adds-more xs old mid new plan after e h = record { tasks = h.tasks ∙ ap (λ ys. ys ++ plan.tasks) e ∙ append_assoc old xs plan.tasks; leaf = h.leaf }
 
 -- a plan that is done
 pub adds-end : (plan whole : Plan) (old new : List task.Task) (s : ℕ) → plan ≡ record { tasks = []; leaf = s } → new ++ plan.tasks ≡ old ++ whole.tasks → plan.leaf ≡ whole.leaf
-    → Adds whole old new s
+    → AddsTasks whole old new s
 adds-end plan whole old new s e h l =
     record { tasks = sym (append-nil new) ∙ ap (λ (p : Plan). new ++ p.tasks) (sym e) ∙ h; leaf = ap (λ (p : Plan). p.leaf) (sym e) ∙ l }
 
 -- the first tasks of a plan are done
-pub plan-more : (plan rest : Plan) (xs done new whole : List task.Task) → plan ≡ before xs rest → new ≡ done ++ xs → done ++ plan.tasks ≡ whole → new ++ rest.tasks ≡ whole
+pub plan-more : (plan rest : Plan) (xs done new whole : List task.Task) → plan ≡ plan_before xs rest → new ≡ done ++ xs → done ++ plan.tasks ≡ whole → new ++ rest.tasks ≡ whole
 plan-more plan rest xs done new whole e is h =
     ap (λ ys. ys ++ rest.tasks) is ∙ append_assoc done xs rest.tasks ∙ ap (λ (p : Plan). done ++ p.tasks) (sym e) ∙ h
 
@@ -50,7 +50,7 @@ drill-init chart items s e = let fuel : length items - 0 ≡ length chart.state 
 
 -- an initial transition more
 pub drill-step : (chart : Chart) (n i s t : ℕ) → i < n → Some t ≡ init_of chart s
-    → drill_to chart (n - i) s (init_of chart s) ≡ before (initial chart s t) (drill_to chart (n - (i + 1)) t (init_of chart t))
+    → drill_to chart (n - i) s (init_of chart s) ≡ plan_before (initial chart s t) (drill_to chart (n - (i + 1)) t (init_of chart t))
 unfolding drill_to
 drill-step chart n i s t h e =
     let fuel : n - i ≡ suc (n - (i + 1)) = omega arith in
@@ -70,13 +70,13 @@ drill-end chart n i s h = let fuel : n - i ≡ 0 = omega arith in ap (λ m. dril
 
 -- the move of a row
 pub moves-some : (chart : Chart) (leaf s t : ℕ) (main to : Option ℕ) (old mid new : List task.Task) (after : ℕ) → to ≡ Some t → main ≡ main_state chart s t
-    → mid ≡ old ++ crossing chart main leaf t → Adds (drill chart t) mid new after → Adds (moves chart leaf s to) old new after
+    → mid ≡ old ++ crossing chart main leaf t → AddsTasks (drill chart t) mid new after → AddsTasks (moves chart leaf s to) old new after
 unfolding moves transition
 moves-some chart leaf s t main to old mid new after is e crossed h =
-    subst (λ o. Adds (moves chart leaf s o) old new after) (sym is)
+    subst (λ o. AddsTasks (moves chart leaf s o) old new after) (sym is)
     (adds-more (crossing chart (main_state chart s t) leaf t) old mid new (drill chart t) after (crossed ∙ ap (λ m. old ++ crossing chart m leaf t) e) h)
 
-pub moves-none : (chart : Chart) (leaf s : ℕ) (to : Option ℕ) (old : List task.Task) → to ≡ None → Adds (moves chart leaf s to) old old leaf
+pub moves-none : (chart : Chart) (leaf s : ℕ) (to : Option ℕ) (old : List task.Task) → to ≡ None → AddsTasks (moves chart leaf s to) old old leaf
 unfolding moves
 moves-none chart leaf s to old is =
-    subst (λ o. Adds (moves chart leaf s o) old old leaf) (sym is) (record { tasks = sym (append-nil old); leaf = refl })
+    subst (λ o. AddsTasks (moves chart leaf s o) old old leaf) (sym is) (record { tasks = sym (append-nil old); leaf = refl })

@@ -14,7 +14,7 @@ use Rattle.qp_model.specs.HomeLane.{is_home_lane}
 use Rattle.qp_model.specs.Kernels.{port}
 use Rattle.qp_model.specs.Lawful.{CourseHolds, ShapesHold, cut_of, dispatched, facts_of}
 use Rattle.qp_model.specs.ObjectShape.{HasShape}
-use Rattle.qp_model.specs.Pieces.{Piece, bare}
+use Rattle.qp_model.specs.Pieces.{Piece, records_in}
 use Rattle.qp_model.specs.Told.{Told}
 use Rattle.qp_model.proofs.HomeLemmas.{home_records-kernel}
 use Rattle.qp_check_calls.specs.Decides.{Decides}
@@ -62,10 +62,10 @@ module _ (sys : System) (j : Journal) (d : ObjectDef) (cut : Cut) (told : List T
         decides-no (ShapesHold sys j d)
         (λ h. let home : Home ≡ true = rw there at h.home in let bad : false ≡ true = test ∙ home in let absent : ⊥ = cc in absent)
 
-  pub course-is : told ≡ dispatched (by_object (facts_of sys j) j d.priority) → (b : Bool) → Decides b ((ps : List Piece) × (bare ps ≡ told) × FollowsTo sys d cut ps) → Decides b (CourseHolds sys j d)
+  pub course-is : told ≡ dispatched (by_object (facts_of sys j) j d.priority) → (b : Bool) → Decides b ((ps : List Piece) × (records_in ps ≡ told) × FollowsTo sys d cut ps) → Decides b (CourseHolds sys j d)
   unfolding CourseHolds
   course-is tells b h =
-      decides-as ((ps : List Piece) × (bare ps ≡ told) × FollowsTo sys d cut ps) ((ps : List Piece) × (bare ps ≡ dispatched (by_object (facts_of sys j) j d.priority)) × FollowsTo sys d (cut_of sys j d.priority) ps) b
+      decides-as ((ps : List Piece) × (records_in ps ≡ told) × FollowsTo sys d cut ps) ((ps : List Piece) × (records_in ps ≡ dispatched (by_object (facts_of sys j) j d.priority)) × FollowsTo sys d (cut_of sys j d.priority) ps) b
       (λ f. (f.0, f.1 ∙ tells, rw (← cuts) f.2))
       (λ f. (f.0, f.1 ∙ sym tells, rw cuts f.2))
       h

@@ -3,7 +3,7 @@ use Rattle.std.specs.Prelude.{◌≤◌, length}
 use Rattle.std.specs.List.{AllByRecursion}
 use Rattle.qp_model.specs.declared.systems.System.{System}
 use Rattle.qp_model.specs.Laws.{Ascend}
-use Rattle.qp_check_histories.specs.Numbers.{WordsFit}
+use Rattle.qp_check_words.specs.Numbers.{WordsFit}
 use Rattle.qp_check_course.specs.Followable.{IsFollowable}
 
 -- its words have numbers of their types, its priorities are from 1 to 32 and ascend, and its charts can be followed

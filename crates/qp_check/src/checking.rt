@@ -9,9 +9,9 @@ ghost use Rattle.qp_check.specs.Judged.{Finds, IsVerdict, end_trials, kernel_tri
 use crate::object_tests::objects_broken;
 use crate::run_parts::{end_broken, kernel_broken, lanes_broken};
 use qp_base::Memory;
-use qp_check_histories::records_by_word::RecordsByWord;
 use qp_check_knowledge::knowledge::Knowledge;
 use qp_check_words::judge::words_broken;
+use qp_check_words::records_by_word::RecordsByWord;
 use qp_check_words::verdict::{Broken, Verdict};
 use qp_model::{Journal, Stimuli, System};
 use std::alloc::{AllocError, Global};

@@ -83,7 +83,7 @@ pub(crate) fn is_source_lane(
     ensures { IfOk result (λ b. Decides b (IsSourceLane (facts_of sys.now j.now) j.now.kernel j.now.end source.now (lane_items lane.now))) }
 {
     let told = source_told(alloc, knowledge, lane)?;
-    let is = qp_check_sources::is_source_lane(
+    let is = qp_check_ends::is_source_lane(
         alloc,
         sys,
         j.kernel,
@@ -109,6 +109,6 @@ pub(crate) fn spill_stands(
     ensures { IfOk result (λ b. Decides b (SpillStands sys.now j.now cuts source.now (lane_items lane.now))) }
 {
     let told = source_told(alloc, knowledge, lane)?;
-    let stands = qp_check_sources::spill_stands(alloc, sys, j.kernel, cuts, &source.items, &told)?;
+    let stands = qp_check_ends::spill_stands(alloc, sys, j.kernel, cuts, &source.items, &told)?;
     Ok(stands)
 }

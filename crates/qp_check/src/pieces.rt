@@ -15,7 +15,7 @@ ghost use Rattle.qp_check.specs.ObjectPieces.{own_piece, pieces_of, point_of, st
 
 use crate::pieces_rows::ObjectPieces;
 use qp_check_calls::{Piece, Told};
-use qp_check_kernel::lane_state::{Reading, Rules, Upcoming};
+use qp_check_kernel::lane_state::{LaneReading, Rules, Upcoming};
 use qp_check_knowledge::knowledge::Knowledge;
 use qp_check_knowledge::told_lists::is_turn_mark;
 use qp_check_lanes::lane_parts::lane_at;
@@ -49,7 +49,7 @@ fn is_look(r: &Rec) -> bool
 }
 
 /// The innermost step under way, unless it is of this object.
-fn stepping(reading: &Reading, of: u8) -> Option<u8>
+fn stepping(reading: &LaneReading, of: u8) -> Option<u8>
     ensures { result ≡ stepping of (as_reading reading.now).place (as_reading reading.now).running }
 {
     match (reading.place, reading.running.top()) {
@@ -60,7 +60,7 @@ fn stepping(reading: &Reading, of: u8) -> Option<u8>
 
 /// The object in whose step a row begins with this record.
 #[tactic(auto, unfolding(qp_model::specs::Record::item_of))]
-fn point_of(reading: &Reading, r: &Rec) -> Option<u8>
+fn point_of(reading: &LaneReading, r: &Rec) -> Option<u8>
     ensures { result ≡ point_of (as_reading reading.now) (item_of r.now) }
 {
     if is_look(r) {
@@ -75,7 +75,7 @@ fn put_record(
     pieces: &mut ObjectPieces,
     alloc: Global,
     knowledge: &Knowledge,
-    reading: &Reading,
+    reading: &LaneReading,
     r: &Rec,
 ) -> Result<(), AllocError>
     requires { IsKnown knowledge.now }
@@ -102,7 +102,7 @@ fn pieces_in(
         (lane_items lane.now)) }
 {
     let mut pieces = ObjectPieces::none(alloc);
-    let mut reading = Reading::of_none(alloc, rules.sys);
+    let mut reading = LaneReading::of_none(alloc, rules.sys);
     for r in lane {
         put_record(&mut pieces, alloc, knowledge, &reading, r)?;
         let _stands = reading.next(rules, r)?;

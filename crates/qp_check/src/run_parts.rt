@@ -13,7 +13,7 @@ ghost use Rattle.qp_model.specs.OneOrder.{IsOneOrder};
 ghost use Rattle.qp_model.specs.Points.{lane_pieces};
 ghost use Rattle.qp_check_calls.specs.Decides.{Decides};
 ghost use Rattle.qp_check.specs.Judgeable.{IsJudgeable};
-ghost use Rattle.qp_check_histories.specs.Numbers.{WordsFit};
+ghost use Rattle.qp_check_words.specs.Numbers.{WordsFit};
 ghost use Rattle.qp_check_course.specs.Followable.{IsFollowable};
 ghost use Rattle.qp_check_knowledge.specs.Knowledge.{IsKnowledgeOf};
 ghost use Rattle.qp_check.specs.ObjectPieces.{ArePiecesOf};
@@ -23,8 +23,7 @@ use crate::parts::{is_source_lane, spill_stands};
 use crate::pieces::lane_pieces;
 use crate::pieces_rows::ObjectPieces;
 use qp_check_course::follows_with_points;
-use qp_check_end::ending::end_holds;
-use qp_check_histories::records_by_word::RecordsByWord;
+use qp_check_ends::ending::end_holds;
 use qp_check_kernel::kernel_lane::is_kernel_lane;
 use qp_check_kernel::one_order::is_one_order;
 use qp_check_knowledge::knowledge::Knowledge;
@@ -32,6 +31,7 @@ use qp_check_knowledge::told_cut::cut_of;
 use qp_check_lanes::lane_parts::{
     count_stands, lane_at, lane_zero_stands, lanes_before, source_lanes, spills_in,
 };
+use qp_check_words::records_by_word::RecordsByWord;
 use qp_check_words::verdict::{Broken, Site};
 use qp_model::definitions::{END, KERNEL_LANE, SOURCES};
 use qp_model::kernels::{PORT, has_one_order};

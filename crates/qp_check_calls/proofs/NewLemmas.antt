@@ -9,7 +9,7 @@ use Rattle.qp_model.specs.declared.bodies.Body.{Body}
 use Rattle.qp_model.specs.declared.bodies.Body.TheVariants as item
 use Rattle.qp_model.specs.Record.{entry}
 use Rattle.qp_model.specs.Sources.{same_list}
-use Rattle.qp_model.specs.Told.{Told, Known, Nothing, Free, plain, given}
+use Rattle.qp_model.specs.Told.{Told, Known, Nothing, Free, plain, told_new}
 use Rattle.qp_model.specs.Calls.{Answer, Refused, AtPool}
 use Rattle.qp_model.specs.Parts.{sizes_of, first_pool}
 use Rattle.qp_model.specs.Shapes.{MakesNew, MakesBlock, NoBlockFor}
@@ -74,8 +74,8 @@ module _ (sys : System) (o : ℕ) (now : Option Entry) (kept : List Entry) (a : 
       let pool : first_pool (sizes_of sys) (length pars) ≡ Some p = is_of-is _ p t1 in
       let refers = (at-refers sys o now kept a k p b goal g).0 (subst (λ x. At sys o now kept x a k g) (sym passed.1) later) in
       let then : g ≡ plain (item.Inc p b refers.0) ∷ refers.1 = refers.2 in
-      let whole : t ≡ given p n b from sg ps free = told-is t _ _ is_body is_known in
-      IsMade (given p n b from sig pars free ∷ plain (item.Inc p b refers.0) ∷ []) (entry p b refers.0) refers.1
+      let whole : t ≡ told_new p n b from sg ps free = told-is t _ _ is_body is_known in
+      IsMade (told_new p n b from sig pars free ∷ plain (item.Inc p b refers.0) ∷ []) (entry p b refers.0) refers.1
       (p, n, b, from, free, refers.0, refl, refl, pool, t4) (cc) refers.3
   block-out t g (item.NoBlock p n free) Nothing is_body is_known next is later =
       let passed = only-passed (is_of (first_pool (sizes_of sys) (length pars)) p && is_none reserve) _ _ is in

@@ -8,29 +8,29 @@ use Rattle.qp_model.specs.Told.{Told}
 use Rattle.qp_model.specs.Calls.{Answer}
 use Rattle.qp_check_calls.specs.CallState.{CallStage, Whole, CallState}
 use Rattle.qp_check_calls.specs.CallStateNext.{stage_next, list_after, call_state_next}
-use Rattle.qp_check_calls.specs.Reads.{Reads}
+use Rattle.qp_check_calls.specs.Reads.{IsRestOfCall}
 use Rattle.qp_check_calls.specs.CallStateLaws.{ReadsNext, ReadsEnd, ReadsWhole}
 
 pub reads-end : ReadsEnd
-unfolding Reads
+unfolding IsRestOfCall
 reads-end sys o now rest answer kept = (λ h. h, λ h. h)
 
 pub reads-next : ReadsNext
-unfolding Reads
+unfolding IsRestOfCall
 reads-next sys o now rest answer kept t g = (out (call_state_next sys o now rest t) refl, λ h. into (call_state_next sys o now rest t) h.0 h.1 h.2)
   where
-    out : (r : Option CallState) → call_state_next sys o now rest t ≡ r → MatchOption r ⊥ (λ next. Reads sys o now next answer kept g)
-        → (next : CallState) × (call_state_next sys o now rest t ≡ Some next) × Reads sys o now next answer kept g
+    out : (r : Option CallState) → call_state_next sys o now rest t ≡ r → MatchOption r ⊥ (λ next. IsRestOfCall sys o now next answer kept g)
+        → (next : CallState) × (call_state_next sys o now rest t ≡ Some next) × IsRestOfCall sys o now next answer kept g
     out None is h = absurd h
     out (Some next) is h = (next, is, h)
 
-    into : (r : Option CallState) (next : CallState) → r ≡ Some next → Reads sys o now next answer kept g → MatchOption r ⊥ (λ next. Reads sys o now next answer kept g)
+    into : (r : Option CallState) (next : CallState) → r ≡ Some next → IsRestOfCall sys o now next answer kept g → MatchOption r ⊥ (λ next. IsRestOfCall sys o now next answer kept g)
     into None next is h = absurd (cc)
-    into (Some other) next is h = let same : next ≡ other = cc in subst (λ x. Reads sys o now x answer kept g) same h
+    into (Some other) next is h = let same : next ≡ other = cc in subst (λ x. IsRestOfCall sys o now x answer kept g) same h
 
 -- what is read at a stage, with the deferred list before it
 abbrev pub At : System → ℕ → Option Entry → List Entry → CallStage → Answer → List Entry → List Told → Type 0
-At sys o now kept s a k g = Reads sys o now (record { stage = s; kept = kept }) a k g
+At sys o now kept s a k g = IsRestOfCall sys o now (record { stage = s; kept = kept }) a k g
 
 module _ (sys : System) (o : ℕ) (now : Option Entry) where
   pub at-step : (kept : List Entry) (s next : CallStage) (a : Answer) (k : List Entry) (t : Told) (g : List Told)
@@ -46,18 +46,18 @@ module _ (sys : System) (o : ℕ) (now : Option Entry) where
       let one = (reads-next sys o now (record { stage = s; kept = kept }) a k t g).0 h in by (stage_next sys o now kept s t.body t.known) refl one.0 one.1 one.2
     where
       by : (r : Option CallStage) → stage_next sys o now kept s t.body t.known ≡ r → (next : CallState)
-          → option_map (λ s. record { stage = s; kept = list_after kept t.body }) r ≡ Some next → Reads sys o now next a k g
+          → option_map (λ s. record { stage = s; kept = list_after kept t.body }) r ≡ Some next → IsRestOfCall sys o now next a k g
           → (next : CallStage) × (stage_next sys o now kept s t.body t.known ≡ Some next) × At sys o now (list_after kept t.body) next a k g
       by None is next e h = absurd (cc)
       by (Some s) is next e h =
-          let same : next ≡ record { stage = s; kept = list_after kept t.body } = cc in (s, is, subst (λ x. Reads sys o now x a k g) same h)
+          let same : next ≡ record { stage = s; kept = list_after kept t.body } = cc in (s, is, subst (λ x. IsRestOfCall sys o now x a k g) same h)
 
   pub at-end : (kept : List Entry) (a : Answer) → At sys o now kept (Whole a) a kept []
-  unfolding Reads
+  unfolding IsRestOfCall
   at-end kept a = refl
 
   pub at-ended : (kept : List Entry) (s : CallStage) (a : Answer) (k : List Entry) → At sys o now kept s a k [] → (s ≡ Whole a) × (kept ≡ k)
-  unfolding Reads
+  unfolding IsRestOfCall
   at-ended kept s a k h = (ap (λ r. r.stage) h, ap (λ r. r.kept) h)
 
   -- a whole call

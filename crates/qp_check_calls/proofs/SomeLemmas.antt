@@ -17,7 +17,7 @@ use Rattle.qp_model.specs.Able.{has_pool}
 use Rattle.qp_model.proofs.Completes.{release, release_drops, again_any, pool_number}
 use Rattle.qp_check_calls.specs.CallState.{Behind, Ends, FlushesOn, PublishesOn, Goal, ToQueue, ToFront, ToDeferred, ToSet, CallStage, Begins, Refers, Puts, Raises, Restores, Drops, Returns, Flushes, Whole}
 use Rattle.qp_check_calls.specs.CallStateNext.{stage_next, begin_next, defer_next, new_next, now_next, released, again, restored, publishes_on, flushes_on, goes_on, call_state_begin}
-use Rattle.qp_check_calls.specs.Reads.{Reads, stage_open, IsOpen, call_able}
+use Rattle.qp_check_calls.specs.Reads.{IsRestOfCall, stage_open, IsOpen, call_able}
 use Rattle.qp_check_calls.specs.CallStateLaws.{OpenReads}
 use Rattle.qp_check_calls.proofs.ReadLemmas.{At, at-step, at-end}
 use Rattle.qp_check_calls.proofs.ReleaseLemmas.{at-refers, at-returns, at-drops, at-released, at-release, at-again}
@@ -168,7 +168,7 @@ module _ (sys : System) (o : ℕ) (now : Option Entry) where
   one : (kept : List Entry) (room : ℕ) (x : Call) (s : CallStage) → call_state_begin room kept x ≡ record { stage = s; kept = kept } → (b : Answer) (t : Told)
       → Fits sys o now x b (t ∷ []) → KeepsDeferred room x (t ∷ []) kept kept → Some_at kept s
   one kept room x s is b t fits keeps =
-      (b, kept, t ∷ [], subst (λ r. Reads sys o now r b kept (t ∷ [])) is ((reads-begin sys o now room kept x b kept (t ∷ [])).1 (fits, keeps)))
+      (b, kept, t ∷ [], subst (λ r. IsRestOfCall sys o now r b kept (t ∷ [])) is ((reads-begin sys o now room kept x b kept (t ∷ [])).1 (fits, keeps)))
 
   one-subscribe : (kept : List Entry) (room sig : ℕ) → Some_at kept (Begins room (call.Subscribe sig))
   unfolding Fits Subscribes KeepsDeferred

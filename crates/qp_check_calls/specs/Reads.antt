@@ -12,10 +12,10 @@ use Rattle.qp_check_calls.specs.CallState.{CallStage, Begins, Flushes, Whole, Ca
 use Rattle.qp_check_calls.specs.CallStateNext.{call_state_next}
 
 -- the records are what is left of a call, which ends with this answer and this deferred list
-unfoldable pub Reads : System → ℕ → Option Entry → CallState → Answer → List Entry → List Told → Type 0
+unfoldable pub IsRestOfCall : System → ℕ → Option Entry → CallState → Answer → List Entry → List Told → Type 0
 unfolding call_state_next
-Reads sys o now rest answer kept [] = rest ≡ record { stage = Whole answer; kept = kept }
-Reads sys o now rest answer kept (t ∷ g) = MatchOption (call_state_next sys o now rest t) ⊥ (λ next. Reads sys o now next answer kept g)
+IsRestOfCall sys o now rest answer kept [] = rest ≡ record { stage = Whole answer; kept = kept }
+IsRestOfCall sys o now rest answer kept (t ∷ g) = MatchOption (call_state_next sys o now rest t) ⊥ (λ next. IsRestOfCall sys o now next answer kept g)
 
 -- a call has what it asks for: a pool for its event, or an entry that is at hand
 unfoldable pub call_able : System → Option Entry → Call → Bool

@@ -6,7 +6,7 @@ use Rattle.qp_chart.specs.declared.checked.Chart.{Chart}
 use Rattle.qp_model.specs.declared.systems.System.{System}
 use Rattle.qp_model.specs.declared.systems.ObjectDef.{ObjectDef}
 use Rattle.qp_model.specs.Told.{Told}
-use Rattle.qp_model.specs.Pieces.{Piece, bare, ends_at_point}
+use Rattle.qp_model.specs.Pieces.{Piece, records_in, ends_at_point}
 use Rattle.qp_model.specs.Able.{chart_able}
 use Rattle.qp_model.specs.Acts.{Actor}
 use Rattle.std.specs.List.{list_all}
@@ -36,14 +36,14 @@ and-is false b h = refl
 
 module _ (sys : System) (d : ObjectDef) (f : IsFollowable sys d) where
   -- an assertion stands in a list that isn't cut
-  pub told-asserted : (cut : Cut) (g : List Told) → asserts_where_cut cut g ≡ false → Decides false ((ps : List Piece) × (bare ps ≡ g) × FollowsTo sys d cut ps)
+  pub told-asserted : (cut : Cut) (g : List Told) → asserts_where_cut cut g ≡ false → Decides false ((ps : List Piece) × (records_in ps ≡ g) × FollowsTo sys d cut ps)
   unfolding told_to
   told-asserted cut g loud =
-      subst (λ x. Decides x ((ps : List Piece) × (bare ps ≡ g) × FollowsTo sys d cut ps)) (and_right _ (asserts_where_cut cut g) loud) (records-decided sys d f cut g)
+      subst (λ x. Decides x ((ps : List Piece) × (records_in ps ≡ g) × FollowsTo sys d cut ps)) (and_right _ (asserts_where_cut cut g) loud) (records-decided sys d f cut g)
 
-  pub pieces-asserted : (cut : Cut) (ps : List Piece) → asserts_where_cut cut (bare ps) ≡ false → Decides false (FollowsTo sys d cut ps)
+  pub pieces-asserted : (cut : Cut) (ps : List Piece) → asserts_where_cut cut (records_in ps) ≡ false → Decides false (FollowsTo sys d cut ps)
   unfolding reads_to
-  pieces-asserted cut ps loud = subst (λ x. Decides x (FollowsTo sys d cut ps)) (and_right _ (asserts_where_cut cut (bare ps)) loud) (pieces-decided sys d f cut ps)
+  pieces-asserted cut ps loud = subst (λ x. Decides x (FollowsTo sys d cut ps)) (and_right _ (asserts_where_cut cut (records_in ps)) loud) (pieces-decided sys d f cut ps)
 
 module _ (sys : System) (d : ObjectDef) (f : IsFollowable sys d) (chart : Chart) (found : chart_at sys d.chart ≡ Some chart) where
   its : f.its ≡ chart
@@ -60,10 +60,10 @@ module _ (sys : System) (d : ObjectDef) (f : IsFollowable sys d) (chart : Chart)
 
   -- the records are read to the last one, or not
   pub told-answer : (own : System) (a : Actor) → own ≡ sys → a ≡ actor d chart → (cut : Cut) (g : List Told) → asserts_where_cut cut g ≡ true → (b : Bool)
-      → b ≡ told_well a cut (is_none_told g) (run_told own a (start_state a (first_config d)) g) → Decides b ((ps : List Piece) × (bare ps ≡ g) × FollowsTo sys d cut ps)
+      → b ≡ told_well a cut (is_none_told g) (run_told own a (start_state a (first_config d)) g) → Decides b ((ps : List Piece) × (records_in ps ≡ g) × FollowsTo sys d cut ps)
   unfolding told_to
   told-answer own a same is cut g quiet b ends =
-      subst (λ x. Decides x ((ps : List Piece) × (bare ps ≡ g) × FollowsTo sys d cut ps)) (sym whole) (records-decided sys d f cut g)
+      subst (λ x. Decides x ((ps : List Piece) × (records_in ps ≡ g) × FollowsTo sys d cut ps)) (sym whole) (records-decided sys d f cut g)
     where
       whole : b ≡ told_to sys d f.its cut g
       whole =
@@ -72,7 +72,7 @@ module _ (sys : System) (d : ObjectDef) (f : IsFollowable sys d) (chart : Chart)
           ∙ sym (and-is _ (asserts_where_cut cut g) quiet)
 
   -- the same of pieces
-  pub pieces-answer : (own : System) (a : Actor) → own ≡ sys → a ≡ actor d chart → (cut : Cut) (ps : List Piece) → asserts_where_cut cut (bare ps) ≡ true → (b : Bool)
+  pub pieces-answer : (own : System) (a : Actor) → own ≡ sys → a ≡ actor d chart → (cut : Cut) (ps : List Piece) → asserts_where_cut cut (records_in ps) ≡ true → (b : Bool)
       → b ≡ ends_well cut (ends_at_point ps) (run own a (start_state a (first_config d)) ps) → Decides b (FollowsTo sys d cut ps)
   unfolding reads_to
   pieces-answer own a same is cut ps quiet b ends = subst (λ x. Decides x (FollowsTo sys d cut ps)) (sym whole) (pieces-decided sys d f cut ps)
@@ -81,11 +81,11 @@ module _ (sys : System) (d : ObjectDef) (f : IsFollowable sys d) (chart : Chart)
       whole =
           ends ∙ ap (λ x. ends_well cut (ends_at_point ps) (run x a (start_state a (first_config d)) ps)) same
           ∙ ap (λ x. ends_well cut (ends_at_point ps) (run sys x (start_state x (first_config d)) ps)) (is ∙ ap (actor d) (sym its))
-          ∙ sym (and-is _ (asserts_where_cut cut (bare ps)) quiet)
+          ∙ sym (and-is _ (asserts_where_cut cut (records_in ps)) quiet)
 
 -- pieces without an assertion
-pub pieces-quiet : (ps : List pieces.Piece) → asserts_none (bare (map as_piece ps)) ≡ list_all (λ p. not (piece_asserts p)) ps
-unfolding bare
+pub pieces-quiet : (ps : List pieces.Piece) → asserts_none (records_in (map as_piece ps)) ≡ list_all (λ p. not (piece_asserts p)) ps
+unfolding records_in
 pieces-quiet [] = refl
 pieces-quiet (piece.Tell t ∷ ps) = ap (λ b. not (is_assert t.body) && b) (pieces-quiet ps)
 pieces-quiet (piece.Point ∷ ps) = pieces-quiet ps

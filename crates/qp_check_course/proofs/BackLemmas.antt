@@ -12,7 +12,7 @@ use Rattle.qp_model.specs.Acts.{Actor}
 use Rattle.qp_check_calls.specs.CallState.{CallState}
 use Rattle.qp_check_calls.specs.CallStateNext.{call_state_next}
 use Rattle.qp_check_calls.specs.CallStateLaws.{ReadsBegin, ReadsWhole, ReadsNext}
-use Rattle.qp_check_course.specs.Note.{tells, raised_from, taken_by, dropped_by, comes_back}
+use Rattle.qp_check_course.specs.Note.{tells, raised_from, entry_and_event_taken, dropped_by, comes_back}
 use Rattle.qp_check_course.specs.Goes.{Aim, Stepping, moment_of, StepsGo, LeftGoes}
 use Rattle.qp_check_course.specs.Machine.{State, Between, Telling, Raising, AtPoint, InCall, AtPost, Releasing, Returning, Asserted, Goes, resume, settle, noted, posted, step_state, left_over, tell_next, point_next, next}
 use Rattle.qp_check_course.proofs.NoteLemmas.{record_of, tells-is, raised-is, taken-is, dropped-is, back-is}
@@ -27,7 +27,7 @@ module _ (begin : ReadsBegin) (whole : ReadsWhole) (reads_next : ReadsNext) (sys
   pub next-goes : (s : State) (p : Piece) (ps : List Piece) (later : State) → next sys a s p ≡ Some later → Goes sys a aim later ps → Goes sys a aim s (p ∷ ps)
   unfolding Goes next tell_next point_next
   next-goes (Between c) (Tell t) ps later e h =
-      let at = mapped (λ (x : Entry × Event). step_state a x.0 x.1 c) (taken_by t.body t.known) later e in
+      let at = mapped (λ (x : Entry × Event). step_state a x.0 x.1 c) (entry_and_event_taken t.body t.known) later e in
       let entry : Entry = at.0.0 in
       let event : Event = at.0.1 in
       let took = taken-is entry event t.body t.known at.1 in

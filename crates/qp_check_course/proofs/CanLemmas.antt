@@ -15,7 +15,7 @@ use Rattle.qp_model.specs.Acts.{Config, Actor, names_of}
 use Rattle.qp_model.proofs.AbleLemmas.{step-able, start-able, some-same}
 use Rattle.qp_check_calls.specs.CallState.{CallStage, Whole, CallState}
 use Rattle.qp_check_calls.specs.CallStateNext.{call_state_next, stage_answer}
-use Rattle.qp_check_calls.specs.Reads.{Reads}
+use Rattle.qp_check_calls.specs.Reads.{IsRestOfCall}
 use Rattle.qp_check_calls.proofs.BeginLemmas.{reads-begin}
 use Rattle.qp_check_calls.proofs.OpenLemmas.{open-begin, open-next}
 use Rattle.qp_check_calls.proofs.ReadLemmas.{reads-next}
@@ -35,7 +35,7 @@ whole s answer h = absurd (none-some _ h)
 -- a flush that is whole tells no more entries than a deferred list has room for
 pub whole-few : (sys : System) (a : Actor) (way : Way) (rest : CallState) → CanGoOn sys a way rest → a.room ≤ 255
     → (n : ℕ) → stage_answer rest.stage ≡ Some (Flushed n) → n ≤ 255
-unfolding Reads
+unfolding IsRestOfCall
 whole-few sys a way rest can room n h =
     let few : n ≤ a.room = can.flushed n rest.kept [] (ap (λ s. record { stage = s; kept = rest.kept }) (whole rest.stage (Flushed n) h)) in omega arith
 

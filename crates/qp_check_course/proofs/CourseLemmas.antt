@@ -3,8 +3,8 @@ use Rattle.std.proofs.Common.{◌≡◌, ℕ, List, [], ◌∷◌, ◌++◌, ref
 use Rattle.qp_chart.specs.Agenda.{step_plan, start_plan}
 use Rattle.qp_model.specs.declared.systems.System.{System}
 use Rattle.qp_model.specs.declared.bodies.Entry.{Entry}
-use Rattle.qp_model.specs.Told.{Told, Event, taken}
-use Rattle.qp_model.specs.Pieces.{Piece, Tell, bare, tell}
+use Rattle.qp_model.specs.Told.{Told, Event, told_took}
+use Rattle.qp_model.specs.Pieces.{Piece, Tell, records_in, tell}
 use Rattle.qp_model.specs.Acts.{Config, Actor, Does, names_of}
 use Rattle.qp_model.specs.Step.{Closes, StepBehind, Step, at_leaf, moment}
 use Rattle.qp_model.specs.Course.{Starts, Steps, Course, at_start}
@@ -60,24 +60,24 @@ module _ (sys : System) (a : Actor) (aim : Aim) where
 
   -- between steps: what comes next is a `took`, and then its step
   pub took-goes : (c : Config) (p : Piece) (ps : List Piece) → StepsGo sys a aim c (p ∷ ps)
-      → (f l m : ℕ) × (e : Entry) × (ev : Event) × (p ≡ Tell (taken f l m e ev)) × StepGoes sys a aim ev e c ps
+      → (f l m : ℕ) × (e : Entry) × (ev : Event) × (p ≡ Tell (told_took f l m e ev)) × StepGoes sys a aim ev e c ps
   unfolding StepsGo Steps Step
   took-goes c p ps ([], end, steps, met) = absurd (cc)
   took-goes c p ps (e ∷ es, end, (one, rest, mid, split, (f, l, m, ev, inner, is, step), steps), met) =
-      let whole : p ∷ ps ≡ Tell (taken f l m e ev) ∷ (inner ++ rest) = split ∙ ap (λ zs. zs ++ rest) is in
-      let same : p ≡ Tell (taken f l m e ev) = cc in
+      let whole : p ∷ ps ≡ Tell (told_took f l m e ev) ∷ (inner ++ rest) = split ∙ ap (λ zs. zs ++ rest) is in
+      let same : p ≡ Tell (told_took f l m e ev) = cc in
       let others : ps ≡ inner ++ rest = cc in
       (f, l, m, e, ev, same, subst (StepGoes sys a aim ev e c) (sym others) (step-goes ev e c inner rest mid es end step steps met))
 
   -- and back
-  pub goes-took : (c : Config) (f l m : ℕ) (e : Entry) (ev : Event) (ps : List Piece) → StepGoes sys a aim ev e c ps → StepsGo sys a aim c (Tell (taken f l m e ev) ∷ ps)
+  pub goes-took : (c : Config) (f l m : ℕ) (e : Entry) (ev : Event) (ps : List Piece) → StepGoes sys a aim ev e c ps → StepsGo sys a aim c (Tell (told_took f l m e ev) ∷ ps)
   unfolding StepsGo Steps Step
   goes-took c f l m e ev ps h = by (goes-step ev e c ps h)
     where
       by : ((one rest : List Piece) × (mid : Option Config) × (es : List Entry) × (end : Option Config) × (ps ≡ one ++ rest) × StepBehind sys a ev e c one mid × Steps sys a es mid rest end × Meets aim end)
-          → StepsGo sys a aim c (Tell (taken f l m e ev) ∷ ps)
+          → StepsGo sys a aim c (Tell (told_took f l m e ev) ∷ ps)
       by (one, rest, mid, es, end, is, step, steps, met) =
-          (e ∷ es, end, (Tell (taken f l m e ev) ∷ one, rest, mid, ap (λ zs. Tell (taken f l m e ev) ∷ zs) is, (f, l, m, ev, one, refl, step), steps), met)
+          (e ∷ es, end, (Tell (told_took f l m e ev) ∷ one, rest, mid, ap (λ zs. Tell (told_took f l m e ev) ∷ zs) is, (f, l, m, ev, one, refl, step), steps), met)
 
   -- nothing need come between steps
   pub steps-none : (c : Config) → aim c → StepsGo sys a aim c []
@@ -105,9 +105,9 @@ module _ (sys : System) (a : Actor) (aim : Aim) where
   goes-course first ps h = let split = go-does sys a Starting (Closing sys a aim Starting (start_plan a.chart).leaf) (start_plan a.chart).tasks first ps h in by split.0 split.1 split.2 split.3 split.4 split.5
     where
       by : (body : List Piece) (mid : Option Config) (after : List Piece) → Does sys a at_start (start_plan a.chart).tasks first body mid
-          → Outcome (Closing sys a aim Starting (start_plan a.chart).leaf) mid after → ps ≡ tell (bare body) ++ after
+          → Outcome (Closing sys a aim Starting (start_plan a.chart).leaf) mid after → ps ≡ tell (records_in body) ++ after
           → (es : List Entry) × (end : Option Config) × Course sys a first es ps end × Meets aim end
       by body None after does nothing is =
-          ([], None, (tell (bare body), after, None, is, (body, None, does, refl, refl), (nothing, refl)), tt)
+          ([], None, (tell (records_in body), after, None, is, (body, None, does, refl, refl), (nothing, refl)), tt)
       by body (Some d) after does (es, end, steps, met) is =
-          (es, end, (tell (bare body), after, _, is, (body, Some d, does, refl, refl), steps), met)
+          (es, end, (tell (records_in body), after, _, is, (body, Some d, does, refl, refl), steps), met)

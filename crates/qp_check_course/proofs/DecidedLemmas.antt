@@ -5,7 +5,7 @@ use Rattle.qp_chart.specs.declared.checked.Chart.{Chart}
 use Rattle.qp_model.specs.declared.systems.System.{System}
 use Rattle.qp_model.specs.declared.systems.ObjectDef.{ObjectDef}
 use Rattle.qp_model.specs.Told.{Told}
-use Rattle.qp_model.specs.Pieces.{Piece, bare}
+use Rattle.qp_model.specs.Pieces.{Piece, records_in}
 use Rattle.qp_model.specs.ObjectShape.{asserts_none}
 use Rattle.qp_model.specs.Course.{Cut, Whole, Stopped, Anywhere, Follows, FollowsAs, FollowsTo, actor, first_config}
 use Rattle.qp_model.proofs.ThroughLemmas.{through-quiet, quiet-through}
@@ -70,7 +70,7 @@ module _ (sys : System) (d : ObjectDef) (chart : Chart) (has : HasChart sys d ch
         by false e = λ h. let wrong : true ≡ false = sym (follows-read cut ps h) ∙ e in cc
 
     -- records that follow the chart with some points between them are read
-    told-read : (cut : Cut) (g : List Told) → (ps : List Piece) × (bare ps ≡ g) × FollowsTo sys d cut ps → told_to sys d chart cut g ≡ true
+    told-read : (cut : Cut) (g : List Told) → (ps : List Piece) × (records_in ps ≡ g) × FollowsTo sys d cut ps → told_to sys d chart cut g ≡ true
     unfolding FollowsTo told_to Fronts
     told-read Whole g (ps, e, h) =
         let parts = through-quiet sys d ps h in
@@ -82,7 +82,7 @@ module _ (sys : System) (d : ObjectDef) (chart : Chart) (has : HasChart sys d ch
         and_from _ _ (fronts-told begin whole reads_next first open_next open_reads sys (actor d chart) has.able (first_config d) empty Anywhere g ps e (back, into-follows (ps ++ back) h)) refl
 
     -- and back
-    read-told : (cut : Cut) (g : List Told) → told_to sys d chart cut g ≡ true → (ps : List Piece) × (bare ps ≡ g) × FollowsTo sys d cut ps
+    read-told : (cut : Cut) (g : List Told) → told_to sys d chart cut g ≡ true → (ps : List Piece) × (records_in ps ≡ g) × FollowsTo sys d cut ps
     unfolding FollowsTo told_to Fronts
     read-told Whole g h =
         let parts = and_parts _ _ h in
@@ -96,10 +96,10 @@ module _ (sys : System) (d : ObjectDef) (chart : Chart) (has : HasChart sys d ch
         (k.0, k.1, (k.2.0, back-follows (k.0 ++ k.2.0) k.2.1))
 
     -- the states decide whether the records follow the chart with some points between them
-    pub told-decides : (cut : Cut) (g : List Told) → Decides (told_to sys d chart cut g) ((ps : List Piece) × (bare ps ≡ g) × FollowsTo sys d cut ps)
+    pub told-decides : (cut : Cut) (g : List Told) → Decides (told_to sys d chart cut g) ((ps : List Piece) × (records_in ps ≡ g) × FollowsTo sys d cut ps)
     unfolding Decides
     told-decides cut g = by (told_to sys d chart cut g) refl
       where
-        by : (b : Bool) → told_to sys d chart cut g ≡ b → Decides b ((ps : List Piece) × (bare ps ≡ g) × FollowsTo sys d cut ps)
+        by : (b : Bool) → told_to sys d chart cut g ≡ b → Decides b ((ps : List Piece) × (records_in ps ≡ g) × FollowsTo sys d cut ps)
         by true e = read-told cut g e
         by false e = λ h. let wrong : true ≡ false = sym (told-read cut g h) ∙ e in cc

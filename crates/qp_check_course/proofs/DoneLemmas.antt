@@ -19,11 +19,11 @@ use Rattle.qp_model.specs.Calls.{Deed, Sets, Says, Calls, deed_of, ok_after, is_
 use Rattle.qp_model.specs.ObjectShape.{nothing_after, asserts_last, asserts_none}
 use Rattle.qp_model.specs.Ends.{is_assert}
 use Rattle.qp_model.specs.Acts.{Config, Actor, names_of}
-use Rattle.qp_model.specs.OutputSummary.{is_took, is_done}
+use Rattle.qp_model.specs.OutputSummary.{is_took, is_done_record}
 use Rattle.qp_model.proofs.BlockLemmas.{Block, Exits, Enters, Inits, Acts, Locks, spread, Blocks, step-blocks, start-blocks}
 use Rattle.qp_check_calls.specs.CallState.{CallStage, Whole, CallState}
 use Rattle.qp_check_calls.specs.CallStateNext.{call_state_begin, call_state_next, stage_answer}
-use Rattle.qp_check_course.specs.Note.{Note, Run, Unhandled, Done, body_of, tells, raised_from, taken_by, dropped_by, comes_back}
+use Rattle.qp_check_course.specs.Note.{Note, Run, Unhandled, Done, body_of, tells, raised_from, entry_and_event_taken, dropped_by, comes_back}
 use Rattle.qp_check_course.specs.Goes.{Way, Starting, Stepping, moment_of}
 use Rattle.qp_check_course.specs.Machine.{State, Between, Telling, Raising, AtPoint, InCall, AtPost, Releasing, Returning, Asserted, has_inner, done, answered, resumed, resume, deed_state, task_state, closed, closing, settle, noted, posted, step_state, start_state, left_over, tell_next}
 use Rattle.qp_check_course.specs.Passing.{through, settle_past, pass_actions, pass, run_told}
@@ -187,12 +187,12 @@ one_if b = cond b 1 0
 -- What a record makes of the counts: a step is done or begins with it, or neither; behind an assertion it is under way.
 pub record Counts (s : State) (b : Body) (later : State) : Type 0 where
   pub ends : WillEnd later
-  pub counts : one_if (is_done b) + open_in later ≡ one_if (is_took b) + open_in s
+  pub counts : one_if (is_done_record b) + open_in later ≡ one_if (is_took b) + open_in s
   pub loud : is_assert b ≡ true → open_in later ≡ 1
 
 -- a record that neither begins nor ends a step
 pub record IsPlain (b : Body) : Type 0 where
-  pub done : is_done b ≡ false
+  pub done : is_done_record b ≡ false
   pub took : is_took b ≡ false
 
 under-counts : (s later : State) (b : Body) → open_in s ≡ 1 → IsPlain b → IsUnder later → Counts s b later
@@ -260,7 +260,7 @@ module _ (sys : System) (a : Actor) where
   pub next-counts : (s : State) (t : Told) (later : State) → tell_next sys a s t ≡ Some later → WillEnd s → Counts s t.body later
   unfolding tell_next
   next-counts (Between c) t later e h =
-      let at = mapped (λ (x : Entry × Event). step_state a x.0 x.1 c) (taken_by t.body t.known) later e in
+      let at = mapped (λ (x : Entry × Event). step_state a x.0 x.1 c) (entry_and_event_taken t.body t.known) later e in
       let took = taken-is at.0.0 at.0.1 t.body t.known at.1 in
       let under = step-under a at.0.0 at.0.1 c in
       let body : t.body ≡ item.Took took.0 took.1 took.2 at.0.0 = same-body took.3 in
@@ -273,7 +273,7 @@ module _ (sys : System) (a : Actor) where
   next-counts (Raising way ceiling ts leaf c) t later e h =
       let at = mapped (λ former. settle a way leaf ts (record c { former = former })) (raised_from ceiling t.body t.known) later e in
       let body = same-body (raised-is ceiling at.0 t.body t.known at.1) in
-      under-counts (Raising way ceiling ts leaf c) later t.body refl (record { done = ap is_done body; took = ap is_took body })
+      under-counts (Raising way ceiling ts leaf c) later t.body refl (record { done = ap is_done_record body; took = ap is_took body })
       (subst IsUnder at.2 (settle-under a way leaf ts (record c { former = at.0 }) h))
   next-counts (AtPoint ev x ts leaf c) t later e h = absurd (none-some _ e)
   next-counts (InCall way inner rest ts leaf c) t later e h =
@@ -286,7 +286,7 @@ module _ (sys : System) (a : Actor) where
       let at = mapped (λ (y : ℕ × ℕ). left_over x y.0 y.1 c) (dropped_by x t.body t.known) later e in
       let body = same-body (dropped-is x at.0 t.body t.known at.1) in
       let rests = over at.0.0 at.0.1 in
-      rests-count (Releasing x c) later t.body refl (ap open_in (sym at.2) ∙ rests.1) (subst WillEnd at.2 rests.0) (record { done = ap is_done body; took = ap is_took body }) (ap is_assert body)
+      rests-count (Releasing x c) later t.body refl (ap open_in (sym at.2) ∙ rests.1) (subst WillEnd at.2 rests.0) (record { done = ap is_done_record body; took = ap is_took body }) (ap is_assert body)
     where
       over : (d left : ℕ) → WillEnd (left_over x d left c) × (open_in (left_over x d left c) ≡ 0)
       over d zero = (tt, refl)
@@ -294,19 +294,19 @@ module _ (sys : System) (a : Actor) where
   next-counts (Returning p b d c) t later e h =
       let at = granted (comes_back p b d t.body t.known) (Between c) later e in
       let body = same-body (back-is p b d t.body t.known at.0).1 in
-      rests-count (Returning p b d c) later t.body refl (ap open_in (sym at.1)) (subst WillEnd at.1 tt) (record { done = ap is_done body; took = ap is_took body }) (ap is_assert body)
+      rests-count (Returning p b d c) later t.body refl (ap open_in (sym at.1)) (subst WillEnd at.1 tt) (record { done = ap is_done_record body; took = ap is_took body }) (ap is_assert body)
   next-counts Asserted t later e h = absurd (none-some _ e)
 
   -- records that are read, as many steps done as began
   pub told-counts : (g : List Told) (s later : State) → run_told sys a s g ≡ Some later → WillEnd s
-      → count_by (λ t. is_done t.body) g + open_in later ≡ count_by (λ t. is_took t.body) g + open_in s
+      → count_by (λ t. is_done_record t.body) g + open_in later ≡ count_by (λ t. is_took t.body) g + open_in s
   unfolding run_told
   told-counts [] s later e h = let same : open_in later ≡ open_in s = ap open_in (sym (some-same e)) in omega (arith, same)
   told-counts (t ∷ g) s later e h = by (λ mid k ends. told-counts g mid later k ends) (tell_next sys a (pass a s) t) refl e
     where
-      by : ((mid : State) → run_told sys a mid g ≡ Some later → WillEnd mid → count_by (λ t. is_done t.body) g + open_in later ≡ count_by (λ t. is_took t.body) g + open_in mid)
+      by : ((mid : State) → run_told sys a mid g ≡ Some later → WillEnd mid → count_by (λ t. is_done_record t.body) g + open_in later ≡ count_by (λ t. is_took t.body) g + open_in mid)
           → (o : Option State) → tell_next sys a (pass a s) t ≡ o → option_and_then (λ x. run_told sys a x g) o ≡ Some later
-          → count_by (λ t. is_done t.body) (t ∷ g) + open_in later ≡ count_by (λ t. is_took t.body) (t ∷ g) + open_in s
+          → count_by (λ t. is_done_record t.body) (t ∷ g) + open_in later ≡ count_by (λ t. is_took t.body) (t ∷ g) + open_in s
       by more None is k = absurd (cc)
       by more (Some mid) is k =
           let passed = pass-keeps a s h in
@@ -314,7 +314,7 @@ module _ (sys : System) (a : Actor) where
           let counts = one.counts in
           let same = passed.1 in
           let rest = more mid k one.ends in
-          let dones = sum_by-cons (λ (t : Told). one_if (is_done t.body)) t g in
+          let dones = sum_by-cons (λ (t : Told). one_if (is_done_record t.body)) t g in
           let tooks = sum_by-cons (λ (t : Told). one_if (is_took t.body)) t g in
           omega (arith, counts, same, rest, dones, tooks)
 

@@ -14,12 +14,12 @@ use Rattle.qp_model.specs.Pieces.{Piece, Tell, Point, tell}
 use Rattle.qp_model.specs.Acts.{Config, Actor, Later}
 use Rattle.qp_check_calls.specs.CallState.{CallState}
 use Rattle.qp_check_calls.specs.CallStateNext.{stage_answer}
-use Rattle.qp_check_calls.specs.Reads.{Reads}
+use Rattle.qp_check_calls.specs.Reads.{IsRestOfCall}
 use Rattle.qp_check_calls.specs.CallStateLaws.{OpenReads}
 use Rattle.qp_check_course.specs.Note.{body_of}
 use Rattle.qp_check_course.specs.Goes.{anywhere, Way, Starting, Stepping, moment_of, Ends, LeftGoes}
 use Rattle.qp_check_course.specs.Machine.{State, Between, Telling, Raising, AtPoint, InCall, AtPost, Releasing, Returning, Asserted, inner_pieces, CallStateGoes, NoteEnds, Goes, is_end}
-use Rattle.qp_check_course.specs.Ready.{AreAble, IsWithin, CanGoOn, IsReady}
+use Rattle.qp_check_course.specs.Ready.{AreAble, IsWithin, CanGoOn, MayGoOnFrom}
 use Rattle.qp_check_course.proofs.CourseLemmas.{steps-none}
 use Rattle.qp_check_course.proofs.SomeLemmas.{left-some}
 use Rattle.qp_check_course.proofs.NextLemmas.{inner-first}
@@ -27,7 +27,7 @@ use Rattle.qp_check_course.proofs.NextLemmas.{inner-first}
 -- records of a call that is under way are some
 rest-some : (sys : System) (a : Actor) (way : Way) (inner : Bool) (rest : CallState) (later : Later) (c : Config) → stage_answer rest.stage ≡ None
     → CallStateGoes sys a way inner rest later c [] → ⊥
-unfolding CallStateGoes Reads
+unfolding CallStateGoes IsRestOfCall
 rest-some sys a way inner rest later c part (answer, [], kept, reads, k) =
     let wrong : stage_answer rest.stage ≡ Some answer = ap (λ (r : CallState). stage_answer r.stage) reads in cc
 rest-some sys a way inner rest later c part (answer, t ∷ g, kept, reads, k) = by (is_assertion answer) (shape (inner-first inner t g)) k
@@ -44,7 +44,7 @@ rest-some sys a way inner rest later c part (answer, t ∷ g, kept, reads, k) = 
     by false (zs, e) (more, k, ends) = let wrong : [] ≡ Tell t ∷ (zs ++ more) = k ∙ ap (λ us. us ++ more) e in cc
 
 -- nothing comes only where the course may end
-pub goes-end : (sys : System) (a : Actor) (s : State) → IsReady sys a s → Goes sys a anywhere s [] → is_end s ≡ true
+pub goes-end : (sys : System) (a : Actor) (s : State) → MayGoOnFrom sys a s → Goes sys a anywhere s [] → is_end s ≡ true
 unfolding Goes
 goes-end sys a (Between c) ready h = refl
 goes-end sys a (Telling way n ends ts leaf c) ready (rest, e, k) = absurd (cc)
@@ -87,7 +87,7 @@ module _ (open_reads : OpenReads) (sys : System) (a : Actor) where
       let some = open_reads sys a.o (moment_of way).entry rest can.some in
       by some.0 some.1 some.2 some.3 (is_assertion some.0) refl
     where
-      by : (answer : Answer) (kept : List Entry) (g : List Told) → Reads sys a.o (moment_of way).entry rest answer kept g → (b : Bool) → is_assertion answer ≡ b
+      by : (answer : Answer) (kept : List Entry) (g : List Told) → IsRestOfCall sys a.o (moment_of way).entry rest answer kept g → (b : Bool) → is_assertion answer ≡ b
           → (ps : List Piece) × CallStateGoes sys a way inner rest (LeftGoes sys a anywhere way ts leaf) c ps
       by answer kept g reads true is = (inner_pieces inner g, (answer, g, kept, reads, rw is refl))
       by answer kept g reads false is =
@@ -95,7 +95,7 @@ module _ (open_reads : OpenReads) (sys : System) (a : Actor) where
           (inner_pieces inner g ++ after.0, (answer, g, kept, reads, rw is (after.0, refl, after.1)))
 
   -- from a state that can go on something may come that ends the course
-  pub goes-some : (s : State) → IsReady sys a s → (ps : List Piece) × Goes sys a anywhere s ps
+  pub goes-some : (s : State) → MayGoOnFrom sys a s → (ps : List Piece) × Goes sys a anywhere s ps
   unfolding Goes
   goes-some (Between c) ready = ([], steps-none sys a anywhere c tt)
   goes-some (Telling way n ends ts leaf c) ready =

@@ -17,7 +17,7 @@ use Rattle.qp_model.proofs.AbleLemmas.{step-able, start-able, some-same}
 use Rattle.qp_model.proofs.Completes.{able-rest}
 use Rattle.qp_check_calls.specs.CallState.{CallStage, Whole, CallState}
 use Rattle.qp_check_calls.specs.CallStateNext.{call_state_begin, call_state_next, stage_answer}
-use Rattle.qp_check_course.specs.Note.{tells, raised_from, taken_by, dropped_by, comes_back}
+use Rattle.qp_check_course.specs.Note.{tells, raised_from, entry_and_event_taken, dropped_by, comes_back}
 use Rattle.qp_check_course.specs.Goes.{Way, Starting, Stepping, moment_of}
 use Rattle.qp_check_course.specs.Machine.{State, Between, Telling, Raising, AtPoint, InCall, AtPost, Releasing, Returning, Asserted, has_inner, done, answered, resumed, resume, deed_state, task_state, closed, settle, noted, posted, step_state, start_state, left_over, tell_next, point_next, next}
 use Rattle.qp_check_course.specs.Followable.{with_eight}
@@ -91,7 +91,7 @@ module _ (sys : System) (a : Actor) (few : chart_able with_eight a.chart ≡ tru
   pub few-next : (s : State) (p : Piece) (later : State) → next sys a s p ≡ Some later → FewLeft s → FewLeft later
   unfolding next tell_next point_next
   few-next (Between c) (Tell t) later e h =
-      let at = mapped (λ (x : Entry × Event). step_state a x.0 x.1 c) (taken_by t.body t.known) later e in
+      let at = mapped (λ (x : Entry × Event). step_state a x.0 x.1 c) (entry_and_event_taken t.body t.known) later e in
       subst FewLeft at.2 (few-step at.0.0 at.0.1 c)
   few-next (Telling way n ends ts leaf c) (Tell t) later e h =
       let at = granted (tells n t.body t.known) (noted a way ends leaf ts c) later e in

@@ -3,7 +3,7 @@ use Rattle.std.proofs.Common.{◌≡◌, List}
 use Rattle.qp_model.specs.declared.systems.System.{System}
 use Rattle.qp_model.specs.declared.systems.ObjectDef.{ObjectDef}
 use Rattle.qp_model.specs.Told.{Told}
-use Rattle.qp_model.specs.Pieces.{Piece, bare}
+use Rattle.qp_model.specs.Pieces.{Piece, records_in}
 use Rattle.qp_model.specs.Course.{Cut, FollowsTo}
 use Rattle.qp_check_calls.specs.Decides.{Decides}
 use Rattle.qp_check_calls.proofs.BeginLemmas.{reads-begin}
@@ -24,5 +24,5 @@ module _ (sys : System) (d : ObjectDef) (f : IsFollowable sys d) where
   pieces-decided cut ps = read-decides sys d f.its its-chart reads-begin reads-whole reads-next open-begin open-next open-reads cut ps
 
   -- of records alone
-  pub records-decided : (cut : Cut) (g : List Told) → Decides (told_to sys d f.its cut g) ((ps : List Piece) × (bare ps ≡ g) × FollowsTo sys d cut ps)
+  pub records-decided : (cut : Cut) (g : List Told) → Decides (told_to sys d f.its cut g) ((ps : List Piece) × (records_in ps ≡ g) × FollowsTo sys d cut ps)
   records-decided cut g = told-decides sys d f.its its-chart reads-begin reads-whole reads-next open-begin open-next open-reads cut g

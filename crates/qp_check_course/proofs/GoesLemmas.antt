@@ -7,7 +7,7 @@ use Rattle.qp_model.specs.declared.systems.System.{System}
 use Rattle.qp_model.specs.declared.bodies.Body.TheVariants as item
 use Rattle.qp_model.specs.Told.{Told, plain, raised}
 use Rattle.qp_model.specs.Calls.{Call, Deed, Sets, Says, Calls, deed_of, ok_after, is_assertion}
-use Rattle.qp_model.specs.Pieces.{Piece, Tell, Point, bare, tell, pieces_of}
+use Rattle.qp_model.specs.Pieces.{Piece, Tell, Point, records_in, tell, pieces_of}
 use Rattle.qp_model.specs.Acts.{Config, Actor, names_of, Later, DoesCall, DoesDeed, Notes, DoesTask, Does}
 use Rattle.qp_model.proofs.GroupLemmas.{bare-append, bare-pieces_of}
 use Rattle.qp_check_course.specs.Goes.{Way, Starting, Stepping, moment_of, Ends, call_pieces, CallGoes, DeedGoes, TaskGoes, TasksGo}
@@ -15,7 +15,7 @@ use Rattle.qp_model.proofs.PublicationLemmas.{tell-append}
 
 -- the pieces of tasks as the list has them: those of a start stand there without points
 abbrev pub pieces_by : Way → List Piece → List Piece
-pieces_by Starting ps = tell (bare ps)
+pieces_by Starting ps = tell (records_in ps)
 pieces_by (Stepping ev e) ps = ps
 
 -- what comes after tasks: nothing, where an assertion ended them
@@ -24,19 +24,19 @@ Outcome later None rest = rest ≡ []
 Outcome later (Some d) rest = later d rest
 
 by-nil : (way : Way) → pieces_by way [] ≡ []
-unfolding bare
+unfolding records_in
 by-nil Starting = refl
 by-nil (Stepping ev e) = refl
 
 by-tell : (way : Way) (t : Told) (ps : List Piece) → pieces_by way (Tell t ∷ ps) ≡ Tell t ∷ pieces_by way ps
-unfolding bare
+unfolding records_in
 by-tell Starting t ps = refl
 by-tell (Stepping ev e) t ps = refl
 
 by-call : (way : Way) (x : Call) (g : List Told) (ps : List Piece) → pieces_by way (pieces_of x g ++ ps) ≡ call_pieces way x g ++ pieces_by way ps
 by-call (Stepping ev e) x g ps = refl
 by-call Starting x g ps =
-    ap tell (bare-append (pieces_of x g) ps) ∙ tell-append (bare (pieces_of x g)) (bare ps) ∙ ap (λ zs. tell zs ++ tell (bare ps)) (bare-pieces_of x g)
+    ap tell (bare-append (pieces_of x g) ps) ∙ tell-append (records_in (pieces_of x g)) (records_in ps) ∙ ap (λ zs. tell zs ++ tell (records_in ps)) (bare-pieces_of x g)
 
 by-alone : (way : Way) (x : Call) (g : List Told) → pieces_by way (pieces_of x g) ≡ call_pieces way x g
 by-alone (Stepping ev e) x g = refl
@@ -45,7 +45,7 @@ by-alone Starting x g = ap tell (bare-pieces_of x g)
 -- the point of an action that is done
 ends-on : (way : Way) (later : List Piece → Type 0) (rest after : List Piece) → later (pieces_by way rest ++ after)
     → Ends way later (pieces_by way (Point ∷ rest) ++ after)
-unfolding bare
+unfolding records_in
 ends-on Starting later rest after h = h
 ends-on (Stepping ev e) later rest after h = (rest ++ after, refl, h)
 
@@ -115,7 +115,7 @@ does-go sys a way later (t ∷ ts) c body mid after h k =
 -- the point of an action, in the words of what the action left
 ends-back : (way : Way) (later : List Piece → Type 0) (ps : List Piece) → Ends way later ps
     → (rest : List Piece) × later rest × ((body after : List Piece) → rest ≡ pieces_by way body ++ after → ps ≡ pieces_by way (Point ∷ body) ++ after)
-unfolding bare
+unfolding records_in
 ends-back Starting later ps h = (ps, h, λ body after e. e)
 ends-back (Stepping ev e) later ps h = (h.0, h.2, λ body after e. h.1 ∙ ap (λ zs. Point ∷ zs) e)
 

@@ -8,14 +8,14 @@ use Rattle.qp_model.specs.declared.systems.System.{System}
 use Rattle.qp_model.specs.declared.bodies.Entry.{Entry}
 use Rattle.qp_model.specs.declared.bodies.Body.{Body}
 use Rattle.qp_model.specs.declared.bodies.Body.TheVariants as item
-use Rattle.qp_model.specs.Told.{Told, Event, plain, raised, taken, dropped}
+use Rattle.qp_model.specs.Told.{Told, Event, plain, raised, told_took, dropped}
 use Rattle.qp_model.specs.Groups.{is_post}
 use Rattle.qp_model.specs.Calls.{Answer, is_assertion, ok_after}
 use Rattle.qp_model.specs.Pieces.{Piece, Tell, Point, tell, with_points, piece_of}
 use Rattle.qp_model.specs.Acts.{Config, Actor, Later, names_of}
 use Rattle.qp_check_calls.specs.CallState.{CallState}
 use Rattle.qp_check_calls.specs.CallStateNext.{call_state_next, stage_answer}
-use Rattle.qp_check_calls.specs.Reads.{Reads}
+use Rattle.qp_check_calls.specs.Reads.{IsRestOfCall}
 use Rattle.qp_check_calls.specs.CallStateLaws.{ReadsBegin, ReadsWhole, ReadsNext}
 use Rattle.qp_check_course.specs.Note.{body_of}
 use Rattle.qp_check_course.specs.Goes.{Aim, Way, Stepping, moment_of, Ends, StepsGo, LeftGoes, StepGoes}
@@ -70,14 +70,14 @@ module _ (reads_next : ReadsNext) (sys : System) (a : Actor) (way : Way) (inner 
   -- a record at the front of a call that isn't whole
   pub rest-first : (p : Piece) (ps : List Piece) → stage_answer rest.stage ≡ None → CallStateGoes sys a way inner rest later c (p ∷ ps)
       → (t : Told) × (more : CallState) × (p ≡ Tell t) × (call_state_next sys a.o (moment_of way).entry rest t ≡ Some more) × CallStateBehind t more ps
-  unfolding CallStateGoes Reads
+  unfolding CallStateGoes IsRestOfCall
   rest-first p ps part (answer, [], kept, reads, k) =
       let wrong : stage_answer rest.stage ≡ Some answer = ap (λ (r : CallState). stage_answer r.stage) reads in absurd (cc)
   rest-first p ps part (answer, t ∷ g, kept, reads, k) =
       let step = (reads_next sys a.o (moment_of way).entry rest answer kept t g).0 reads in
       by step.0 step.1 step.2 (inner-first inner t g)
     where
-      by : (more : CallState) → call_state_next sys a.o (moment_of way).entry rest t ≡ Some more → Reads sys a.o (moment_of way).entry more answer kept g
+      by : (more : CallState) → call_state_next sys a.o (moment_of way).entry rest t ≡ Some more → IsRestOfCall sys a.o (moment_of way).entry more answer kept g
           → ((inner && is_post t.body ≡ true) × (inner_pieces inner (t ∷ g) ≡ Tell t ∷ Point ∷ inner_pieces true g))
           ⊎ ((inner && is_post t.body ≡ false) × (inner_pieces inner (t ∷ g) ≡ Tell t ∷ inner_pieces inner g))
           → (t : Told) × (more : CallState) × (p ≡ Tell t) × (call_state_next sys a.o (moment_of way).entry rest t ≡ Some more) × CallStateBehind t more ps
@@ -170,7 +170,7 @@ module _ (begin : ReadsBegin) (whole : ReadsWhole) (reads_next : ReadsNext) (sys
   unfolding Goes next tell_next point_next
   goes-next (Between c) p ps under h = by (took-goes sys a aim c p ps h)
     where
-      by : (f l m : ℕ) × (e : Entry) × (ev : Event) × (p ≡ Tell (taken f l m e ev)) × StepGoes sys a aim ev e c ps → Behind sys a aim (Between c) p ps
+      by : (f l m : ℕ) × (e : Entry) × (ev : Event) × (p ≡ Tell (told_took f l m e ev)) × StepGoes sys a aim ev e c ps → Behind sys a aim (Between c) p ps
       by (f, l, m, e, ev, is, k) =
           subst (λ q. Behind sys a aim (Between c) q ps) (sym is) (step_state a e ev c, refl, into-step e ev c ps k)
   goes-next (Telling way n ends ts leaf c) p ps under (rest, e, k) =

@@ -6,8 +6,8 @@ use Rattle.qp_model.specs.declared.bodies.Entry.{Entry}
 use Rattle.qp_model.specs.declared.bodies.Body.{Body}
 use Rattle.qp_model.specs.declared.bodies.Body.TheVariants as item
 use Rattle.qp_model.specs.Told as told
-use Rattle.qp_model.specs.Told.{Told, Event, Known, plain, raised, taken, dropped}
-use Rattle.qp_check_course.specs.Note.{Note, Begin, Run, Unhandled, Exit, Enter, Init, Done, Say, Unlock, body_of, note_of, same_note, is_noted, tells, raised_from, taken_by, dropped_by, comes_back}
+use Rattle.qp_model.specs.Told.{Told, Event, Known, plain, raised, told_took, dropped}
+use Rattle.qp_check_course.specs.Note.{Note, Begin, Run, Unhandled, Exit, Enter, Init, Done, Say, Unlock, body_of, note_of, same_note, is_noted, tells, raised_from, entry_and_event_taken, dropped_by, comes_back}
 use Rattle.qp_model.proofs.KernelLaneLemmas.{granted}
 use Rattle.qp_model.proofs.LineLemmas.{same_number}
 
@@ -91,13 +91,13 @@ pub is-raised : (ceiling former : ℕ) → raised_from ceiling (item.Lock (max f
 unfolding raised_from
 is-raised ceiling former = rw (same_number (max former ceiling)) refl
 
-pub taken-is : (e : Entry) (ev : Event) (body : Body) (known : Known) → taken_by body known ≡ Some (e, ev)
-    → (f l m : ℕ) × (record_of body known ≡ taken f l m e ev)
-unfolding taken_by
+pub taken-is : (e : Entry) (ev : Event) (body : Body) (known : Known) → entry_and_event_taken body known ≡ Some (e, ev)
+    → (f l m : ℕ) × (record_of body known ≡ told_took f l m e ev)
+unfolding entry_and_event_taken
 taken-is e ev (item.Took f l m d) (told.OfEvent w) h =
     let entry : d ≡ e = ap (λ (x : Entry × Event). x.0) (same_Some _ _ h) in
     let event : w ≡ ev = ap (λ (x : Entry × Event). x.1) (same_Some _ _ h) in
-    (f, l, m, subst (λ x. record_of (item.Took f l m d) (told.OfEvent w) ≡ taken f l m x ev) entry (ap (λ x. taken f l m d x) event))
+    (f, l, m, subst (λ x. record_of (item.Took f l m d) (told.OfEvent w) ≡ told_took f l m x ev) entry (ap (λ x. told_took f l m d x) event))
 taken-is e ev body known h = absurd (none-some _ h)
 
 pub dropped-is : (e : Entry) (x : ℕ × ℕ) (body : Body) (known : Known) → dropped_by e body known ≡ Some x

@@ -8,7 +8,7 @@ use Rattle.qp_model.specs.declared.systems.System.{System}
 use Rattle.qp_model.specs.declared.bodies.Entry.{Entry}
 use Rattle.qp_model.specs.Told.{Event}
 use Rattle.qp_model.specs.Calls.{Answer, Deed, Sets, Says, Calls, deed_of, ok_after, is_assertion}
-use Rattle.qp_model.specs.Pieces.{Piece, Point, bare}
+use Rattle.qp_model.specs.Pieces.{Piece, Point, records_in}
 use Rattle.qp_model.specs.Acts.{Config, Actor, names_of}
 use Rattle.qp_check_calls.specs.CallState.{CallStage, Whole, CallState}
 use Rattle.qp_check_calls.specs.CallStateNext.{call_state_begin, stage_answer}
@@ -146,15 +146,15 @@ module _ (a : Actor) where
 module _ (begin : ReadsBegin) (whole : ReadsWhole) (reads_next : ReadsNext) (sys : System) (a : Actor) (aim : Aim) where
   -- what may come behind points may come with points before it
   abbrev Unpassed : State → List Piece → Type 0
-  Unpassed s zs = (us : List Piece) × (bare us ≡ []) × Goes sys a aim s (us ++ zs)
+  Unpassed s zs = (us : List Piece) × (records_in us ≡ []) × Goes sys a aim s (us ++ zs)
 
   point-before : (s later : State) (zs : List Piece) → next sys a s Point ≡ Some later → Unpassed later zs → Unpassed s zs
-  unfolding bare
+  unfolding records_in
   point-before s later zs is (us, none, k) = (Point ∷ us, none, next-goes begin whole reads_next sys a aim s Point (us ++ zs) later is k)
 
   unsettle : (ev : Event) (e : Entry) (leaf : ℕ) (ts : List Task) (c : Config) (zs : List Piece) → Goes sys a aim (settle_past a ev e leaf ts c) zs
       → Unpassed (settle a (Stepping ev e) leaf ts c) zs
-  unfolding settle_past settle next point_next bare
+  unfolding settle_past settle next point_next records_in
   unsettle ev e leaf [] c zs h = ([], refl, h)
   unsettle ev e leaf (t ∷ ts) c zs h = by (λ d k. unsettle ev e leaf ts d zs k) (settle a (Stepping ev e) leaf (t ∷ ts) c) (settle-shape a ev e leaf t ts c) h
     where
@@ -166,7 +166,7 @@ module _ (begin : ReadsBegin) (whole : ReadsWhole) (reads_next : ReadsNext) (sys
       by more s (inr none) k = ([], refl, subst (λ x. Goes sys a aim x zs) (through-none a s (λ d. settle_past a ev e leaf ts d) none) k)
 
   unpass-actions : (s : State) (zs : List Piece) → Goes sys a aim (pass_actions a s) zs → Unpassed s zs
-  unfolding pass_actions next point_next bare
+  unfolding pass_actions next point_next records_in
   unpass-actions (AtPoint ev e ts leaf c) zs h = point-before (AtPoint ev e ts leaf c) (settle a (Stepping ev e) leaf ts c) zs refl (unsettle ev e leaf ts c zs h)
   unpass-actions s zs h = ([], refl, h)
 

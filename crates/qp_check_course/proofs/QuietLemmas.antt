@@ -10,7 +10,7 @@ use Rattle.qp_model.specs.Calls.{Call}
 use Rattle.qp_model.specs.Record.{entry}
 use Rattle.qp_model.specs.Told.{Told, Known}
 use Rattle.qp_model.specs.Parts.{is_static, sizes_of}
-use Rattle.qp_model.specs.OutputSummary.{is_took, is_done}
+use Rattle.qp_model.specs.OutputSummary.{is_took, is_done_record}
 use Rattle.qp_check_calls.specs.CallState.{Behind, Goal, ToQueue, ToFront, ToDeferred, ToSet, CallStage, Begins, Refers, Puts, Raises, Restores, Drops, Returns, Flushes, Whole, CallState}
 use Rattle.qp_check_calls.specs.CallStateNext as next
 use Rattle.qp_check_calls.specs.CallStateNext.{call_state_next, stage_next, put_next}
@@ -170,18 +170,18 @@ module _ (sys : System) (o : ℕ) (b : Mark) (known : Known) where
   stage-none now kept (Whole answer) = refl
 
 -- each record is one of these, or neither
-neither : (b : Body) → ((k : Mark) × (b ≡ mark_body k)) ⊎ ((is_done b ≡ false) × (is_took b ≡ false))
+neither : (b : Body) → ((k : Mark) × (b ≡ mark_body k)) ⊎ ((is_done_record b ≡ false) × (is_took b ≡ false))
 neither item.Done = inl (Ends, refl)
 neither (item.Took f l m e) = inl (Takes f l m e, refl)
 neither b = inr (refl, refl)
 
 -- a record of a call
 pub call-plain : (sys : System) (o : ℕ) (now : Option Entry) (rest : CallState) (t : Told) (more : CallState) → call_state_next sys o now rest t ≡ Some more
-    → (is_done t.body ≡ false) × (is_took t.body ≡ false)
+    → (is_done_record t.body ≡ false) × (is_took t.body ≡ false)
 unfolding call_state_next
 call-plain sys o now rest t more e = by (neither t.body)
   where
-    by : ((k : Mark) × (t.body ≡ mark_body k)) ⊎ ((is_done t.body ≡ false) × (is_took t.body ≡ false)) → (is_done t.body ≡ false) × (is_took t.body ≡ false)
+    by : ((k : Mark) × (t.body ≡ mark_body k)) ⊎ ((is_done_record t.body ≡ false) × (is_took t.body ≡ false)) → (is_done_record t.body ≡ false) × (is_took t.body ≡ false)
     by (inl (k, is)) =
         let none : stage_next sys o now rest.kept rest.stage t.body t.known ≡ None =
         subst (λ b. stage_next sys o now rest.kept rest.stage b t.known ≡ None) (sym is) (stage-none sys o k t.known now rest.kept rest.stage) in

@@ -12,7 +12,7 @@ use Rattle.qp_check_course.specs.Machine.{State, start_state, tell_next}
 use Rattle.qp_check_course.specs.Passing.{pass, run_told}
 use Rattle.qp_check_course.specs.Reading.{LeavesOf}
 use Rattle.qp_check_course.specs.Standing.{FollowSomehow, ShowsLeft, StandsAt, left_in}
-use Rattle.qp_check_course.specs.declared.reading.Reading.{Reading}
+use Rattle.qp_check_course.specs.declared.reading.CourseReading.{CourseReading}
 use Rattle.qp_check_course.specs.declared.standing.Standing.{Standing}
 use Rattle.qp_check_course.proofs.StandingLemmas.{are-read, read-at, stands-at}
 
@@ -26,9 +26,9 @@ told-none : (sys : System) (a : Actor) (s : State) → run_told sys a s [] ≡ S
 unfolding run_told
 told-none sys a s = refl
 
-module _ (sys : System) (d : ObjectDef) (r : Reading) where
+module _ (sys : System) (d : ObjectDef) (r : CourseReading) where
   -- the first record comes next, and then the others
-  pub leaves-next : (t : Told) (left all : List Told) (later : Reading) → later.who ≡ r.who
+  pub leaves-next : (t : Told) (left all : List Told) (later : CourseReading) → later.who ≡ r.who
       → Some (as_state later.state) ≡ tell_next r.who.sys.now (as_actor r.who) (pass (as_actor r.who) (as_state r.state)) t
       → LeavesOf sys d r (t ∷ left) all → LeavesOf sys d later left all
   leaves-next t left all later same next h =

@@ -13,7 +13,7 @@ use Rattle.qp_check_calls.specs.CallStateLaws.{ReadsBegin, ReadsWhole, ReadsNext
 use Rattle.qp_chart.specs.Agenda.{start_plan}
 use Rattle.qp_check_course.specs.Goes.{anywhere, Starting, CourseGoes}
 use Rattle.qp_check_course.specs.Machine.{State, Between, Telling, Raising, AtPoint, InCall, AtPost, Releasing, Returning, Asserted, Goes, start_state, point_next, next, run, is_end, expects_point, IsUnderWay}
-use Rattle.qp_check_course.specs.Ready.{IsReady}
+use Rattle.qp_check_course.specs.Ready.{MayGoOnFrom}
 use Rattle.qp_check_course.specs.Decided.{ends_well}
 use Rattle.qp_check_course.proofs.SettleLemmas.{into-settle, back-settle}
 use Rattle.qp_check_course.proofs.NextLemmas.{goes-next}
@@ -22,7 +22,7 @@ use Rattle.qp_check_course.proofs.ReadyLemmas.{ready-start, ready-next}
 use Rattle.qp_check_course.proofs.EndLemmas.{goes-end, end-goes, goes-some}
 use Rattle.qp_model.proofs.AbleLemmas.{some-same}
 
-pub under : (sys : System) (a : Actor) (s : State) → IsReady sys a s → IsUnderWay s
+pub under : (sys : System) (a : Actor) (s : State) → MayGoOnFrom sys a s → IsUnderWay s
 under sys a (Between c) h = tt
 under sys a (Telling way n ends ts leaf c) h = tt
 under sys a (Raising way ceiling ts leaf c) h = tt
@@ -50,8 +50,8 @@ expected-point sys a s ps h k = absurd (false≢true h)
 module _ (begin : ReadsBegin) (whole : ReadsWhole) (reads_next : ReadsNext) (first : OpenBegin) (open_next : OpenNext) (open_reads : OpenReads)
     (sys : System) (a : Actor) (able : chart_able sys a.chart ≡ true) where
   -- pieces at the front of what may come are read
-  pub goes-run : (ps back : List Piece) (s : State) → IsReady sys a s → Goes sys a anywhere s (ps ++ back)
-      → (later : State) × (run sys a s ps ≡ Some later) × IsReady sys a later × Goes sys a anywhere later back
+  pub goes-run : (ps back : List Piece) (s : State) → MayGoOnFrom sys a s → Goes sys a anywhere s (ps ++ back)
+      → (later : State) × (run sys a s ps ≡ Some later) × MayGoOnFrom sys a later × Goes sys a anywhere later back
   unfolding run
   goes-run [] back s ready h = (s, refl, ready, h)
   goes-run (p ∷ ps) back s ready h =
@@ -71,18 +71,18 @@ module _ (begin : ReadsBegin) (whole : ReadsWhole) (reads_next : ReadsNext) (fir
       by more (Some mid) is k = next-goes begin whole reads_next sys a anywhere s p (ps ++ back) mid is (more mid k)
 
   -- a state that was read to can go on
-  pub run-ready : (ps : List Piece) (s later : State) → IsReady sys a s → run sys a s ps ≡ Some later → IsReady sys a later
+  pub run-ready : (ps : List Piece) (s later : State) → MayGoOnFrom sys a s → run sys a s ps ≡ Some later → MayGoOnFrom sys a later
   unfolding run
-  run-ready [] s later ready e = subst (IsReady sys a) (some-same e) ready
+  run-ready [] s later ready e = subst (MayGoOnFrom sys a) (some-same e) ready
   run-ready (p ∷ ps) s later ready e = by (λ mid can k. run-ready ps mid later can k) (next sys a s p) refl e
     where
-      by : ((mid : State) → IsReady sys a mid → run sys a mid ps ≡ Some later → IsReady sys a later) → (o : Option State) → next sys a s p ≡ o
-          → option_and_then (λ x. run sys a x ps) o ≡ Some later → IsReady sys a later
+      by : ((mid : State) → MayGoOnFrom sys a mid → run sys a mid ps ≡ Some later → MayGoOnFrom sys a later) → (o : Option State) → next sys a s p ≡ o
+          → option_and_then (λ x. run sys a x ps) o ≡ Some later → MayGoOnFrom sys a later
       by more None is k = absurd (cc)
       by more (Some mid) is k = more mid (ready-next begin reads_next first open_next sys a able s p mid is ready) k
 
   -- what may come from a state of a list that stopped there
-  pub stops-here : (s : State) (back : List Piece) → IsReady sys a s → Goes sys a anywhere s back → begins_at_point back ≡ true → (is_end s || expects_point s) ≡ true
+  pub stops-here : (s : State) (back : List Piece) → MayGoOnFrom sys a s → Goes sys a anywhere s back → begins_at_point back ≡ true → (is_end s || expects_point s) ≡ true
   unfolding next
   stops-here s [] ready h at = or_left (is_end s) (expects_point s) (goes-end sys a s ready h)
   stops-here s (Point ∷ back) ready h at =
@@ -90,7 +90,7 @@ module _ (begin : ReadsBegin) (whole : ReadsWhole) (reads_next : ReadsNext) (fir
       or_right (is_end s) (expects_point s) (point-expected a s step.0 step.1)
   stops-here s (Tell t ∷ back) ready h at = absurd (false≢true at)
 
-  pub here-stops : (s : State) → IsReady sys a s → (is_end s || expects_point s) ≡ true → (back : List Piece) × Goes sys a anywhere s back × (begins_at_point back ≡ true)
+  pub here-stops : (s : State) → MayGoOnFrom sys a s → (is_end s || expects_point s) ≡ true → (back : List Piece) × Goes sys a anywhere s back × (begins_at_point back ≡ true)
   here-stops s ready h = by (or_cases (is_end s) (expects_point s) h)
     where
       by : (is_end s ≡ true) ⊎ (expects_point s ≡ true) → (back : List Piece) × Goes sys a anywhere s back × (begins_at_point back ≡ true)
@@ -106,7 +106,7 @@ module _ (begin : ReadsBegin) (whole : ReadsWhole) (reads_next : ReadsNext) (fir
     unfolding CourseGoes start_state
     start-back ps h = back-settle begin sys a anywhere Starting (start_plan a.chart).leaf (start_plan a.chart).tasks c ps h
 
-    pub begun : IsReady sys a (start_state a c)
+    pub begun : MayGoOnFrom sys a (start_state a c)
     begun = ready-start begin reads_next first open_next sys a able c within
 
     -- a list that may be cut so
@@ -125,7 +125,7 @@ module _ (begin : ReadsBegin) (whole : ReadsWhole) (reads_next : ReadsNext) (fir
         let read = goes-run ps back (start_state a c) begun (start-into (ps ++ back) h) in
         ap (ends_well Stopped (ends_at_point ps)) read.1 ∙ by read.0 read.2 read.3 at
       where
-        by : (later : State) → IsReady sys a later → Goes sys a anywhere later back → IsTrue (ends_at_point ps) ⊎ IsTrue (begins_at_point back)
+        by : (later : State) → MayGoOnFrom sys a later → Goes sys a anywhere later back → IsTrue (ends_at_point ps) ⊎ IsTrue (begins_at_point back)
             → (ends_at_point ps || (is_end later || expects_point later)) ≡ true
         by later ready k (inl front) = or_left (ends_at_point ps) (is_end later || expects_point later) front
         by later ready k (inr behind) = or_right (ends_at_point ps) (is_end later || expects_point later) (stops-here later back ready k behind)

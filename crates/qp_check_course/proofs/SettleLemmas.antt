@@ -14,7 +14,7 @@ use Rattle.qp_model.specs.Pieces.{Piece, tell, pieces_of, with_points}
 use Rattle.qp_model.specs.Acts.{Config, Actor, Later, names_of}
 use Rattle.qp_check_calls.specs.CallState.{CallStage, Whole, CallState}
 use Rattle.qp_check_calls.specs.CallStateNext.{call_state_begin, stage_answer}
-use Rattle.qp_check_calls.specs.Reads.{Reads}
+use Rattle.qp_check_calls.specs.Reads.{IsRestOfCall}
 use Rattle.qp_check_calls.specs.CallStateLaws.{ReadsBegin, ReadsWhole}
 use Rattle.qp_check_course.specs.Goes.{Aim, Way, Starting, Stepping, moment_of, Ends, call_pieces, CallGoes, DeedGoes, TaskGoes, TasksGo, Closing, StepsGo, LeftGoes}
 use Rattle.qp_check_course.specs.Machine.{State, inner_pieces, has_inner, CallStateGoes, Goes, done, answered, resumed, resume, deed_state, task_state, closed, settle}
@@ -88,7 +88,7 @@ module _ (sys : System) (a : Actor) (aim : Aim) (way : Way) (leaf : ℕ) (ts : L
       by (Whole own) is (answer, g, kept, reads, k) =
           let here : CallState = record { stage = Whole own; kept = rest.kept } in
           let at : rest ≡ here = ap (λ s. record { stage = s; kept = rest.kept }) is in
-          let w = whole sys a.o (moment_of way).entry own answer rest.kept kept g (subst (λ r. Reads sys a.o (moment_of way).entry r answer kept g) at reads) in
+          let w = whole sys a.o (moment_of way).entry own answer rest.kept kept g (subst (λ r. IsRestOfCall sys a.o (moment_of way).entry r answer kept g) at reads) in
           let one : Follows way (LeftGoes sys a aim way ts leaf) c ps (inner_pieces inner []) answer kept = subst (λ zs. Follows way (LeftGoes sys a aim way ts leaf) c ps (inner_pieces inner zs) answer kept) w.0 k in
           let two : Follows way (LeftGoes sys a aim way ts leaf) c ps (inner_pieces inner []) own kept = subst (λ z. Follows way (LeftGoes sys a aim way ts leaf) c ps (inner_pieces inner []) z kept) w.1 one in
           let three : Follows way (LeftGoes sys a aim way ts leaf) c ps (inner_pieces inner []) own rest.kept = subst (λ z. Follows way (LeftGoes sys a aim way ts leaf) c ps (inner_pieces inner []) own z) w.2 two in
@@ -98,7 +98,7 @@ module _ (sys : System) (a : Actor) (aim : Aim) (way : Way) (leaf : ℕ) (ts : L
   -- and back
   pub back-resume : Back → (inner : Bool) (rest : CallState) (c : Config) (ps : List Piece)
       → Goes sys a aim (resume way inner rest leaf ts go c) ps → CallStateGoes sys a way inner rest (LeftGoes sys a aim way ts leaf) c ps
-  unfolding Goes CallStateGoes Reads
+  unfolding Goes CallStateGoes IsRestOfCall
   back-resume back inner rest c ps h = by rest.stage refl h
     where
       ended : (own : Answer) (b : Bool) → Goes sys a aim (answered b way leaf ts go (record c { ok = ok_after own c.ok; kept = rest.kept })) ps

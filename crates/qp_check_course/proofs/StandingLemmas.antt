@@ -10,12 +10,12 @@ use Rattle.qp_model.specs.declared.systems.ObjectDef.{ObjectDef}
 use Rattle.qp_model.specs.declared.bodies.Entry.{Entry}
 use Rattle.qp_model.specs.declared.bodies.Body.TheVariants as item
 use Rattle.qp_model.specs.Told.{Told, plain, dropped}
-use Rattle.qp_model.specs.Pieces.{Piece, Tell, bare}
+use Rattle.qp_model.specs.Pieces.{Piece, Tell, records_in}
 use Rattle.qp_model.specs.Acts.{Config, Actor}
 use Rattle.qp_model.specs.Course.{Course, FollowsTo, actor, chart_at, first_config}
 use Rattle.qp_model.specs.CourseLaws.{NothingFollowsAnAssertion}
 use Rattle.qp_model.specs.ObjectShape.{asserts_last, asserts_none}
-use Rattle.qp_model.specs.OutputSummary.{is_took, is_done, all_done, begins_nothing}
+use Rattle.qp_model.specs.OutputSummary.{is_took, is_done_record, all_done, begins_nothing}
 use Rattle.qp_model.proofs.CourseLawLemmas.{nothing_follows_an_assertion}
 use Rattle.qp_model.proofs.GroupLemmas.{bare-append}
 use Rattle.qp_model.proofs.LastLemmas.{quiet-append}
@@ -44,10 +44,10 @@ at c = λ d. d ≡ c
 
 -- what may still come where no step is under way: nothing, or the rest of a release
 abbrev Stays : System → Actor → State → Config → Type 0
-Stays sys a s c = (back : List Piece) × Goes sys a (at c) s back × (begins_nothing back ≡ true) × (asserts_none (bare back) ≡ true)
+Stays sys a s c = (back : List Piece) × Goes sys a (at c) s back × (begins_nothing back ≡ true) × (asserts_none (records_in back) ≡ true)
 
 rests : (sys : System) (a : Actor) (s : State) (c : Config) → left_in s ≡ Some c → Stays sys a s c
-unfolding Goes bare
+unfolding Goes records_in
 rests sys a (Between d) c h = ([], steps-none sys a (at c) d cc, refl, refl)
 rests sys a (Releasing e d) c h = (
   Tell (dropped e.pool e.block 0 e.name 1) ∷ [],
@@ -81,12 +81,12 @@ module _ (sys : System) (d : ObjectDef) (f : IsFollowable sys d) (g : List Told)
   are-read none =
       let decided = records-decided sys d f follow.0 g in
       let no : told_to sys d f.its follow.0 g ≡ false = ap (λ o. told_well a follow.0 (is_none_told g) o && asserts_where_cut follow.0 g) none in
-      let denied : Decides false ((ps : List Piece) × (bare ps ≡ g) × FollowsTo sys d follow.0 ps) =
-      subst (λ b. Decides b ((ps : List Piece) × (bare ps ≡ g) × FollowsTo sys d follow.0 ps)) no decided in
+      let denied : Decides false ((ps : List Piece) × (records_in ps ≡ g) × FollowsTo sys d follow.0 ps) =
+      subst (λ b. Decides b ((ps : List Piece) × (records_in ps ≡ g) × FollowsTo sys d follow.0 ps)) no decided in
       denied (follow.1, follow.2, follow.3)
 
   module _ (s : State) (read : run_told sys a (start_state a (first_config d)) g ≡ Some s) where
-    counted : count_by (λ t. is_done t.body) g + open_in s ≡ count_by (λ t. is_took t.body) g + 1
+    counted : count_by (λ t. is_done_record t.body) g + open_in s ≡ count_by (λ t. is_took t.body) g + 1
     counted =
         let under = start-under a (first_config d) in
         told-counts sys a g (start_state a (first_config d)) s read under.0 ∙ ap (λ n. count_by (λ t. is_took t.body) g + n) under.1
@@ -105,12 +105,12 @@ module _ (sys : System) (d : ObjectDef) (f : IsFollowable sys d) (g : List Told)
         let course = goes-course sys a (at c) (first_config d) (whole.0 ++ rest.0) from in
         ended whole.0 rest.0 whole.1 rest.2 rest.3 course.0 course.1 course.2 course.3
       where
-        ended : (ps back : List Piece) → bare ps ≡ g → begins_nothing back ≡ true → asserts_none (bare back) ≡ true → (es : List Entry) (end : Option Config)
+        ended : (ps back : List Piece) → records_in ps ≡ g → begins_nothing back ≡ true → asserts_none (records_in back) ≡ true → (es : List Entry) (end : Option Config)
             → Course sys a (first_config d) es (ps ++ back) end → Meets (at c) end → LeavesAt sys d f.its g c
         ended ps back same begins none es None course met =
             let rests : open_in s ≡ 0 = ap open_of is in
-            let all : asserts_none (bare (ps ++ back)) ≡ true =
-            subst (λ us. asserts_none us ≡ true) (sym (bare-append ps back ∙ ap (λ us. us ++ bare back) same)) (quiet-append g (bare back) (quiet rests) none) in
+            let all : asserts_none (records_in (ps ++ back)) ≡ true =
+            subst (λ us. asserts_none us ≡ true) (sym (bare-append ps back ∙ ap (λ us. us ++ records_in back) same)) (quiet-append g (records_in back) (quiet rests) none) in
             absurd (course-fails sys a (first_config d) es (ps ++ back) course all)
         ended ps back same begins none es (Some e) course met =
             (ps, back, es, same, begins, subst (λ x. Course sys a (first_config d) es (ps ++ back) (Some x)) met course)

@@ -1,10 +1,10 @@
 -- Tasks, as the definition of an agenda sees them.
 use Rattle.std.specs.Prelude.{List, map}
 use Rattle.qp_chart.specs.Task as task
-use Rattle.qp_check_course.specs.declared.tasks.Task.{Task}
-use Rattle.qp_check_course.specs.declared.tasks.Task.TheVariants as own
+use Rattle.qp_check_course.specs.declared.tasks.CourseTask.{CourseTask}
+use Rattle.qp_check_course.specs.declared.tasks.CourseTask.TheVariants as own
 
-abbrev pub as_task : Task → task.Task
+abbrev pub as_task : CourseTask → task.Task
 as_task own.Begin = task.Begin
 as_task (own.Run s k) = task.Run s k
 as_task own.Unhandled = task.Unhandled
@@ -16,5 +16,5 @@ as_task (own.Do p) = task.Do p.now
 as_task (own.Raise c) = task.Raise c
 as_task own.Restore = task.Restore
 
-abbrev pub as_tasks : List Task → List task.Task
+abbrev pub as_tasks : List CourseTask → List task.Task
 as_tasks tasks = map as_task tasks

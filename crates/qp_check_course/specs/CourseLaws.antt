@@ -3,7 +3,7 @@ use Rattle.std.specs.Prelude.{◌≡◌, List}
 use Rattle.qp_model.specs.declared.systems.System.{System}
 use Rattle.qp_model.specs.declared.systems.ObjectDef.{ObjectDef}
 use Rattle.qp_model.specs.Told.{Told}
-use Rattle.qp_model.specs.Pieces.{Piece, bare}
+use Rattle.qp_model.specs.Pieces.{Piece, records_in}
 use Rattle.qp_model.specs.Course.{Cut, FollowsTo}
 use Rattle.qp_check_calls.specs.Decides.{Decides}
 use Rattle.qp_check_course.specs.Decided.{reads_to}
@@ -17,7 +17,7 @@ PiecesAreDecided = (sys : System) (d : ObjectDef) (f : IsFollowable sys d) (cut 
 
 -- read record by record, they tell whether the records do with some points between them
 unfoldable pub RecordsAreDecided : Type 0
-unfolding Decides FollowsTo bare told_to
+unfolding Decides FollowsTo records_in told_to
 RecordsAreDecided =
     (sys : System) (d : ObjectDef) (f : IsFollowable sys d) (cut : Cut) (g : List Told)
-    → Decides (told_to sys d f.its cut g) ((ps : List Piece) × (bare ps ≡ g) × FollowsTo sys d cut ps)
+    → Decides (told_to sys d f.its cut g) ((ps : List Piece) × (records_in ps ≡ g) × FollowsTo sys d cut ps)

@@ -5,7 +5,7 @@ use Rattle.qp_chart.specs.declared.checked.Chart.{Chart}
 use Rattle.qp_model.specs.declared.systems.System.{System}
 use Rattle.qp_model.specs.declared.systems.ObjectDef.{ObjectDef}
 use Rattle.qp_model.specs.Able.{chart_able}
-use Rattle.qp_model.specs.Pieces.{Piece, bare, ends_at_point}
+use Rattle.qp_model.specs.Pieces.{Piece, records_in, ends_at_point}
 use Rattle.qp_model.specs.Course.{Cut, Whole, Stopped, Anywhere, chart_at, actor, first_config}
 use Rattle.qp_check_course.specs.Machine.{State, start_state, run, is_end, expects_point}
 use Rattle.qp_check_course.specs.Passing.{asserts_where_cut}
@@ -22,9 +22,9 @@ ends_well cut at_point (Some s) = may_end cut at_point s
 
 -- the pieces are read to the last one, and the list may be cut there
 unfoldable pub reads_to : System → ObjectDef → Chart → Cut → List Piece → Bool
-unfolding bare ends_at_point run start_state
+unfolding records_in ends_at_point run start_state
 reads_to sys d chart cut ps =
-    ends_well cut (ends_at_point ps) (run sys (actor d chart) (start_state (actor d chart) (first_config d)) ps) && asserts_where_cut cut (bare ps)
+    ends_well cut (ends_at_point ps) (run sys (actor d chart) (start_state (actor d chart) (first_config d)) ps) && asserts_where_cut cut (records_in ps)
 
 -- an object has its chart, whose actions have what they ask for
 pub record HasChart (sys : System) (d : ObjectDef) (chart : Chart) : Type 0 where

@@ -18,8 +18,8 @@ use Rattle.qp_model.specs.Pieces.{Piece, Tell, Point, with_points, tell}
 use Rattle.qp_model.specs.Acts.{Config, Actor, Later, names_of, Notes}
 use Rattle.qp_check_calls.specs.CallState.{CallState}
 use Rattle.qp_check_calls.specs.CallStateNext.{call_state_begin, call_state_next, stage_answer}
-use Rattle.qp_check_calls.specs.Reads.{Reads}
-use Rattle.qp_check_course.specs.Note.{Note, Begin, Run, Unhandled, Exit, Enter, Init, Done, Say, Unlock, body_of, tells, raised_from, taken_by, dropped_by, comes_back}
+use Rattle.qp_check_calls.specs.Reads.{IsRestOfCall}
+use Rattle.qp_check_course.specs.Note.{Note, Begin, Run, Unhandled, Exit, Enter, Init, Done, Say, Unlock, body_of, tells, raised_from, entry_and_event_taken, dropped_by, comes_back}
 use Rattle.qp_check_course.specs.Goes.{Aim, Way, Starting, Stepping, moment_of, Ends, LeftGoes, StepsGo}
 
 pub data State : Type 0 where
@@ -54,9 +54,9 @@ has_inner way x = false
 
 -- the rest of a call, and what comes after it
 unfoldable pub CallStateGoes : System → Actor → Way → Bool → CallState → Later → Config → List Piece → Type 0
-unfolding Reads with_points
+unfolding IsRestOfCall with_points
 CallStateGoes sys a way inner rest later c ps =
-    (answer : Answer) × (g : List Told) × (kept : List Entry) × Reads sys a.o (moment_of way).entry rest answer kept g
+    (answer : Answer) × (g : List Told) × (kept : List Entry) × IsRestOfCall sys a.o (moment_of way).entry rest answer kept g
     × MatchBool (is_assertion answer)
     (ps ≡ inner_pieces inner g)
     ((more : List Piece) × (ps ≡ inner_pieces inner g ++ more) × Ends way (later (record c { ok = ok_after answer c.ok; kept = kept })) more)
@@ -162,8 +162,8 @@ left_over e d (suc left) c = Between c
 
 -- what a record makes of a state, where it may come
 unfoldable pub tell_next : System → Actor → State → Told → Option State
-unfolding comes_back dropped_by raised_from call_state_next settle step_state taken_by tells
-tell_next sys a (Between c) t = option_map (λ x. step_state a x.0 x.1 c) (taken_by t.body t.known)
+unfolding comes_back dropped_by raised_from call_state_next settle step_state entry_and_event_taken tells
+tell_next sys a (Between c) t = option_map (λ x. step_state a x.0 x.1 c) (entry_and_event_taken t.body t.known)
 tell_next sys a (Telling way n ends ts leaf c) t = if tells n t.body t.known then Some (noted a way ends leaf ts c) else None
 tell_next sys a (Raising way ceiling ts leaf c) t =
     option_map (λ former. settle a way leaf ts (record c { former = former })) (raised_from ceiling t.body t.known)

@@ -71,9 +71,9 @@ raised_from ceiling (item.Lock raised) (told.Former former) = if raised == max f
 raised_from ceiling body known = None
 
 -- the entry that is taken, and its event
-unfoldable pub taken_by : Body → Known → Option (Entry × Event)
-taken_by (item.Took f l m e) (told.OfEvent ev) = Some (e, ev)
-taken_by body known = None
+unfoldable pub entry_and_event_taken : Body → Known → Option (Entry × Event)
+entry_and_event_taken (item.Took f l m e) (told.OfEvent ev) = Some (e, ev)
+entry_and_event_taken body known = None
 
 -- the operation that drops the reference of an entry, and the references left
 unfoldable pub dropped_by : Entry → Body → Known → Option (ℕ × ℕ)

@@ -12,24 +12,24 @@ use Rattle.qp_check_course.specs.Machine.{start_state}
 use Rattle.qp_check_course.specs.Passing.{run_told}
 use Rattle.qp_check_course.specs.Runs.{CanRun, IsAble, IsActorOf}
 use Rattle.qp_check_course.specs.Standing.{FollowSomehow}
-use Rattle.qp_check_course.specs.declared.reading.Reading.{Reading}
+use Rattle.qp_check_course.specs.declared.reading.CourseReading.{CourseReading}
 
 -- of all these records of the object, those that are left come next
-pub record LeavesOf (sys : System) (d : ObjectDef) (r : Reading) (left all : List Told) : Type 0 where
+pub record LeavesOf (sys : System) (d : ObjectDef) (r : CourseReading) (left all : List Told) : Type 0 where
   pub chart : Chart
   pub is : IsActorOf sys d r.who.sys.now chart (as_actor r.who)
   pub led : run_told r.who.sys.now (as_actor r.who) (as_state r.state) left ≡ run_told r.who.sys.now (as_actor r.who) (start_state (as_actor r.who) (first_config d)) all
 
 -- one record more can be read
-abbrev pub CanRead : Reading → Type 0
+abbrev pub CanRead : CourseReading → Type 0
 CanRead r = IsAble r.who.sys.now (as_actor r.who) × CanRun r.who.sys.now (as_actor r.who) (as_state r.state)
 
-abbrev pub HasBegun : System → ObjectDef → Option Reading → Type 0
+abbrev pub HasBegun : System → ObjectDef → Option CourseReading → Type 0
 HasBegun sys d None = ⊥
 HasBegun sys d (Some r) = CanRead r × ((all : List Told) → LeavesOf sys d r all all)
 
 -- a record was read; it can be, where the records follow the object's chart
-abbrev pub ReadsOn : Reading → Told → Option Reading → Type 0
+abbrev pub ReadsOn : CourseReading → Told → Option CourseReading → Type 0
 ReadsOn r t None =
     (sys : System) (d : ObjectDef) (left all : List Told) → LeavesOf sys d r (t ∷ left) all → IsFollowable sys d → FollowSomehow sys d all → ⊥
 ReadsOn r t (Some later) =

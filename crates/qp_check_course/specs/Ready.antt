@@ -10,7 +10,7 @@ use Rattle.qp_model.specs.Able.{task_able}
 use Rattle.qp_model.specs.Acts.{Config, Actor}
 use Rattle.qp_check_calls.specs.CallState.{CallState}
 use Rattle.qp_check_calls.specs.CallStateNext.{stage_answer}
-use Rattle.qp_check_calls.specs.Reads.{Reads, IsOpen}
+use Rattle.qp_check_calls.specs.Reads.{IsRestOfCall, IsOpen}
 use Rattle.qp_check_course.specs.Goes.{Way, Stepping, moment_of}
 use Rattle.qp_check_course.specs.Machine.{State, Between, Telling, Raising, AtPoint, InCall, AtPost, Releasing, Returning, Asserted}
 
@@ -25,17 +25,17 @@ IsWithin a c = length c.kept ≤ a.room
 -- the rest of a call can go on, and leaves the deferred list within its capacity; it flushes no more entries than that
 pub record CanGoOn (sys : System) (a : Actor) (way : Way) (rest : CallState) : Type 0 where
   pub some : IsOpen sys (moment_of way).entry rest
-  pub within : (answer : Answer) (kept : List Entry) (g : List Told) → Reads sys a.o (moment_of way).entry rest answer kept g → length kept ≤ a.room
-  pub flushed : (n : ℕ) (kept : List Entry) (g : List Told) → Reads sys a.o (moment_of way).entry rest (Flushed n) kept g → n ≤ a.room
+  pub within : (answer : Answer) (kept : List Entry) (g : List Told) → IsRestOfCall sys a.o (moment_of way).entry rest answer kept g → length kept ≤ a.room
+  pub flushed : (n : ℕ) (kept : List Entry) (g : List Told) → IsRestOfCall sys a.o (moment_of way).entry rest (Flushed n) kept g → n ≤ a.room
 
 -- the course can go on from this state
-abbrev pub IsReady : System → Actor → State → Type 0
-IsReady sys a (Between c) = IsWithin a c
-IsReady sys a (Telling way n ends ts leaf c) = AreAble sys way ts × IsWithin a c
-IsReady sys a (Raising way ceiling ts leaf c) = AreAble sys way ts × IsWithin a c
-IsReady sys a (AtPoint ev e ts leaf c) = AreAble sys (Stepping ev e) ts × IsWithin a c
-IsReady sys a (InCall way inner rest ts leaf c) = (stage_answer rest.stage ≡ None) × CanGoOn sys a way rest × AreAble sys way ts
-IsReady sys a (AtPost way rest ts leaf c) = CanGoOn sys a way rest × AreAble sys way ts
-IsReady sys a (Releasing e c) = IsWithin a c
-IsReady sys a (Returning p b d c) = IsWithin a c
-IsReady sys a Asserted = Unit {0}
+abbrev pub MayGoOnFrom : System → Actor → State → Type 0
+MayGoOnFrom sys a (Between c) = IsWithin a c
+MayGoOnFrom sys a (Telling way n ends ts leaf c) = AreAble sys way ts × IsWithin a c
+MayGoOnFrom sys a (Raising way ceiling ts leaf c) = AreAble sys way ts × IsWithin a c
+MayGoOnFrom sys a (AtPoint ev e ts leaf c) = AreAble sys (Stepping ev e) ts × IsWithin a c
+MayGoOnFrom sys a (InCall way inner rest ts leaf c) = (stage_answer rest.stage ≡ None) × CanGoOn sys a way rest × AreAble sys way ts
+MayGoOnFrom sys a (AtPost way rest ts leaf c) = CanGoOn sys a way rest × AreAble sys way ts
+MayGoOnFrom sys a (Releasing e c) = IsWithin a c
+MayGoOnFrom sys a (Returning p b d c) = IsWithin a c
+MayGoOnFrom sys a Asserted = Unit {0}

@@ -12,7 +12,7 @@ use Rattle.qp_check_calls.specs.declared.pieces.Piece.{Piece}
 use Rattle.qp_check_calls.specs.declared.pieces.Piece.TheVariants.{Tell, Point}
 use Rattle.qp_check_course.specs.Machine.{State}
 use Rattle.qp_check_course.specs.Followable.{with_eight}
-use Rattle.qp_check_course.specs.Ready.{IsReady}
+use Rattle.qp_check_course.specs.Ready.{MayGoOnFrom}
 use Rattle.qp_check_course.specs.FewLeft.{FewLeft}
 
 -- the chart's actions have what they ask for, and make events of at most eight parameters; so many entries can be deferred
@@ -23,7 +23,7 @@ pub record IsAble (sys : System) (a : Actor) : Type 0 where
 
 -- the course can go on from this state, and the tasks left make events of at most eight parameters
 pub record CanRun (sys : System) (a : Actor) (s : State) : Type 0 where
-  pub ready : IsReady sys a s
+  pub ready : MayGoOnFrom sys a s
   pub few : FewLeft s
 
 -- what was found is this state, from which the course can go on; or none

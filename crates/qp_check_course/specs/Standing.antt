@@ -6,7 +6,7 @@ use Rattle.qp_model.specs.declared.systems.System.{System}
 use Rattle.qp_model.specs.declared.systems.ObjectDef.{ObjectDef}
 use Rattle.qp_model.specs.declared.bodies.Entry.{Entry}
 use Rattle.qp_model.specs.Told.{Told}
-use Rattle.qp_model.specs.Pieces.{Piece, bare}
+use Rattle.qp_model.specs.Pieces.{Piece, records_in}
 use Rattle.qp_model.specs.Acts.{Config}
 use Rattle.qp_model.specs.Course.{Course, FollowsTo, Cut, actor, chart_at, first_config}
 use Rattle.qp_model.specs.OutputSummary.{all_done, begins_nothing}
@@ -32,14 +32,14 @@ ShowsLeft (Some c) (Some s) = IsOf c s
 
 -- the records follow the object's chart, with some points between them
 unfoldable pub FollowSomehow : System → ObjectDef → List Told → Type 0
-unfolding FollowsTo bare
-FollowSomehow sys d g = (cut : Cut) × (ps : List Piece) × (bare ps ≡ g) × FollowsTo sys d cut ps
+unfolding FollowsTo records_in
+FollowSomehow sys d g = (cut : Cut) × (ps : List Piece) × (records_in ps ≡ g) × FollowsTo sys d cut ps
 
 -- the course of these records leaves the configuration; where the last release was cut, its rest is added
 unfoldable pub LeavesAt : System → ObjectDef → Chart → List Told → Config → Type 0
-unfolding Course bare
+unfolding Course records_in
 LeavesAt sys d chart g c =
-    (ps back : List Piece) × (es : List Entry) × (bare ps ≡ g) × (begins_nothing back ≡ true)
+    (ps back : List Piece) × (es : List Entry) × (records_in ps ≡ g) × (begins_nothing back ≡ true)
     × Course sys (actor d chart) (first_config d) es (ps ++ back) (Some c)
 
 -- an object stands somewhere exactly where its start and each step that began are done: there its course has come to the standing

@@ -6,12 +6,12 @@ ghost use Rattle.qp_chart.specs.MainState.{exited, entered};
 ghost use Rattle.qp_chart.specs.Task.{exits, entries};
 ghost use Rattle.qp_chart.specs.Drill.{initial, drill};
 ghost use Rattle.qp_chart.specs.Agenda.{crossing, moves, handled, start_plan, step_plan};
-ghost use Rattle.qp_chart_tree.specs.Plans.{Adds};
+ghost use Rattle.qp_chart_tree.specs.Plans.{AddsTasks};
 ghost use Rattle.qp_check_course.specs.AsTask.{as_tasks};
 
 use crate::handler::{Handler, handler_of};
 use crate::state_acts::init_acts;
-use crate::tasks::{Task, push_acts, push_entries, push_exits, push_task};
+use crate::tasks::{CourseTask, push_acts, push_entries, push_exits, push_task};
 use qp_chart::{Chart, Env};
 use qp_chart_tree::{entered, exited, init_of, main_state};
 use std::alloc::{AllocError, Global};
@@ -20,7 +20,7 @@ use std::marker::Model;
 /// All that a step or a start is to do, and the leaf after it.
 #[derive(Drop)]
 pub struct Plan<'a> {
-    pub tasks: Vec<Task<'a>>,
+    pub tasks: Vec<CourseTask<'a>>,
     pub leaf: u8,
 }
 
@@ -43,7 +43,7 @@ fn push_exited<'a>(
     chart: &'a Chart,
     main: Option<u8>,
     s: u8,
-    tasks: &mut Vec<Task<'a>>,
+    tasks: &mut Vec<CourseTask<'a>>,
 ) -> Result<(), AllocError>
     ensures { IfOk result (λ _. as_tasks tasks.new.items ≡ as_tasks tasks.old.items ++ exits chart.now (exited chart.now main s)) }
 {
@@ -57,7 +57,7 @@ fn push_entered<'a>(
     chart: &'a Chart,
     main: Option<u8>,
     t: u8,
-    tasks: &mut Vec<Task<'a>>,
+    tasks: &mut Vec<CourseTask<'a>>,
 ) -> Result<(), AllocError>
     ensures { IfOk result (λ _. as_tasks tasks.new.items ≡ as_tasks tasks.old.items ++ entries chart.now (entered chart.now main t)) }
 {
@@ -72,11 +72,11 @@ fn push_initial<'a>(
     chart: &'a Chart,
     s: u8,
     t: u8,
-    tasks: &mut Vec<Task<'a>>,
+    tasks: &mut Vec<CourseTask<'a>>,
 ) -> Result<(), AllocError>
     ensures { IfOk result (λ _. as_tasks tasks.new.items ≡ as_tasks tasks.old.items ++ initial chart.now s t) }
 {
-    push_task(Task::Init { state: s }, tasks)?;
+    push_task(CourseTask::Init { state: s }, tasks)?;
     push_acts(init_acts(chart, s), tasks)?;
     push_entered(alloc, chart, Some(s), t, tasks)
 }
@@ -86,9 +86,9 @@ fn push_drill<'a>(
     alloc: Global,
     chart: &'a Chart,
     s: u8,
-    tasks: &mut Vec<Task<'a>>,
+    tasks: &mut Vec<CourseTask<'a>>,
 ) -> Result<u8, AllocError>
-    ensures { IfOk result (λ leaf. Adds (drill chart.now s) (as_tasks tasks.old.items) (as_tasks tasks.new.items) leaf) }
+    ensures { IfOk result (λ leaf. AddsTasks (drill chart.now s) (as_tasks tasks.old.items) (as_tasks tasks.new.items) leaf) }
 {
     let mut leaf = s;
     for _ in chart.state() {
@@ -111,7 +111,7 @@ fn push_crossing<'a>(
     main: Option<u8>,
     leaf: u8,
     t: u8,
-    tasks: &mut Vec<Task<'a>>,
+    tasks: &mut Vec<CourseTask<'a>>,
 ) -> Result<(), AllocError>
     ensures { IfOk result (λ _. as_tasks tasks.new.items ≡ as_tasks tasks.old.items ++ crossing chart.now main leaf t) }
 {
@@ -126,9 +126,9 @@ fn push_moves<'a>(
     leaf: u8,
     s: u8,
     to: Option<u8>,
-    tasks: &mut Vec<Task<'a>>,
+    tasks: &mut Vec<CourseTask<'a>>,
 ) -> Result<u8, AllocError>
-    ensures { IfOk result (λ after. Adds (moves chart.now leaf s to) (as_tasks tasks.old.items) (as_tasks tasks.new.items) after) }
+    ensures { IfOk result (λ after. AddsTasks (moves chart.now leaf s to) (as_tasks tasks.old.items) (as_tasks tasks.new.items) after) }
 {
     match to {
         Some(t) => {
@@ -145,13 +145,13 @@ fn push_handled<'a>(
     chart: &'a Chart,
     leaf: u8,
     found: Option<Handler<'a>>,
-    tasks: &mut Vec<Task<'a>>,
+    tasks: &mut Vec<CourseTask<'a>>,
 ) -> Result<u8, AllocError>
-    ensures { IfOk result (λ after. Adds (handled chart.now leaf found.entry) (as_tasks tasks.old.items) (as_tasks tasks.new.items) after) }
+    ensures { IfOk result (λ after. AddsTasks (handled chart.now leaf found.entry) (as_tasks tasks.old.items) (as_tasks tasks.new.items) after) }
 {
     match found {
         Some(h) => {
-            let note = Task::Run {
+            let note = CourseTask::Run {
                 state: h.state,
                 place: h.place,
             };
@@ -160,7 +160,7 @@ fn push_handled<'a>(
             push_moves(alloc, chart, leaf, h.state, h.row.to(), tasks)
         }
         None => {
-            push_task(Task::Unhandled, tasks)?;
+            push_task(CourseTask::Unhandled, tasks)?;
             Ok(leaf)
         }
     }
@@ -173,13 +173,13 @@ fn push_step<'a>(
     leaf: u8,
     env: &Env<'_>,
     sig: u64,
-    tasks: &mut Vec<Task<'a>>,
+    tasks: &mut Vec<CourseTask<'a>>,
 ) -> Result<u8, AllocError>
-    ensures { IfOk result (λ after. Adds (step_plan chart.now leaf (names_in env.now) sig) (as_tasks tasks.old.items) (as_tasks tasks.new.items) after) }
+    ensures { IfOk result (λ after. AddsTasks (step_plan chart.now leaf (names_in env.now) sig) (as_tasks tasks.old.items) (as_tasks tasks.new.items) after) }
 {
     let found = handler_of(chart, env, sig, leaf);
     let after = push_handled(alloc, chart, leaf, found, tasks)?;
-    push_task(Task::Done, tasks)?;
+    push_task(CourseTask::Done, tasks)?;
     Ok(after)
 }
 
@@ -202,15 +202,15 @@ pub fn step_plan<'a>(
 fn push_start<'a>(
     alloc: Global,
     chart: &'a Chart,
-    tasks: &mut Vec<Task<'a>>,
+    tasks: &mut Vec<CourseTask<'a>>,
 ) -> Result<u8, AllocError>
-    ensures { IfOk result (λ leaf. Adds (start_plan chart.now) (as_tasks tasks.old.items) (as_tasks tasks.new.items) leaf) }
+    ensures { IfOk result (λ leaf. AddsTasks (start_plan chart.now) (as_tasks tasks.old.items) (as_tasks tasks.new.items) leaf) }
 {
-    push_task(Task::Begin, tasks)?;
+    push_task(CourseTask::Begin, tasks)?;
     push_acts(chart.init_do(), tasks)?;
     push_entered(alloc, chart, None, chart.init(), tasks)?;
     let leaf = push_drill(alloc, chart, chart.init(), tasks)?;
-    push_task(Task::Done, tasks)?;
+    push_task(CourseTask::Done, tasks)?;
     Ok(leaf)
 }
 

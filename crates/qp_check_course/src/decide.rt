@@ -2,7 +2,7 @@
 
 ghost use Rattle.std.specs.Prelude.{◌≡◌, map, List, Some, None, IfOk, MatchOption};
 ghost use Rattle.std.specs.Option.{option_copied};
-ghost use Rattle.qp_model.specs.Pieces.{bare, ends_at_point};
+ghost use Rattle.qp_model.specs.Pieces.{records_in, ends_at_point};
 ghost use Rattle.qp_model.specs.Pieces as pieces;
 ghost use Rattle.qp_model.specs.Course.{FollowsTo, chart_at, first_config};
 ghost use Rattle.qp_check_calls.specs.AsPiece.{as_piece, as_cut};
@@ -109,7 +109,7 @@ fn piece_asserts(piece: &Piece) -> bool
 }
 
 fn pieces_assert_none(pieces: &[Piece]) -> bool
-    ensures { result ≡ asserts_none (bare (map as_piece pieces.now)) }
+    ensures { result ≡ asserts_none (records_in (map as_piece pieces.now)) }
 {
     pieces.iter().all(|piece| !piece_asserts(piece))
 }
@@ -126,7 +126,7 @@ fn asserts_where_cut(cut: Cut, told: &[Told]) -> bool
 
 /// The same of pieces.
 fn pieces_assert_where_cut(cut: Cut, pieces: &[Piece]) -> bool
-    ensures { result ≡ asserts_where_cut (as_cut cut) (bare (map as_piece pieces.now)) }
+    ensures { result ≡ asserts_where_cut (as_cut cut) (records_in (map as_piece pieces.now)) }
 {
     match cut {
         Cut::Whole => pieces_assert_none(pieces),
@@ -143,7 +143,7 @@ pub fn follows(
     told: &[Told],
 ) -> Result<bool, AllocError>
     requires { IsFollowable sys.now d.now }
-    ensures { IfOk result (λ b. Decides b ((ps : List pieces.Piece) × (bare ps ≡ told.now) × FollowsTo sys.now d.now (as_cut cut) ps)) }
+    ensures { IfOk result (λ b. Decides b ((ps : List pieces.Piece) × (records_in ps ≡ told.now) × FollowsTo sys.now d.now (as_cut cut) ps)) }
 {
     if !asserts_where_cut(cut, told) {
         return Ok(false);

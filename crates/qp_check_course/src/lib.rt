@@ -18,6 +18,6 @@ mod tell;
 
 pub use agenda::{Plan, start_plan, step_plan};
 pub use decide::{chart_at, follows, follows_with_points};
-pub use reading::Reading;
+pub use reading::CourseReading;
 pub use standing::Standing;
-pub use tasks::Task;
+pub use tasks::CourseTask;

@@ -18,12 +18,12 @@ use std::alloc::{AllocError, Global};
 
 /// The course of an object, read record by record.
 #[derive(Drop)]
-pub struct Reading<'a> {
+pub struct CourseReading<'a> {
     pub(crate) who: Actor<'a>,
     pub(crate) state: State<'a>,
 }
 
-impl<'a> Reading<'a> {
+impl<'a> CourseReading<'a> {
     /// The course before its first record. There is none where the object has no chart.
     pub fn begin(alloc: Global, sys: &'a System, d: &ObjectDef) -> Result<Option<Self>, AllocError>
         requires { IsFollowable sys.now d.now }
@@ -32,7 +32,7 @@ impl<'a> Reading<'a> {
         match actor_of(sys, d) {
             Some(who) => {
                 let state = begin(alloc, &who, d)?;
-                Ok(Some(Reading { who, state }))
+                Ok(Some(CourseReading { who, state }))
             }
             None => Ok(None),
         }
@@ -43,11 +43,11 @@ impl<'a> Reading<'a> {
         requires { CanRead self }
         ensures { IfOk result (λ later. ReadsOn self.entry told.now later) }
     {
-        let Reading { who, state } = self;
+        let CourseReading { who, state } = self;
         let here = state.passed(&who);
         let next = here.tell(alloc, &who, told)?;
         match next {
-            Some(state) => Ok(Some(Reading { who, state })),
+            Some(state) => Ok(Some(CourseReading { who, state })),
             None => Ok(None),
         }
     }
@@ -57,7 +57,7 @@ impl<'a> Reading<'a> {
         ensures { (sys : system.System) (d : object.ObjectDef) (all : List telling.Told) → IsFollowable sys d → FollowSomehow sys d all →
             LeavesOf sys d self.entry [] all → StandsAt sys d all result }
     {
-        let Reading { who: _, state } = self;
+        let CourseReading { who: _, state } = self;
         state.standing()
     }
 }

@@ -19,7 +19,7 @@ ghost use Rattle.qp_check_course.specs.AsState.{as_actor, as_way, as_state, conf
 use crate::deeds::{Deed, deed_of};
 use crate::notes::Note;
 use crate::states::{Actor, Left, Own, State, Way};
-use crate::tasks::Task;
+use crate::tasks::CourseTask;
 use qp_chart::{Env, Plain};
 use qp_check_calls::{Answer, Call, CallState, Kept};
 
@@ -220,7 +220,7 @@ fn act<'a>(
 #[tactic(auto, unfolding(crate::specs::Machine::task_state))]
 fn begin<'a>(
     who: &Actor<'a>,
-    task: Task<'a>,
+    task: CourseTask<'a>,
     way: Way,
     left: Left<'a>,
     own: Own,
@@ -233,40 +233,40 @@ fn begin<'a>(
         (as_task task.entry) }
 {
     match task {
-        Task::Do(plain) => act(who, plain, way, left, own, kept),
-        Task::Raise { ceiling } => State::Raising {
+        CourseTask::Do(plain) => act(who, plain, way, left, own, kept),
+        CourseTask::Raise { ceiling } => State::Raising {
             way,
             ceiling,
             left,
             own,
             kept,
         },
-        Task::Restore => {
+        CourseTask::Restore => {
             let ceiling = own.former;
             telling(Note::Unlock { ceiling }, true, way, left, own, kept)
         }
-        Task::Begin => telling(Note::Begin, false, way, left, own, kept),
-        Task::Run { state, place } => {
+        CourseTask::Begin => telling(Note::Begin, false, way, left, own, kept),
+        CourseTask::Run { state, place } => {
             let note = Note::Run {
                 state: u64::from(state),
                 place: place as u64,
             };
             telling(note, false, way, left, own, kept)
         }
-        Task::Unhandled => telling(Note::Unhandled, false, way, left, own, kept),
-        Task::Exit { state } => {
+        CourseTask::Unhandled => telling(Note::Unhandled, false, way, left, own, kept),
+        CourseTask::Exit { state } => {
             let state = u64::from(state);
             telling(Note::Exit { state }, false, way, left, own, kept)
         }
-        Task::Enter { state } => {
+        CourseTask::Enter { state } => {
             let state = u64::from(state);
             telling(Note::Enter { state }, false, way, left, own, kept)
         }
-        Task::Init { state } => {
+        CourseTask::Init { state } => {
             let state = u64::from(state);
             telling(Note::Init { state }, false, way, left, own, kept)
         }
-        Task::Done => telling(Note::Done, false, way, left, own, kept),
+        CourseTask::Done => telling(Note::Done, false, way, left, own, kept),
     }
 }
 

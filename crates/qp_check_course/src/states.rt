@@ -5,7 +5,7 @@ ghost use Rattle.qp_check_course.specs.Goes.{moment_of};
 ghost use Rattle.qp_check_course.specs.AsState.{as_way};
 
 use crate::notes::Note;
-use crate::tasks::Task;
+use crate::tasks::CourseTask;
 use qp_chart::Chart;
 use qp_check_calls::{CallState, Kept};
 use qp_model::{Entry, Params, System};
@@ -59,7 +59,7 @@ pub(crate) struct Own {
 /// The tasks left of a start or a step, and the leaf after it.
 #[derive(Drop)]
 pub(crate) struct Left<'a> {
-    pub tasks: VecDeque<Task<'a>>,
+    pub tasks: VecDeque<CourseTask<'a>>,
     pub leaf: u8,
 }
 

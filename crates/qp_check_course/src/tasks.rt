@@ -10,7 +10,7 @@ use std::alloc::AllocError;
 
 /// A note, an action, or a mark of `locked`.
 #[derive(Drop)]
-pub enum Task<'a> {
+pub enum CourseTask<'a> {
     Begin,
     Run { state: u8, place: usize },
     /// No state handles the event.
@@ -26,7 +26,10 @@ pub enum Task<'a> {
 }
 
 /// Adds a task.
-pub(crate) fn push_task<'a>(task: Task<'a>, tasks: &mut Vec<Task<'a>>) -> Result<(), AllocError>
+pub(crate) fn push_task<'a>(
+    task: CourseTask<'a>,
+    tasks: &mut Vec<CourseTask<'a>>,
+) -> Result<(), AllocError>
     ensures { IfOk result (λ _. as_tasks tasks.new.items ≡ as_tasks tasks.old.items ++ as_task task.entry ∷ []) }
 {
     tasks.push(task)?;
@@ -34,11 +37,11 @@ pub(crate) fn push_task<'a>(task: Task<'a>, tasks: &mut Vec<Task<'a>>) -> Result
 }
 
 /// Adds the actions within `locked`.
-fn push_plains<'a>(plains: &'a [Plain], tasks: &mut Vec<Task<'a>>) -> Result<(), AllocError>
+fn push_plains<'a>(plains: &'a [Plain], tasks: &mut Vec<CourseTask<'a>>) -> Result<(), AllocError>
     ensures { IfOk result (λ _. as_tasks tasks.new.items ≡ as_tasks tasks.old.items ++ map Do plains.now) }
 {
     for plain in plains {
-        push_task(Task::Do(plain), tasks)?;
+        push_task(CourseTask::Do(plain), tasks)?;
     }
     Ok(())
 }
@@ -47,28 +50,31 @@ fn push_plains<'a>(plains: &'a [Plain], tasks: &mut Vec<Task<'a>>) -> Result<(),
 fn push_locked<'a>(
     ceiling: u8,
     plains: &'a [Plain],
-    tasks: &mut Vec<Task<'a>>,
+    tasks: &mut Vec<CourseTask<'a>>,
 ) -> Result<(), AllocError>
     ensures { IfOk result (λ _. as_tasks tasks.new.items ≡ as_tasks tasks.old.items ++ Raise ceiling ∷ map Do plains.now ++ Restore ∷ []) }
 {
-    push_task(Task::Raise { ceiling }, tasks)?;
+    push_task(CourseTask::Raise { ceiling }, tasks)?;
     push_plains(plains, tasks)?;
-    push_task(Task::Restore, tasks)
+    push_task(CourseTask::Restore, tasks)
 }
 
 /// Adds the tasks of an action.
 #[tactic(auto, unfolding(qp_chart::specs::Task::act_tasks))]
-fn push_act<'a>(act: &'a Act, tasks: &mut Vec<Task<'a>>) -> Result<(), AllocError>
+fn push_act<'a>(act: &'a Act, tasks: &mut Vec<CourseTask<'a>>) -> Result<(), AllocError>
     ensures { IfOk result (λ _. as_tasks tasks.new.items ≡ as_tasks tasks.old.items ++ act_tasks act.now) }
 {
     match act {
-        Act::Plain(plain) => push_task(Task::Do(plain), tasks),
+        Act::Plain(plain) => push_task(CourseTask::Do(plain), tasks),
         Act::Locked { ceiling, acts } => push_locked(*ceiling, acts.items.as_slice(), tasks),
     }
 }
 
 /// Adds the tasks of some actions, in order.
-pub(crate) fn push_acts<'a>(acts: &'a [Act], tasks: &mut Vec<Task<'a>>) -> Result<(), AllocError>
+pub(crate) fn push_acts<'a>(
+    acts: &'a [Act],
+    tasks: &mut Vec<CourseTask<'a>>,
+) -> Result<(), AllocError>
     ensures { IfOk result (λ _. as_tasks tasks.new.items ≡ as_tasks tasks.old.items ++ tasks_of acts.now) }
 {
     for act in acts {
@@ -81,12 +87,12 @@ pub(crate) fn push_acts<'a>(acts: &'a [Act], tasks: &mut Vec<Task<'a>>) -> Resul
 pub(crate) fn push_exits<'a>(
     chart: &'a Chart,
     path: &[u8],
-    tasks: &mut Vec<Task<'a>>,
+    tasks: &mut Vec<CourseTask<'a>>,
 ) -> Result<(), AllocError>
     ensures { IfOk result (λ _. as_tasks tasks.new.items ≡ as_tasks tasks.old.items ++ exits chart.now path.now) }
 {
     for s in path {
-        push_task(Task::Exit { state: *s }, tasks)?;
+        push_task(CourseTask::Exit { state: *s }, tasks)?;
         push_acts(exit_acts(chart, *s), tasks)?;
     }
     Ok(())
@@ -96,12 +102,12 @@ pub(crate) fn push_exits<'a>(
 pub(crate) fn push_entries<'a>(
     chart: &'a Chart,
     path: &[u8],
-    tasks: &mut Vec<Task<'a>>,
+    tasks: &mut Vec<CourseTask<'a>>,
 ) -> Result<(), AllocError>
     ensures { IfOk result (λ _. as_tasks tasks.new.items ≡ as_tasks tasks.old.items ++ entries chart.now path.now) }
 {
     for s in path {
-        push_task(Task::Enter { state: *s }, tasks)?;
+        push_task(CourseTask::Enter { state: *s }, tasks)?;
         push_acts(entry_acts(chart, *s), tasks)?;
     }
     Ok(())

@@ -6,7 +6,7 @@ ghost use Rattle.qp_model.specs.Able.{chart_able};
 ghost use Rattle.qp_model.specs.Groups.{is_post};
 ghost use Rattle.qp_check_calls.specs.CallStateNext.{call_state_next};
 ghost use Rattle.qp_check_course.specs.Goes.{moment_of};
-ghost use Rattle.qp_check_course.specs.Note.{raised_from, taken_by, dropped_by};
+ghost use Rattle.qp_check_course.specs.Note.{raised_from, entry_and_event_taken, dropped_by};
 ghost use Rattle.qp_check_course.specs.Machine.{Between, settle, noted, posted, step_state, left_over, tell_next, point_next};
 ghost use Rattle.qp_check_course.specs.Followable.{with_eight};
 ghost use Rattle.qp_check_course.specs.Ready.{CanGoOn};
@@ -58,7 +58,7 @@ fn begin_step<'a>(
 }
 
 /// An entry is taken.
-#[tactic(auto, unfolding(crate::specs::Note::taken_by))]
+#[tactic(auto, unfolding(crate::specs::Note::entry_and_event_taken))]
 fn took<'a>(
     alloc: Global,
     who: &Actor<'a>,
@@ -68,7 +68,7 @@ fn took<'a>(
 ) -> Result<Option<State<'a>>, AllocError>
     requires { chart_able with_eight who.now.chart.now ≡ true }
     ensures { IfOk result (λ later. option_map as_state later ≡ option_map (λ x. step_state (as_actor who.now) x.0 x.1 (config_of own kept))
-        (taken_by told.now.body told.now.known)) }
+        (entry_and_event_taken told.now.body told.now.known)) }
 {
     match (&told.body, &told.known) {
         (Body::Took { entry, .. }, Known::OfEvent { sig, pars }) => {

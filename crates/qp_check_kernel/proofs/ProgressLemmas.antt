@@ -11,7 +11,7 @@ use Rattle.qp_model.specs.declared.stimulus.Stim.{Stim}
 use Rattle.qp_model.specs.declared.systems.System.{System}
 use Rattle.qp_model.specs.Record.{Item}
 use Rattle.qp_model.specs.Ends.{is_spill}
-use Rattle.qp_model.specs.OneOrder.{Placed, Turn, OneThread, stim_of, look_of, is_stim, is_turn, no_look, begun, acted_last, all_empty, left_after, may_act, turned, acts_next, enters, leaves, belongs, part_of_look, parts_of_look, turns_at, look_right, looks_right}
+use Rattle.qp_model.specs.OneOrder.{Placed, Turn, OneThread, stim_of, look_of, is_stim, is_turn, no_look, begun, acted_last, all_empty, stimuli_after, may_act, turned, acts_next, enters, leaves, belongs, part_of_look, parts_of_look, turns_at, look_right, looks_right}
 use Rattle.qp_check_kernel.specs.declared.stimulus_index.Placed as code
 use Rattle.qp_check_kernel.specs.declared.source_turn.Progress.{Progress}
 use Rattle.qp_check_kernel.specs.declared.order_turns.Run.{Run}
@@ -61,7 +61,7 @@ next_from at_base sys stimuli b e l last =
 -- the stimulus that acts
 pub next-is : (p : Progress) (before : List Placed) → IsProgress p before → (sys : System) (stimuli : List (List Stim)) (at_base : Bool)
     → next_turn p sys stimuli at_base ≡ acts_next sys stimuli before at_base
-unfolding acts_next all_empty left_after next_from
+unfolding acts_next all_empty stimuli_after next_from
 next-is p before h sys stimuli at_base =
     let f = next_from at_base sys stimuli in
     let came : ℕ → ℕ = λ o. count_by (λ x. enters o x.item) before in
@@ -71,7 +71,7 @@ next-is p before h sys stimuli at_base =
     ∙ ap (λ l. f (begun before) came l p.last) (fun_ext h.left)
     ∙ ap (f (begun before) came went) h.last
     ∙ ap (λ l. option_map (turn_of (begun before)) (first_acting (at_base && all_empty sys before) (turned (acted_last 0 before) l))) (left-is before 1 stimuli)
-    ∙ turn-is before (find (λ x. may_act (at_base && all_empty sys before) x.1) (turned (acted_last 0 before) (left_after before stimuli)))
+    ∙ turn-is before (find (λ x. may_act (at_base && all_empty sys before) x.1) (turned (acted_last 0 before) (stimuli_after before stimuli)))
 
 -- the stimuli of a look
 abbrev turn_by : ℕ → ℕ × ℕ → Turn

@@ -11,7 +11,7 @@ use Rattle.qp_check_kernel.specs.declared.lane_roles.Role.{Role}
 use Rattle.qp_check_kernel.specs.declared.lane_roles.Role.TheVariants as role
 use Rattle.qp_check_kernel.specs.declared.lane_state.Upcoming.{Upcoming}
 use Rattle.qp_check_kernel.specs.declared.lane_state.Upcoming.TheVariants as place
-use Rattle.qp_check_kernel.specs.declared.lane_state.Reading.{Reading}
+use Rattle.qp_check_kernel.specs.declared.lane_state.LaneReading.{LaneReading}
 use Rattle.qp_check_kernel.specs.declared.lane_state.Rules.{Rules}
 
 -- what a record is to the kernel lane
@@ -48,7 +48,7 @@ as_place place.Over = lane.Over
 as_place place.Halted = lane.Halted
 
 -- how far lane 0 has been read
-abbrev pub as_reading : Reading → lane.Reading
+abbrev pub as_reading : LaneReading → lane.Reading
 as_reading k = record {
   unstarted = map (λ d. d.priority) k.unstarted.now;
   running = k.running;

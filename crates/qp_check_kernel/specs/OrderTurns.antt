@@ -8,7 +8,7 @@ use Rattle.qp_model.specs.OneOrder.{Placed, OneThread, stim_of, is_turn, no_look
 use Rattle.qp_model.specs.OneOrder as order
 use Rattle.qp_check_kernel.specs.declared.order_turns.InLook.{InLook}
 use Rattle.qp_check_kernel.specs.declared.order_turns.InLook.TheVariants.{Nothing, Once, Often}
-use Rattle.qp_check_kernel.specs.declared.source_turn.Turn.{Turn}
+use Rattle.qp_check_kernel.specs.declared.source_turn.StimulusPlace.{StimulusPlace}
 use Rattle.qp_check_kernel.specs.declared.source_turn.Progress.{Progress}
 use Rattle.qp_check_kernel.specs.declared.order_turns.Run.{Run}
 use Rattle.qp_check_kernel.specs.StimulusIndex.{parts_at}
@@ -22,7 +22,7 @@ abbrev pub turns_in : List Placed → List order.Turn
 turns_in xs = filter_map turn_in xs
 
 -- with one stimulus more
-abbrev pub turns_on : InLook → Option Turn → InLook
+abbrev pub turns_on : InLook → Option StimulusPlace → InLook
 turns_on found None = found
 turns_on Nothing (Some t) = Once t
 turns_on (Once s) (Some t) = Often

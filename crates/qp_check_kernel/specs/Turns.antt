@@ -7,11 +7,11 @@ use Rattle.qp_model.specs.declared.stimulus.Stim.{Stim}
 use Rattle.qp_model.specs.declared.systems.System.{System}
 use Rattle.qp_model.specs.OneOrder.{may_act, turned, begun, acted_last, enters, leaves}
 use Rattle.qp_model.specs.OneOrder as order
-use Rattle.qp_check_kernel.specs.declared.source_turn.Turn.{Turn}
+use Rattle.qp_check_kernel.specs.declared.source_turn.StimulusPlace.{StimulusPlace}
 use Rattle.qp_check_kernel.specs.declared.source_turn.Progress.{Progress}
 use Rattle.qp_check_lanes.specs.WordTotals.{count_in}
 
-abbrev pub as_turn : Turn → order.Turn
+abbrev pub as_turn : StimulusPlace → order.Turn
 as_turn t = record { source = t.source; place = t.place }
 
 -- what each of these sources has left, the first of which has number k

@@ -6,12 +6,12 @@ ghost use Rattle.std.specs.Option.{option_map};
 ghost use Rattle.qp_model.specs.Ends.{may_cut, is_assert};
 ghost use Rattle.qp_model.specs.History.{lane_items, all_items};
 ghost use Rattle.qp_model.specs.Home.{lane_at as lane_of};
-ghost use Rattle.qp_model.specs.KernelLane.{lane_read, is_whole, is_over as over};
+ghost use Rattle.qp_model.specs.KernelLane.{lane_read, is_whole_reading, is_over as over};
 ghost use Rattle.qp_model.specs.Kernels.{sim, qk, qv};
 ghost use Rattle.qp_model.specs.Lawful.{is_settle, reading_holds, setting_of};
 ghost use Rattle.qp_check_kernel.specs.LaneState.{as_place, as_reading, as_setting};
 
-use crate::lane_state::{Reading, Rules, Upcoming};
+use crate::lane_state::{LaneReading, Rules, Upcoming};
 use crate::stimulated::stimulated;
 use qp_check_lanes::lane_parts::{asserts, lane_at, source_lanes, spills_cut};
 use qp_check_lanes::record_tests;
@@ -25,10 +25,10 @@ fn read<'a>(
     alloc: Global,
     rules: &Rules<'a>,
     lane: &[Rec],
-) -> Result<Option<Reading<'a>>, AllocError>
+) -> Result<Option<LaneReading<'a>>, AllocError>
     ensures { IfOk result (λ r. option_map as_reading r ≡ lane_read (as_setting rules.now) (lane_items lane.now)) }
 {
-    let mut reading = Reading::of_none(alloc, rules.sys);
+    let mut reading = LaneReading::of_none(alloc, rules.sys);
     for r in lane {
         if !reading.next(rules, r)? {
             return Ok(None);
@@ -55,9 +55,9 @@ fn settles_in(lane: &[Rec]) -> usize
 }
 
 /// Whether the lane ends as it may: in a run that stopped early all objects have started, unless an assertion ended it; else it is whole.
-fn may_end(j: &Journal, lane: &[Rec], reading: &Reading) -> bool
+fn may_end(j: &Journal, lane: &[Rec], reading: &LaneReading) -> bool
     ensures { result ≡ (if may_cut j.now.end then ((length (as_reading reading.now).unstarted == 0) || list_any (λ i. is_assert i.body)
-        (lane_items lane.now)) else is_whole j.now.kernel (as_reading reading.now)) }
+        (lane_items lane.now)) else is_whole_reading j.now.kernel (as_reading reading.now)) }
 {
     if may_cut(j.end) {
         has_started(reading) || asserts(lane)
@@ -67,14 +67,14 @@ fn may_end(j: &Journal, lane: &[Rec], reading: &Reading) -> bool
 }
 
 /// Whether all objects have started.
-fn has_started(reading: &Reading) -> bool
+fn has_started(reading: &LaneReading) -> bool
     ensures { result ≡ (length (as_reading reading.now).unstarted == 0) }
 {
     reading.unstarted.is_empty()
 }
 
-fn whole(kernel: u8, reading: &Reading) -> bool
-    ensures { result ≡ is_whole kernel (as_reading reading.now) }
+fn whole(kernel: u8, reading: &LaneReading) -> bool
+    ensures { result ≡ is_whole_reading kernel (as_reading reading.now) }
 {
     has_started(reading) && reading.running.is_empty() && is_over(kernel, reading.place)
 }

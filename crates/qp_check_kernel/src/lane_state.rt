@@ -55,7 +55,7 @@ pub enum Upcoming<'a> {
 
 /// How far lane 0 has been read.
 #[derive(Drop)]
-pub struct Reading<'a> {
+pub struct LaneReading<'a> {
     pub unstarted: &'a [ObjectDef],
     pub running: Stack,
     pub ceiling: u64,
@@ -102,7 +102,7 @@ impl<'a> Rules<'a> {
     }
 }
 
-impl<'a> Reading<'a> {
+impl<'a> LaneReading<'a> {
     #[tactic(auto, unfolding(qp_model::specs::KernelLane::floor_in))]
     fn floor(&self, rules: &Rules<'a>) -> u64
         ensures { result ≡ floor_in rules.now.sys.now rules.now.kernel self.now.running self.now.ceiling }
@@ -373,7 +373,7 @@ impl<'a> Reading<'a> {
         ensures exact { as_reading result ≡ unread sys.now }
         ensures none { result.idle ≡ 0 }
     {
-        Reading {
+        LaneReading {
             unstarted: &sys.objects.items,
             running: Stack::new(alloc),
             ceiling: 0,

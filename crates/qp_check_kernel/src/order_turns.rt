@@ -12,7 +12,7 @@ ghost use Rattle.qp_check_kernel.specs.Turns.{as_turn};
 ghost use Rattle.qp_check_lanes.specs.WordTotals.{count_in};
 ghost use Rattle.qp_check_kernel.specs.OrderTurns.{RunsAs, turn_in, turns_in, turns_on, is_right, look_stands};
 
-use crate::source_turn::{Progress, Turn};
+use crate::source_turn::{Progress, StimulusPlace};
 use crate::stimulus_index::{Index, Placed};
 use qp_model::{Body, Rec, Source, System};
 use std::alloc::{AllocError, Global};
@@ -21,17 +21,17 @@ use std::alloc::{AllocError, Global};
 #[derive(Clone, Copy)]
 pub enum InLook {
     Nothing,
-    Once { turn: Turn },
+    Once { turn: StimulusPlace },
     Often,
 }
 
 /// The stimulus that a record begins.
 #[tactic(auto, unfolding(qp_model::specs::Record::item_of))]
-fn turn(x: Placed) -> Option<Turn>
+fn turn(x: Placed) -> Option<StimulusPlace>
     ensures { option_map as_turn result ≡ turn_in (as_placed x.entry) }
 {
     match x.rec.body() {
-        Body::Stim { i, .. } => Some(Turn {
+        Body::Stim { i, .. } => Some(StimulusPlace {
             source: x.lane,
             place: i,
         }),
@@ -41,7 +41,7 @@ fn turn(x: Placed) -> Option<Turn>
 
 impl InLook {
     /// With one stimulus more, if it is one.
-    fn and(self, turn: Option<Turn>) -> Self
+    fn and(self, turn: Option<StimulusPlace>) -> Self
         ensures { result ≡ turns_on self turn }
     {
         match (self, turn) {
@@ -52,7 +52,7 @@ impl InLook {
     }
 
     /// Whether just this stimulus was found, or none where it is none.
-    fn is(self, turn: Option<Turn>) -> bool
+    fn is(self, turn: Option<StimulusPlace>) -> bool
         ensures { result ≡ is_right (option_map as_turn turn) self }
     {
         match (self, turn) {
@@ -77,7 +77,7 @@ impl InLook {
 
 impl<'a> Index<'a> {
     /// Whether just this stimulus stands in a look, or none where it is none.
-    pub fn has(&self, k: u64, turn: Option<Turn>) -> bool
+    pub fn has(&self, k: u64, turn: Option<StimulusPlace>) -> bool
         ensures { result ≡ right (option_map as_turn turn) (turns_in (parts_at self.now k)) }
     {
         match self.parts.get(&k) {

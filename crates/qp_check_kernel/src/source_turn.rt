@@ -11,7 +11,7 @@ ghost use Rattle.qp_check_lanes.specs.WordTotals.{count_in};
 ghost use Rattle.qp_check_kernel.specs.Turns.{as_turn, left_from, first_acting, next_turn};
 
 use crate::stimulus_index::Placed;
-use qp_check_lanes::word_totals::Counts;
+use qp_check_lanes::word_totals::CountsByNumber;
 use qp_model::{Body, Rec, Source, Stim, System};
 use std::alloc::{AllocError, Global};
 
@@ -19,15 +19,15 @@ use std::alloc::{AllocError, Global};
 /// queue and left it.
 #[derive(Drop)]
 pub struct Progress {
-    pub begun: Counts,
+    pub begun: CountsByNumber,
     pub last: usize,
-    pub entered: Counts,
-    pub left: Counts,
+    pub entered: CountsByNumber,
+    pub left: CountsByNumber,
 }
 
 /// A stimulus by its source and its place there, from 1.
 #[derive(Clone, Copy)]
-pub struct Turn {
+pub struct StimulusPlace {
     pub source: usize,
     pub place: u64,
 }
@@ -92,10 +92,10 @@ impl Progress {
         ensures last { result.last ≡ 0 }
     {
         Progress {
-            begun: Counts::none(alloc),
+            begun: CountsByNumber::none(alloc),
             last: 0,
-            entered: Counts::none(alloc),
-            left: Counts::none(alloc),
+            entered: CountsByNumber::none(alloc),
+            left: CountsByNumber::none(alloc),
         }
     }
 
@@ -158,13 +158,13 @@ impl Progress {
     }
 
     /// The stimulus that acts in a look.
-    pub fn next(&self, sys: &System, stimuli: &[Source], at_base: bool) -> Option<Turn>
+    pub fn next(&self, sys: &System, stimuli: &[Source], at_base: bool) -> Option<StimulusPlace>
         requires { (k : ℕ) → count_in self.now.begun k + 1 < 2 ^ 64 }
         ensures { option_map as_turn result ≡ next_turn self.now sys.now stimuli.now at_base }
     {
         let rests = at_base && self.all_empty(sys);
         let source = self.acting(rests, stimuli)?;
-        Some(Turn {
+        Some(StimulusPlace {
             source,
             place: self.begun.at(source as u64) + 1,
         })

@@ -8,23 +8,23 @@ use Rattle.std.proofs.lemmas.List.Folds.{list_any-append}
 use Rattle.qp_model.specs.declared.record.Rec.{Rec}
 use Rattle.qp_model.specs.Record.{item_of}
 use Rattle.qp_model.specs.History.{lane_items}
-use Rattle.qp_model.specs.HomeLane.{all_differ, are_at_home, is_at_home, taken_by}
+use Rattle.qp_model.specs.HomeLane.{all_differ, are_at_home, is_at_home, count_taken}
 use Rattle.qp_model.proofs.NumberLemmas.{eqb-sym}
 use Rattle.qp_check_lanes.specs.Keys.{key_cmp, same_key}
 use Rattle.qp_check_lanes.proofs.KeyLemmas.{same-cmp}
 
 module _ (o budget : ℕ) (cuts : Bool) (n : ℕ) (left : List Rec) where
   pub home-next : (r : Rec) (rest : List Rec) → left ≡ r ∷ rest → (spent cut here : Bool) → spent ≡ (n == budget) → cut ≡ (cuts && (length rest == 0))
-      → here ≡ is_at_home o spent cut (item_of r).of (item_of r).body → (after : ℕ) → after ≡ taken_by n (item_of r).body
+      → here ≡ is_at_home o spent cut (item_of r).of (item_of r).body → (after : ℕ) → after ≡ count_taken n (item_of r).body
       → are_at_home o budget cuts n (lane_items left) ≡ (here && are_at_home o budget cuts after (lane_items rest))
   unfolding are_at_home lane_items
   home-next r rest is spent cut here spent_is cut_is here_is after after_is =
       let long : length (map item_of rest) ≡ length rest = length-map rest item_of in
       ap (λ l. are_at_home o budget cuts n (map item_of l)) is
-      ∙ ap (λ k. is_at_home o (n == budget) (cuts && (k == 0)) (item_of r).of (item_of r).body && are_at_home o budget cuts (taken_by n (item_of r).body) (map item_of rest)) long
-      ∙ ap (λ b. is_at_home o b (cuts && (length rest == 0)) (item_of r).of (item_of r).body && are_at_home o budget cuts (taken_by n (item_of r).body) (map item_of rest)) (sym spent_is)
-      ∙ ap (λ b. is_at_home o spent b (item_of r).of (item_of r).body && are_at_home o budget cuts (taken_by n (item_of r).body) (map item_of rest)) (sym cut_is)
-      ∙ ap (λ b. b && are_at_home o budget cuts (taken_by n (item_of r).body) (map item_of rest)) (sym here_is)
+      ∙ ap (λ k. is_at_home o (n == budget) (cuts && (k == 0)) (item_of r).of (item_of r).body && are_at_home o budget cuts (count_taken n (item_of r).body) (map item_of rest)) long
+      ∙ ap (λ b. is_at_home o b (cuts && (length rest == 0)) (item_of r).of (item_of r).body && are_at_home o budget cuts (count_taken n (item_of r).body) (map item_of rest)) (sym spent_is)
+      ∙ ap (λ b. is_at_home o spent b (item_of r).of (item_of r).body && are_at_home o budget cuts (count_taken n (item_of r).body) (map item_of rest)) (sym cut_is)
+      ∙ ap (λ b. b && are_at_home o budget cuts (count_taken n (item_of r).body) (map item_of rest)) (sym here_is)
       ∙ ap (λ k. here && are_at_home o budget cuts k (map item_of rest)) (sym after_is)
 
   pub home-end : length left ≡ 0 → are_at_home o budget cuts n (lane_items left) ≡ true

@@ -16,7 +16,7 @@ use Rattle.qp_model.specs.FreeBlocks.{free_blocks}
 use Rattle.qp_model.specs.References.{references}
 use Rattle.qp_model.specs.Subscribers.{subscribers}
 use Rattle.qp_model.specs.Sites.{blocks_of}
-use Rattle.qp_model.specs.Knowing.{event_of, life_event, free_before, last_given, left_after, set_at}
+use Rattle.qp_model.specs.Knowing.{event_of_entry, life_event, free_before, last_given, references_after, set_at}
 use Rattle.qp_model.specs.Lawful.{facts_of}
 use Rattle.qp_check_knowledge.specs.KnownTables.{free_counts, left_counts, member_lists, value_at}
 use Rattle.qp_check_knowledge.specs.KnownSteps.{last_from}
@@ -48,8 +48,8 @@ module _ (sys : System) (j : Journal) where
 
   -- the place behind operation d, which may be as large as its type allows
   pub left-at : (xs : List ℕ) (p b d n : ℕ) → n ≡ min (d + 1) 18446744073709551615 → length xs ≤ 18446744073709551615
-      → xs ≡ left_counts (hist (word.Block p b) (all_items j.lanes)) → value_at 0 xs n ≡ left_after (facts_of sys j) p b d
-  unfolding left_after left_counts after facts_of
+      → xs ≡ left_counts (hist (word.Block p b) (all_items j.lanes)) → value_at 0 xs n ≡ references_after (facts_of sys j) p b d
+  unfolding references_after left_counts after facts_of
   left-at xs p b d n at few is =
       let same : min n (length xs - 1) ≡ min (d + 1) (length xs - 1) = omega (arith, at, few) in
       ap (λ k. get_or xs k 0) same ∙ ap (λ l. value_at 0 l (d + 1)) is
@@ -61,9 +61,9 @@ module _ (sys : System) (j : Journal) where
       ap (λ l. value_at [] l n) is ∙ value-at subscribers (λ s. s.members) [] subscribers.first (hist (word.Signal sig) (all_items j.lanes)) n
 
   pub event-in_pool : (e : Entry) → (e.pool == 0) ≡ false
-      → event_of (facts_of sys j) e
+      → event_of_entry (facts_of sys j) e
       ≡ cond (nat_lt e.name (length (hist (word.Block e.pool e.block) (all_items j.lanes)))) (last_given e.block e.name None (hist (word.Pool e.pool) (all_items j.lanes))) None
-  unfolding event_of life_event facts_of
+  unfolding event_of_entry life_event facts_of
   event-in_pool e other = rw other refl
 
   -- the length of a block's history by its table
@@ -74,13 +74,13 @@ module _ (sys : System) (j : Journal) where
       ap length is ∙ length-values references (λ s. length s.names) references.first (hist (word.Block p b) (all_items j.lanes)) in
       omega (arith, long)
 
-  pub event-static : (e : Entry) → (e.pool == 0) ≡ true → event_of (facts_of sys j) e ≡ Some (record { sig = e.block; pars = [] })
-  unfolding event_of facts_of
+  pub event-static : (e : Entry) → (e.pool == 0) ≡ true → event_of_entry (facts_of sys j) e ≡ Some (record { sig = e.block; pars = [] })
+  unfolding event_of_entry facts_of
   event-static e same = rw same refl
 
   -- the event by a block's tables
   pub event-known : (e : Entry) → (e.pool == 0) ≡ false → (t : KnownBlock) → IsKnownBlock (all_items j.lanes) e.pool e.block t
-      → cond (nat_lt e.name (length t.left.items - 1)) (last_from e.name None t.steps) None ≡ event_of (facts_of sys j) e
+      → cond (nat_lt e.name (length t.left.items - 1)) (last_from e.name None t.steps) None ≡ event_of_entry (facts_of sys j) e
   event-known e other t known =
       let pool = hist (word.Pool e.pool) (all_items j.lanes) in
       ap (λ n. cond (nat_lt e.name n) (last_from e.name None t.steps) None) (left-long t.left.items e.pool e.block known.left)

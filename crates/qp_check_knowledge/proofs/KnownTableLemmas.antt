@@ -6,10 +6,10 @@ use Rattle.qp_model.specs.Record.{Item}
 use Rattle.qp_model.specs.Lists.{without_one}
 use Rattle.qp_model.specs.Machine.{Machine, after_from}
 use Rattle.qp_model.specs.References.{Refs, refs_next}
-use Rattle.qp_check_word_states.specs.Standing.{places}
-use Rattle.qp_check_word_states.proofs.StandingLemmas.{places-within_length}
+use Rattle.qp_check_lanes.specs.Standing.{places}
+use Rattle.qp_check_lanes.proofs.StandingLemmas.{places-within_length}
 use Rattle.qp_check_lanes.specs.WordTotals.{count_in}
-use Rattle.qp_check_lanes.specs.declared.word_totals.Counts.{Counts}
+use Rattle.qp_check_lanes.specs.declared.word_totals.CountsByNumber.{CountsByNumber}
 use Rattle.qp_check_knowledge.specs.KnownTables.{IsCounted, value_at, values_from}
 
 module _ {S A : Type 0} (m : Machine S) (f : S → A) where
@@ -102,7 +102,7 @@ length-dropped k (x ∷ xs) = go (x == k) (length-dropped k xs) (places-within x
             let i : length (without_one k xs) ≡ length xs - 0 = h ∙ ap (λ b. length xs - cond b 1 0) e in
             omega (arith, i)
 
-module _ (s : Refs) (counts new : Counts) (total : ℕ) (h : IsCounted s counts total) where
+module _ (s : Refs) (counts new : CountsByNumber) (total : ℕ) (h : IsCounted s counts total) where
   pub counted-each : (q : ℕ) → count_in counts q ≤ total
   counted-each q = omega (arith, h.each q, h.all, places-within_length q s.names)
 

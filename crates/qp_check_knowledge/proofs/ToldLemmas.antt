@@ -12,11 +12,11 @@ use Rattle.qp_model.specs.Ends.{is_spill}
 use Rattle.qp_model.specs.Knowing.{Facts, ceiling_after, records_of, told}
 use Rattle.qp_model.specs.Home.{is_look_at, own_items}
 use Rattle.qp_model.specs.Sources.{source_records}
-use Rattle.qp_check_knowledge.specs.Looks.{counted}
+use Rattle.qp_check_knowledge.specs.Looks.{as_look_of}
 use Rattle.qp_check_lanes.proofs.ItemLemmas.{items-from, items-none}
 
 -- the records of a lane that count as those of o, one after another
-own-next : (looks : Bool) (o : ℕ) (i : Item) (is : List Item) → own_items looks o (i ∷ is) ≡ counted looks o i ∷ own_items looks o is
+own-next : (looks : Bool) (o : ℕ) (i : Item) (is : List Item) → own_items looks o (i ∷ is) ≡ as_look_of looks o i ∷ own_items looks o is
 unfolding own_items
 own-next false o i is = refl
 own-next true o i is = refl
@@ -26,7 +26,7 @@ unfolding own_items
 own-none false o = refl
 own-none true o = refl
 
-counted-body : (looks : Bool) (o : ℕ) (i : Item) → (counted looks o i).body ≡ i.body
+counted-body : (looks : Bool) (o : ℕ) (i : Item) → (as_look_of looks o i).body ≡ i.body
 counted-body false o i = refl
 counted-body true o i = by ((i.of == 0) && is_look_at o i.body)
   where
@@ -55,10 +55,10 @@ module _ (w : Facts) (o : ℕ) where
 
   module _ (looks : Bool) (ceiling : ℕ) (lane : List Rec) (i : ℕ) (now all : List Told) (before : now ++ records_of w o ceiling (own_items looks o (lane_items (drop i lane))) ≡ all) where
     pub told-step : (r : Rec) → i < length lane → r ≡ get_or lane i r → (new : List Told) (after : ℕ)
-        → new ≡ now ++ cond ((counted looks o (item_of r)).of == o) (told w o ceiling (item_of r).body ∷ []) []
+        → new ≡ now ++ cond ((as_look_of looks o (item_of r)).of == o) (told w o ceiling (item_of r).body ∷ []) []
         → after ≡ ceiling_after ceiling (item_of r).body → new ++ records_of w o after (own_items looks o (lane_items (drop (i + 1) lane))) ≡ all
     told-step r inside is new after put next =
-        let mine = counted looks o (item_of r) in
+        let mine = as_look_of looks o (item_of r) in
         let left = own_items looks o (lane_items (drop (i + 1) lane)) in
         let same : mine.body ≡ (item_of r).body = counted-body looks o (item_of r) in
         let rest = records_of w o (ceiling_after ceiling mine.body) left in

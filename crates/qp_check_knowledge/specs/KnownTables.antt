@@ -5,9 +5,9 @@ use Rattle.qp_model.specs.Machine.{Machine}
 use Rattle.qp_model.specs.FreeBlocks.{free_blocks}
 use Rattle.qp_model.specs.References.{Refs, references}
 use Rattle.qp_model.specs.Subscribers.{subscribers}
-use Rattle.qp_check_word_states.specs.Standing.{places}
+use Rattle.qp_check_lanes.specs.Standing.{places}
 use Rattle.qp_check_lanes.specs.WordTotals.{count_in}
-use Rattle.qp_check_lanes.specs.declared.word_totals.Counts.{Counts}
+use Rattle.qp_check_lanes.specs.declared.word_totals.CountsByNumber.{CountsByNumber}
 
 -- a value of what the word holds, before each operation and after the last
 unfoldable pub values_from : {S A : Type 0} → Machine S → (S → A) → S → List Item → List A
@@ -31,6 +31,6 @@ abbrev pub value_at : {A : Type 0} → A → List A → ℕ → A
 value_at d xs n = get_or xs (min n (length xs - 1)) d
 
 -- the references that stand, counted
-pub record IsCounted (s : Refs) (counts : Counts) (total : ℕ) : Type 0 where
+pub record IsCounted (s : Refs) (counts : CountsByNumber) (total : ℕ) : Type 0 where
   pub each : (k : ℕ) → count_in counts k ≡ places k s.names
   pub all : total ≡ length s.names

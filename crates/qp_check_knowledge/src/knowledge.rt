@@ -2,7 +2,7 @@
 
 ghost use Rattle.std.specs.Prelude.{◌≡◌, [], IfOk, OnOk};
 ghost use Rattle.qp_chart.specs.StateTree.{has};
-ghost use Rattle.qp_model.specs.Knowing.{event_known, event_of, free_before, known_of, left_after, set_at};
+ghost use Rattle.qp_model.specs.Knowing.{event_known, event_of_entry, free_before, known_of, references_after, set_at};
 ghost use Rattle.qp_check_calls.specs.AsKnown.{as_known};
 ghost use Rattle.qp_check_knowledge.specs.KnownTables.{value_at};
 
@@ -13,9 +13,9 @@ use crate::known_words::{
 };
 use arrayvec::ArrayVec;
 use qp_check_calls::Known;
-use qp_check_histories::records_by_word::RecordsByWord;
-use qp_check_word_states::numbers::has;
-use qp_check_word_states::signals::Subscribed;
+use qp_check_lanes::numbers::has;
+use qp_check_lanes::signals::Subscribed;
+use qp_check_words::records_by_word::RecordsByWord;
 use qp_model::{Body, Entry, Journal, Lane, Named, Params, Rec, System, Touched, kinds};
 use std::alloc::{AllocError, Global};
 use std::collections::BTreeMap;
@@ -171,7 +171,7 @@ impl<'a, 'r> Knowledge<'a, 'r> {
 
     fn left_after(&self, alloc: Global, p: u64, b: u64, d: u64) -> Result<u64, AllocError>
         requires { IsKnown self.now }
-        ensures { IfOk result (λ k. k ≡ left_after (facts_in self.now) p b d) }
+        ensures { IfOk result (λ k. k ≡ references_after (facts_in self.now) p b d) }
     {
         let n = (d as usize).saturating_add(1);
         match self.blocks.get(&(p, b, 0)) {
@@ -198,7 +198,7 @@ impl<'a, 'r> Knowledge<'a, 'r> {
 
     fn event_of(&self, alloc: Global, e: Entry) -> Result<Known, AllocError>
         requires { IsKnown self.now }
-        ensures { IfOk result (λ k. as_known k ≡ event_known (event_of (facts_in self.now) e)) }
+        ensures { IfOk result (λ k. as_known k ≡ event_known (event_of_entry (facts_in self.now) e)) }
     {
         if e.pool == 0 {
             return Ok(Known::OfEvent {

@@ -6,10 +6,10 @@ ghost use Rattle.qp_check_knowledge.specs.KnownTables.{IsCounted, free_counts, l
 ghost use Rattle.qp_check_lanes.specs.WordTotals.{count_in};
 
 use qp_check_lanes::groups::Group;
-use qp_check_lanes::word_totals::Counts;
-use qp_check_word_states::pools::FreeBlocks;
-use qp_check_word_states::signals::{Members, Subscribed};
-use qp_check_word_states::word_state::WordState;
+use qp_check_lanes::pools::FreeBlocks;
+use qp_check_lanes::signals::{Members, Subscribed};
+use qp_check_lanes::word_state::WordState;
+use qp_check_lanes::word_totals::CountsByNumber;
 use qp_model::Body;
 use std::alloc::{AllocError, Global};
 
@@ -42,7 +42,7 @@ pub fn free_counts(alloc: Global, blocks: u8, history: &Group) -> Result<Vec<u64
 /// The references to a block that stand, by the operations that made them.
 #[derive(Drop)]
 struct Standing {
-    counts: Counts,
+    counts: CountsByNumber,
     total: u64,
 }
 
@@ -51,7 +51,7 @@ impl Standing {
         ensures { IsCounted references.first result.counts result.total }
     {
         Standing {
-            counts: Counts::none(alloc),
+            counts: CountsByNumber::none(alloc),
             total: 0,
         }
     }

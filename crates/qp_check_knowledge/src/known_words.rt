@@ -12,10 +12,10 @@ ghost use Rattle.qp_check_lanes.specs.Groups.{of_key};
 
 use crate::known_steps::steps_of;
 use crate::known_tables::{free_counts, left_counts, member_lists};
-use qp_check_histories::records_by_word::RecordsByWord;
 use qp_check_lanes::given_blocks::GivenBlocks;
 use qp_check_lanes::groups::Group;
-use qp_check_word_states::signals::Subscribed;
+use qp_check_lanes::signals::Subscribed;
+use qp_check_words::records_by_word::RecordsByWord;
 use qp_model::{Named, System};
 use std::alloc::{AllocError, Global};
 use std::marker::Model;

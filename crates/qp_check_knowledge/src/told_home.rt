@@ -3,7 +3,7 @@
 ghost use Rattle.std.specs.Prelude.{◌≡◌, ◌+◌, ◌^◌, ◌<◌, ◌≤◌, ◌==◌, ◌&&◌, length, IfOk};
 ghost use Rattle.std.specs.List.{filter_map};
 ghost use Rattle.qp_model.specs.History.{lane_items};
-ghost use Rattle.qp_model.specs.HomeLane.{all_differ, are_at_home, is_at_home, is_home_lane, nil_counts, seen_counts, taken_by};
+ghost use Rattle.qp_model.specs.HomeLane.{all_differ, are_at_home, is_at_home, is_home_lane, nil_counts, seen_counts, count_taken};
 ghost use Rattle.qp_model.specs.Record.{item_of};
 ghost use Rattle.qp_check_knowledge.specs.HomeCounts.{counts_by};
 
@@ -30,7 +30,7 @@ fn is_at_home(o: u8, spent: bool, cut: bool, r: &Rec) -> bool
 #[tactic(auto, unfolding(qp_model::specs::Record::item_of))]
 fn taken_by(taken: usize, length: usize, r: &Rec) -> usize
     requires { taken < length }
-    ensures exact { result ≡ taken_by taken (item_of r.now).body }
+    ensures exact { result ≡ count_taken taken (item_of r.now).body }
     ensures few { result ≤ taken + 1 }
 {
     match r.body() {

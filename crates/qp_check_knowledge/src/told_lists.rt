@@ -9,7 +9,7 @@ ghost use Rattle.qp_model.specs.Lawful.{dispatched, facts_of};
 ghost use Rattle.qp_model.specs.Record.{item_of};
 ghost use Rattle.qp_model.specs.Sources.{source_records};
 ghost use Rattle.qp_check_knowledge.specs.Knowledge.{IsKnown, facts_in};
-ghost use Rattle.qp_check_knowledge.specs.Looks.{counted};
+ghost use Rattle.qp_check_knowledge.specs.Looks.{as_look_of};
 
 use crate::knowledge::Knowledge;
 use qp_check_calls::Told;
@@ -31,7 +31,7 @@ fn is_look_at(o: u8, body: &Body) -> bool
 /// Whether a record counts as one of `o`: its own, and where looks count, a look at its queue without an object.
 #[tactic(auto, unfolding(qp_model::specs::Record::item_of))]
 fn counts_for(o: u8, looks: bool, r: &Rec) -> bool
-    ensures { result ≡ ((counted looks o (item_of r.now)).of == o) }
+    ensures { result ≡ ((as_look_of looks o (item_of r.now)).of == o) }
 {
     r.of == o || looks && r.of == 0 && is_look_at(o, &r.body())
 }
@@ -64,7 +64,7 @@ fn put_own(
     r: &Rec,
 ) -> Result<(), AllocError>
     requires { IsKnown knowledge.now }
-    ensures { OnOk result (all.new.items ≡ all.old.items ++ (if (counted looks o (item_of r.now)).of == o then told (facts_in knowledge.now)
+    ensures { OnOk result (all.new.items ≡ all.old.items ++ (if (as_look_of looks o (item_of r.now)).of == o then told (facts_in knowledge.now)
         o ceiling (item_of r.now).body ∷ [] else [])) }
 {
     if !counts_for(o, looks, r) {

@@ -7,7 +7,7 @@ use Rattle.qp_model.specs.declared.record.Rec.{Rec}
 use Rattle.qp_model.specs.Record.{Item, item_of}
 use Rattle.qp_model.specs.History.{lane_items}
 use Rattle.qp_model.specs.Ends.{is_end, is_spent, ends_last}
-use Rattle.qp_model.specs.End.{spill_states, spills_state, shown_entry, is_object, spents_follow}
+use Rattle.qp_model.specs.End.{spill_states, spills_state, shown_entry, is_its_object, spents_follow}
 use Rattle.qp_check_lanes.proofs.ItemLemmas.{items-from, items-none}
 
 -- nothing follows an end where no record but the last is one
@@ -32,7 +32,7 @@ module _ (lane : List Rec) (i : ℕ) (r : Rec) (inside : i < length lane) (is : 
   spills_state-one n = ap (spills_state n) (items-from lane i r inside is)
 
   pub spents_follow-one : (shown : Option ℕ) → spents_follow shown (lane_items (drop i lane))
-      ≡ ((not (is_spent (item_of r).body) || is_object (item_of r).of shown) && spents_follow (shown_entry (item_of r)) (lane_items (drop (i + 1) lane)))
+      ≡ ((not (is_spent (item_of r).body) || is_its_object (item_of r).of shown) && spents_follow (shown_entry (item_of r)) (lane_items (drop (i + 1) lane)))
   unfolding spents_follow
   spents_follow-one shown = ap (spents_follow shown) (items-from lane i r inside is)
 

@@ -4,7 +4,7 @@ use Rattle.std.specs.declared.option.Option.{Option}
 use Rattle.std.specs.List.{filter}
 use Rattle.std.proofs.lemmas.Bool.Decides.{nat_tests}
 use Rattle.qp_model.specs.Record.{Item}
-use Rattle.qp_check_lanes.specs.Groups.{has_key, of_key, grouped_from, grouped, empty_groups, put_at, joined}
+use Rattle.qp_check_lanes.specs.Groups.{has_key, of_key, grouped_from, grouped, empty_groups, put_at, groups_joined}
 
 pub empty_groups-more : (n : ℕ) → empty_groups n ++ [] ∷ [] ≡ empty_groups (n + 1)
 unfolding empty_groups
@@ -80,9 +80,9 @@ module _ (key : Item → Option ℕ) (xs : List Item) (i : Item) where
   grouped-put size k is = put_from 0 size k (is ∙ ap Some (omega arith))
 
 -- one group more
-pub joined-append : (gs : List (List Item)) (g : List Item) → joined (gs ++ g ∷ []) ≡ joined gs ++ g
+pub joined-append : (gs : List (List Item)) (g : List Item) → groups_joined (gs ++ g ∷ []) ≡ groups_joined gs ++ g
 joined-append [] g = append-nil g
-joined-append (h ∷ hs) g = ap (λ xs. h ++ xs) (joined-append hs g) ∙ sym (append_assoc h (joined hs) g)
+joined-append (h ∷ hs) g = ap (λ xs. h ++ xs) (joined-append hs g) ∙ sym (append_assoc h (groups_joined hs) g)
 
 length_from : (key : Item → Option ℕ) (k n : ℕ) (xs : List Item) → length (grouped_from key k n xs) ≡ n
 unfolding grouped_from

@@ -7,3 +7,8 @@ pub mod LaneLemmas
 pub mod ShortListLemmas
 pub mod SpillLemmas
 pub mod WalkLemmas
+pub mod BitLemmas
+pub mod BlockLifeLemmas
+pub mod FreeSetLemmas
+pub mod WordStateLemmas
+pub mod StandingLemmas

@@ -36,6 +36,6 @@ put_at zero i (g ∷ gs) = (g ++ i ∷ []) ∷ gs
 put_at (suc k) i (g ∷ gs) = g ∷ put_at k i gs
 
 -- the groups one after another
-abbrev pub joined : List (List Item) → List Item
-joined [] = []
-joined (g ∷ gs) = g ++ joined gs
+abbrev pub groups_joined : List (List Item) → List Item
+groups_joined [] = []
+groups_joined (g ∷ gs) = g ++ groups_joined gs

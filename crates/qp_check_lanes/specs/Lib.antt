@@ -5,3 +5,6 @@ pub mod Keys
 pub mod Options
 pub mod Rows
 pub mod WordTotals
+pub mod BlockLives
+pub mod WordState
+pub mod Standing

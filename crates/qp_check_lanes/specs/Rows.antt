@@ -4,8 +4,8 @@ use Rattle.std.specs.Option.{unwrap_or}
 use Rattle.std.specs.BTreeMap.{get}
 use Rattle.qp_model.specs.Record.{Item}
 use Rattle.qp_check_lanes.specs.Keys.{key_cmp}
-use Rattle.qp_check_lanes.specs.declared.rows.Rows.{Rows}
+use Rattle.qp_check_lanes.specs.declared.rows.KeyedRecords.{KeyedRecords}
 
 -- the records of a key
-abbrev pub row_at : Rows → ℕ × ℕ × ℕ → List Item
-row_at x k = unwrap_or (get key_cmp x.rows k) []
+abbrev pub records_of_key : KeyedRecords → ℕ × ℕ × ℕ → List Item
+records_of_key x k = unwrap_or (get key_cmp x.rows k) []

@@ -6,10 +6,10 @@ use Rattle.std.specs.Ordering.{nat_cmp}
 use Rattle.qp_model.specs.declared.words.Word.{Word}
 use Rattle.qp_model.specs.declared.words.Word.TheVariants as word
 use Rattle.qp_model.specs.History.{Touch, Draws, Shows, Neither, drawn_on}
-use Rattle.qp_check_lanes.specs.declared.word_totals.Counts.{Counts}
+use Rattle.qp_check_lanes.specs.declared.word_totals.CountsByNumber.{CountsByNumber}
 use Rattle.qp_check_lanes.specs.declared.word_totals.Totals.{Totals}
 
-abbrev pub count_in : Counts → ℕ → ℕ
+abbrev pub count_in : CountsByNumber → ℕ → ℕ
 count_in c k = unwrap_or (get nat_cmp c.counts k) 0
 
 abbrev pub count_at : Totals → Word → ℕ

@@ -17,11 +17,11 @@ use std::marker::Model;
 
 /// The deferred entries of an object. Contracts see the list, the oldest first.
 #[derive(Drop)]
-pub struct Deferred {
+pub struct DeferredList {
     pub items: VecDeque<Entry>,
 }
 
-impl Model for Deferred {
+impl Model for DeferredList {
     ghost use Rattle.std.specs.Prelude.{List};
     ghost use Rattle.qp_model.specs.declared.bodies.Entry.{Entry};
 
@@ -30,11 +30,11 @@ impl Model for Deferred {
     ghost view = { λ b. b.items.items };
 }
 
-impl Deferred {
+impl DeferredList {
     fn none(alloc: Global) -> Self
         ensures { result ≡ [] }
     {
-        Deferred {
+        DeferredList {
             items: VecDeque::new(alloc),
         }
     }
@@ -99,10 +99,15 @@ impl Deferred {
 }
 
 /// The deferred list of an object after these records; `None` where one of them can't stand.
-pub fn kept(alloc: Global, room: u8, o: u8, lane: &[Rec]) -> Result<Option<Deferred>, AllocError>
+pub fn kept(
+    alloc: Global,
+    room: u8,
+    o: u8,
+    lane: &[Rec],
+) -> Result<Option<DeferredList>, AllocError>
     ensures { IfOk result (λ k. (w : Facts) → k ≡ kept_after room [] (records_of w o 0 (lane_items lane.now))) }
 {
-    let mut kept = Deferred::none(alloc);
+    let mut kept = DeferredList::none(alloc);
     for r in lane {
         if !kept.keep_own(room, o, r)? {
             return Ok(None);

@@ -6,13 +6,13 @@ ghost use Rattle.qp_model.specs.Deferral.{kept_after};
 ghost use Rattle.qp_model.specs.Home.{by_object};
 ghost use Rattle.qp_model.specs.Lawful.{deferred_of, facts_of};
 
-use crate::deferral::{Deferred, kept};
+use crate::deferral::{DeferredList, kept};
 use crate::lane_parts::{home_lane, lane_at};
 use qp_model::{Entry, Journal, ObjectDef, System};
 use std::alloc::{AllocError, Global};
 
 /// Puts the entries of a list, if there is one, behind others.
-fn put_all(all: &mut Vec<Entry>, list: Option<Deferred>) -> Result<(), AllocError>
+fn put_all(all: &mut Vec<Entry>, list: Option<DeferredList>) -> Result<(), AllocError>
     ensures { OnOk result (all.new.items ≡ all.old.items ++ unwrap_or list []) }
 {
     let Some(list) = list else { return Ok(()) };
@@ -30,7 +30,7 @@ fn deferred_by(
     sys: &System,
     j: &Journal,
     d: &ObjectDef,
-) -> Result<Option<Deferred>, AllocError>
+) -> Result<Option<DeferredList>, AllocError>
     ensures { IfOk result (λ k. k ≡ kept_after d.now.defer [] (by_object (facts_of sys.now j.now) j.now d.now.priority)) }
 {
     let home = home_lane(sys, j, d.priority);

@@ -4,10 +4,10 @@ ghost use Rattle.std.specs.Prelude.{◌≡◌, ℕ, IfOk};
 ghost use Rattle.qp_model.specs.Record.{item_of};
 ghost use Rattle.qp_check_lanes.specs.GivenBlocks.{block_key};
 ghost use Rattle.qp_check_lanes.specs.Groups.{of_key};
-ghost use Rattle.qp_check_lanes.specs.Rows.{row_at};
+ghost use Rattle.qp_check_lanes.specs.Rows.{records_of_key};
 
 use crate::groups::Group;
-use crate::rows::Rows;
+use crate::rows::KeyedRecords;
 use qp_model::{Body, Rec};
 use std::alloc::{AllocError, Global};
 use std::marker::Model;
@@ -16,7 +16,7 @@ use std::marker::Model;
 #[derive(Drop)]
 pub struct GivenBlocks<'a> {
     pool: Group<'a>,
-    rows: Rows<'a>,
+    rows: KeyedRecords<'a>,
     none: Group<'a>,
 }
 
@@ -43,10 +43,10 @@ fn given_block(r: &Rec) -> Option<u64>
     }
 }
 
-fn rows_of<'a>(alloc: Global, pool: &Group<'a>) -> Result<Rows<'a>, AllocError>
-    ensures { IfOk result (λ x. (b : ℕ) → row_at x (b, 0, 0) ≡ of_key block_key b pool.now) }
+fn rows_of<'a>(alloc: Global, pool: &Group<'a>) -> Result<KeyedRecords<'a>, AllocError>
+    ensures { IfOk result (λ x. (b : ℕ) → records_of_key x (b, 0, 0) ≡ of_key block_key b pool.now) }
 {
-    let mut rows = Rows::none(alloc);
+    let mut rows = KeyedRecords::none(alloc);
     for r in &pool.items {
         match given_block(r) {
             Some(b) => rows.put(alloc, (b, 0, 0), r)?,

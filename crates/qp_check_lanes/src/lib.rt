@@ -16,3 +16,13 @@ pub mod word_totals;
 // Deferred lists.
 pub mod deferral;
 pub mod deferred_entries;
+
+// What a word holds after its operations: one walk, and the kind of each word.
+pub mod lives;
+pub mod numbers;
+pub mod pools;
+pub mod queues;
+pub mod references;
+pub mod signals;
+pub mod timers;
+pub mod word_state;

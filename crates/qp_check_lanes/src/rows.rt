@@ -3,7 +3,7 @@
 ghost use Rattle.std.specs.Prelude.{◌≡◌, ◌++◌, ◌∷◌, [], ℕ, if◌then◌else◌, OnOk};
 ghost use Rattle.qp_model.specs.Record.{item_of};
 ghost use Rattle.qp_check_lanes.specs.Keys.{same_key};
-ghost use Rattle.qp_check_lanes.specs.Rows.{row_at};
+ghost use Rattle.qp_check_lanes.specs.Rows.{records_of_key};
 
 use crate::groups::Group;
 use qp_model::Rec;
@@ -12,23 +12,23 @@ use std::collections::BTreeMap;
 
 /// Records that stand elsewhere, in a row for each key. A row takes the records in the order in which they are put.
 #[derive(Drop)]
-pub struct Rows<'a> {
+pub struct KeyedRecords<'a> {
     pub rows: BTreeMap<(u64, u64, u64), Group<'a>>,
 }
 
-impl<'a> Rows<'a> {
+impl<'a> KeyedRecords<'a> {
     pub fn none(alloc: Global) -> Self
-        ensures { (q : ℕ × ℕ × ℕ) → row_at result q ≡ [] }
+        ensures { (q : ℕ × ℕ × ℕ) → records_of_key result q ≡ [] }
     {
-        Rows {
+        KeyedRecords {
             rows: BTreeMap::new(alloc),
         }
     }
 
     /// Puts a record at the end of a row.
     pub fn put(&mut self, alloc: Global, key: (u64, u64, u64), r: &'a Rec) -> Result<(), AllocError>
-        ensures { OnOk result ((q : ℕ × ℕ × ℕ) → row_at self.new q ≡ (if same_key key q then row_at self.old q ++ item_of r.now ∷ [] else
-            row_at self.old q)) }
+        ensures { OnOk result ((q : ℕ × ℕ × ℕ) → records_of_key self.new q ≡ (if same_key key q then records_of_key self.old q ++ item_of r.now ∷ [] else
+            records_of_key self.old q)) }
     {
         match self.rows.get_mut(&key) {
             Some(row) => row.put(r),
@@ -44,7 +44,7 @@ impl<'a> Rows<'a> {
     /// The records of a key, or else these, which are none.
     pub fn at<'b>(&'b self, key: (u64, u64, u64), none: &'b Group<'a>) -> &'b Group<'a>
         requires { none.now ≡ [] }
-        ensures { result.now ≡ row_at self.now key }
+        ensures { result.now ≡ records_of_key self.now key }
     {
         match self.rows.get(&key) {
             Some(row) => return row,

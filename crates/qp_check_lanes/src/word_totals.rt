@@ -15,25 +15,25 @@ use std::collections::BTreeMap;
 
 /// Counts by number; one that isn't there is 0.
 #[derive(Drop)]
-pub struct Counts {
+pub struct CountsByNumber {
     pub counts: BTreeMap<u64, u64>,
 }
 
-impl Counts {
+impl CountsByNumber {
     pub fn none(alloc: Global) -> Self
         ensures { (k : ℕ) → count_in result k ≡ 0 }
     {
-        Counts {
+        CountsByNumber {
             counts: BTreeMap::new(alloc),
         }
     }
 
-    fn or_none(alloc: Global, counts: Option<Counts>) -> Self
+    fn or_none(alloc: Global, counts: Option<CountsByNumber>) -> Self
         ensures { (k : ℕ) → count_in result k ≡ option_map_or (λ c. count_in c k) counts 0 }
     {
         match counts {
             Some(counts) => counts,
-            None => Counts::none(alloc),
+            None => CountsByNumber::none(alloc),
         }
     }
 
@@ -66,7 +66,7 @@ impl Counts {
     }
 }
 
-impl Counts {
+impl CountsByNumber {
     /// Counts this number, if there is one.
     pub fn count(&mut self, k: Option<u64>) -> Result<(), AllocError>
         requires { (q : ℕ) → count_in self.old q + 1 < 2 ^ 64 }
@@ -82,11 +82,11 @@ impl Counts {
 /// How many operations each word has had.
 #[derive(Drop)]
 pub struct Totals {
-    pub pools: Counts,
-    pub blocks: BTreeMap<u64, Counts>,
-    pub queues: Counts,
-    pub signals: Counts,
-    pub timers: Counts,
+    pub pools: CountsByNumber,
+    pub blocks: BTreeMap<u64, CountsByNumber>,
+    pub queues: CountsByNumber,
+    pub signals: CountsByNumber,
+    pub timers: CountsByNumber,
 }
 
 impl Totals {
@@ -94,11 +94,11 @@ impl Totals {
         ensures { (w : Word) → count_at result w ≡ 0 }
     {
         Totals {
-            pools: Counts::none(alloc),
+            pools: CountsByNumber::none(alloc),
             blocks: BTreeMap::new(alloc),
-            queues: Counts::none(alloc),
-            signals: Counts::none(alloc),
-            timers: Counts::none(alloc),
+            queues: CountsByNumber::none(alloc),
+            signals: CountsByNumber::none(alloc),
+            timers: CountsByNumber::none(alloc),
         }
     }
 
@@ -128,7 +128,7 @@ impl Totals {
         ensures { OnOk result ((w : Word) → count_at self.new w ≡ count_at self.old w +
             (if same_word (word_kind.Block p b) w then 1 else 0)) }
     {
-        let mut counts = Counts::or_none(alloc, self.blocks.remove(&p));
+        let mut counts = CountsByNumber::or_none(alloc, self.blocks.remove(&p));
         counts.add(b)?;
         self.blocks.insert(p, counts)?;
         Ok(())

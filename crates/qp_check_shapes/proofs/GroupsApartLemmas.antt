@@ -8,7 +8,7 @@ use Rattle.qp_model.specs.declared.bodies.Entry.{Entry}
 use Rattle.qp_model.specs.declared.bodies.Body.{Body}
 use Rattle.qp_model.specs.declared.bodies.Body.TheVariants as item
 use Rattle.qp_model.specs.Record.{entry}
-use Rattle.qp_model.specs.Told.{Told, Known, Nothing, Free, Member, plain, given}
+use Rattle.qp_model.specs.Told.{Told, Known, Nothing, Free, Member, plain, told_new}
 use Rattle.qp_model.specs.Parts.{is_static, sizes_of}
 use Rattle.qp_check_shapes.specs.ShapeUnit.{goes_to, works_on, again_first, behind_again, new_first, behind_entry, reference_first, behind_new, lifo_first, behind_lifo, recalled_first, behind_reference, behind_recall, plain_first, given_first, member_first, unit_first, behind_unit}
 use Rattle.qp_check_shapes.specs.ShapeAssertion.{no_entry_first, behind_no_entry, no_lifo_first, behind_no_lifo, cut_first, behind_cut, new_cut_first, behind_new_cut, recall_cut_first, behind_recall_reference, behind_recall_cut, plain_cut, given_cut, assertion_first, behind_assertion}
@@ -144,8 +144,8 @@ unfolding plain_first plain_cut
 shown-apart sys o now sig n set rest = (refl, refl)
 
 pub given-apart : (sys : System) (o : ℕ) (now : Option Entry) (p n k from sig free q c r s m set : ℕ) (pars : List ℕ) (rest : List Told)
-    → (behind_unit sys o now (given p n k from sig pars free ∷ plain (item.Inc q c r) ∷ plain (item.Pub s m set) ∷ rest) ≡ None)
-    × (behind_assertion sys o now (given p n k from sig pars free ∷ plain (item.Inc q c r) ∷ plain (item.Pub s m set) ∷ rest) ≡ None)
+    → (behind_unit sys o now (told_new p n k from sig pars free ∷ plain (item.Inc q c r) ∷ plain (item.Pub s m set) ∷ rest) ≡ None)
+    × (behind_assertion sys o now (told_new p n k from sig pars free ∷ plain (item.Inc q c r) ∷ plain (item.Pub s m set) ∷ rest) ≡ None)
 unfolding given_first given_cut
 given-apart sys o now p n k from sig free q c r s m set pars rest = (
   either-none (nat_lt 0 free && goes_to (sizes_of sys) (length pars) p && not (is_static sys sig)) _ (either-none ((q == p) && (c == k)) None refl),

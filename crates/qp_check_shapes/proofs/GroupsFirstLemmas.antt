@@ -8,7 +8,7 @@ use Rattle.qp_model.specs.declared.bodies.Body.{Body}
 use Rattle.qp_model.specs.declared.bodies.Body.TheVariants as item
 use Rattle.qp_model.specs.Told.{Told, Known, Nothing, Former, plain, raised}
 use Rattle.qp_model.specs.Groups.{is_move}
-use Rattle.qp_check_shapes.specs.ShapeRelease.{Leaves}
+use Rattle.qp_check_shapes.specs.ShapeRelease.{IsUnambiguous}
 use Rattle.qp_check_shapes.specs.GroupsRead.{ReadsAll, IsElement, Notes, Acts, Locks, is_outer}
 use Rattle.qp_check_shapes.specs.GroupsFirst.{is_told_move, former_of, unlock_first, behind_unlock, done_first, behind_done}
 use Rattle.qp_check_shapes.proofs.ShapeReleaseLemmas.{when-passed}
@@ -21,25 +21,25 @@ use Rattle.qp_model.proofs.LineLemmas.{same_number}
 pub leaves-at : (P : List Told → Type 0) (told : List Told) (r : Option (List Told))
     → ((rest : List Told) → r ≡ Some rest → (g : List Told) × P g × (told ≡ g ++ rest))
     → ((g other : List Told) → told ≡ g ++ other → P g → r ≡ Some other)
-    → Leaves P told r
-unfolding Leaves
+    → IsUnambiguous P told r
+unfolding IsUnambiguous
 leaves-at P told None sound whole = λ g rest is h. let e : None ≡ Some rest = whole g rest is h in cc
 leaves-at P told (Some rest) sound whole = (sound rest refl, λ g other is h. let e : Some rest ≡ Some other = whole g other is h in cc)
 
 -- what is left where all parts are read, as an answer
-pub leaves-sound : (P : List Told → Type 0) (told : List Told) (r : Option (List Told)) → Leaves P told r → (rest : List Told) → r ≡ Some rest → (g : List Told) × P g × (told ≡ g ++ rest)
-unfolding Leaves
+pub leaves-sound : (P : List Told → Type 0) (told : List Told) (r : Option (List Told)) → IsUnambiguous P told r → (rest : List Told) → r ≡ Some rest → (g : List Told) × P g × (told ≡ g ++ rest)
+unfolding IsUnambiguous
 leaves-sound P told None l rest is = absurd (cc)
 leaves-sound P told (Some left) l rest is = let same : left ≡ rest = cc in (l.0.0, l.0.1, l.0.2 ∙ ap (λ us. l.0.0 ++ us) same)
 
-pub leaves-whole : (P : List Told → Type 0) (told : List Told) (r : Option (List Told)) → Leaves P told r → (g other : List Told) → told ≡ g ++ other → P g → r ≡ Some other
-unfolding Leaves
+pub leaves-whole : (P : List Told → Type 0) (told : List Told) (r : Option (List Told)) → IsUnambiguous P told r → (g other : List Told) → told ≡ g ++ other → P g → r ≡ Some other
+unfolding IsUnambiguous
 leaves-whole P told None l g other is h = absurd (l g other is h)
 leaves-whole P told (Some left) l g other is h = ap (λ us. Some us) (sym (l.1 g other is h))
 
 -- no part stands in front of no records
-pub none-empty : (P : List Told → Type 0) → (P [] → ⊥) → Leaves P [] None
-unfolding Leaves
+pub none-empty : (P : List Told → Type 0) → (P [] → ⊥) → IsUnambiguous P [] None
+unfolding IsUnambiguous
 none-empty P filled = λ g rest is h. by g rest is h
   where
     by : (g rest : List Told) → [] ≡ g ++ rest → P g → ⊥
@@ -54,7 +54,7 @@ note-is t h = by t.known refl h
     by Nothing is h = (t.body, h, told-is t t.body Nothing refl is)
     by known is h = absurd (false≢true h)
 
-pub note-leaves : (W : List Told → Type 0) → Parts is_outer W → (t : Told) (ts : List Told) → is_told_move t.body t.known ≡ true → Leaves (IsElement W) (t ∷ ts) (Some ts)
+pub note-leaves : (W : List Told → Type 0) → Parts is_outer W → (t : Told) (ts : List Told) → is_told_move t.body t.known ≡ true → IsUnambiguous (IsElement W) (t ∷ ts) (Some ts)
 note-leaves W laws t ts h =
     let note = note-is t h in
     let one : IsElement W (t ∷ []) = Notes note.0 note.1 (ap (λ u. u ∷ []) note.2) in
@@ -103,7 +103,7 @@ done-is (t ∷ ts) rest h = by t.body t.known refl refl h
 
 -- actions under a raised ceiling, and then what restores it
 pub locked-leaves : (W : List Told → Type 0) → Parts is_outer W → (t : Told) (ts rest : List Told) (f : ℕ) → former_of t.body t.known ≡ Some f → ReadsAll W ts rest
-    → Leaves (IsElement W) (t ∷ ts) (behind_unlock f rest)
+    → IsUnambiguous (IsElement W) (t ∷ ts) (behind_unlock f rest)
 locked-leaves W laws t ts rest f h reads = leaves-at (IsElement W) (t ∷ ts) (behind_unlock f rest) sound whole
   where
     sound : (left : List Told) → behind_unlock f rest ≡ Some left → (g : List Told) × IsElement W g × (t ∷ ts ≡ g ++ left)
@@ -142,7 +142,7 @@ locked-leaves W laws t ts rest f h reads = leaves-at (IsElement W) (t ∷ ts) (b
 
 -- an action, where the first record is no note and raises no ceiling
 pub acts-leaves : (W : List Told → Type 0) → (t : Told) (ts : List Told) (r : Option (List Told)) → is_told_move t.body t.known ≡ false → former_of t.body t.known ≡ None
-    → Leaves W (t ∷ ts) r → Leaves (IsElement W) (t ∷ ts) r
+    → IsUnambiguous W (t ∷ ts) r → IsUnambiguous (IsElement W) (t ∷ ts) r
 acts-leaves W t ts r not_note none l = leaves-at (IsElement W) (t ∷ ts) r sound whole
   where
     sound : (left : List Told) → r ≡ Some left → (g : List Told) × IsElement W g × (t ∷ ts ≡ g ++ left)
@@ -160,18 +160,18 @@ acts-leaves W t ts r not_note none l = leaves-at (IsElement W) (t ∷ ts) r soun
         let test : former_of t.body t.known ≡ Some f = subst (λ (x : Told). former_of x.body x.known ≡ Some f) first (raised-former f c) in absurd (cc)
 
 -- the same, as the front's reader tells it
-pub none-group : (P : List Told → Type 0) → (P [] → ⊥) → (told : List Told) → told ≡ [] → Leaves P told None
-none-group P filled told is = subst (λ us. Leaves P us None) (sym is) (none-empty P filled)
+pub none-group : (P : List Told → Type 0) → (P [] → ⊥) → (told : List Told) → told ≡ [] → IsUnambiguous P told None
+none-group P filled told is = subst (λ us. IsUnambiguous P us None) (sym is) (none-empty P filled)
 
-pub note-group : (W : List Told → Type 0) → Parts is_outer W → (told : List Told) (t : Told) (ts : List Told) → told ≡ t ∷ ts → is_told_move t.body t.known ≡ true → Leaves (IsElement W) told (Some ts)
-note-group W laws told t ts is h = subst (λ us. Leaves (IsElement W) us (Some ts)) (sym is) (note-leaves W laws t ts h)
+pub note-group : (W : List Told → Type 0) → Parts is_outer W → (told : List Told) (t : Told) (ts : List Told) → told ≡ t ∷ ts → is_told_move t.body t.known ≡ true → IsUnambiguous (IsElement W) told (Some ts)
+note-group W laws told t ts is h = subst (λ us. IsUnambiguous (IsElement W) us (Some ts)) (sym is) (note-leaves W laws t ts h)
 
 pub locked-group : (W : List Told → Type 0) → Parts is_outer W → (told : List Told) (t : Told) (ts rest : List Told) (f : ℕ) (r : Option (List Told)) → told ≡ t ∷ ts → former_of t.body t.known ≡ Some f
-    → ReadsAll W ts rest → r ≡ behind_unlock f rest → Leaves (IsElement W) told r
+    → ReadsAll W ts rest → r ≡ behind_unlock f rest → IsUnambiguous (IsElement W) told r
 locked-group W laws told t ts rest f r is h reads behind =
-    subst (λ us. Leaves (IsElement W) us r) (sym is) (subst (λ x. Leaves (IsElement W) (t ∷ ts) x) (sym behind) (locked-leaves W laws t ts rest f h reads))
+    subst (λ us. IsUnambiguous (IsElement W) us r) (sym is) (subst (λ x. IsUnambiguous (IsElement W) (t ∷ ts) x) (sym behind) (locked-leaves W laws t ts rest f h reads))
 
 pub acts-group : (W : List Told → Type 0) (told : List Told) (t : Told) (ts : List Told) (r : Option (List Told)) → told ≡ t ∷ ts → is_told_move t.body t.known ≡ false → former_of t.body t.known ≡ None
-    → Leaves W told r → Leaves (IsElement W) told r
+    → IsUnambiguous W told r → IsUnambiguous (IsElement W) told r
 acts-group W told t ts r is not_note none l =
-    subst (λ us. Leaves (IsElement W) us r) (sym is) (acts-leaves W t ts r not_note none (subst (λ us. Leaves W us r) is l))
+    subst (λ us. IsUnambiguous (IsElement W) us r) (sym is) (acts-leaves W t ts r not_note none (subst (λ us. IsUnambiguous W us r) is l))

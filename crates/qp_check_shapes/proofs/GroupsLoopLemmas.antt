@@ -2,7 +2,7 @@
 use Rattle.std.proofs.Common.{◌≡◌, suc, ◌+◌, ◌<◌, List, [], ◌∷◌, ◌++◌, length, Some, None, refl, sym, ◌∙◌, ap, append_assoc, length-append, arith}
 use Rattle.qp_model.specs.Told.{Told}
 use Rattle.qp_model.specs.Sequence.{Sequence}
-use Rattle.qp_check_shapes.specs.ShapeRelease.{Leaves}
+use Rattle.qp_check_shapes.specs.ShapeRelease.{IsUnambiguous}
 use Rattle.qp_check_shapes.specs.GroupsRead.{ReadsAll}
 use Rattle.qp_check_shapes.proofs.GroupsSequenceLemmas.{sequence-none, sequence-one, sequence-append}
 
@@ -15,20 +15,20 @@ pub record ReadsSome (P : List Told → Type 0) (told rest : List Told) : Type 0
 pub reads-none : (P : List Told → Type 0) (told : List Told) → ReadsSome P told told
 reads-none P told = record { whole = []; parts = sequence-none P; is = refl }
 
-pub reads-more : (P : List Told → Type 0) (told left rest : List Told) → ReadsSome P told left → Leaves P left (Some rest) → ReadsSome P told rest
-unfolding Leaves
+pub reads-more : (P : List Told → Type 0) (told left rest : List Told) → ReadsSome P told left → IsUnambiguous P left (Some rest) → ReadsSome P told rest
+unfolding IsUnambiguous
 reads-more P told left rest reads l = record {
   whole = reads.whole ++ l.0.0;
   parts = sequence-append P reads.whole l.0.0 reads.parts (sequence-one P l.0.0 l.0.1);
   is = reads.is ∙ ap (λ us. reads.whole ++ us) l.0.2 ∙ sym (append_assoc reads.whole l.0.0 rest);
 }
 
-pub reads-all : (P : List Told → Type 0) (told rest : List Told) → ReadsSome P told rest → Leaves P rest None → ReadsAll P told rest
+pub reads-all : (P : List Told → Type 0) (told rest : List Told) → ReadsSome P told rest → IsUnambiguous P rest None → ReadsAll P told rest
 reads-all P told rest reads none = record { whole = reads.whole; parts = reads.parts; is = reads.is; none = none }
 
 -- each part makes the list shorter
-pub reads-shorter : (P : List Told → Type 0) → (P [] → ⊥) → (left rest : List Told) → Leaves P left (Some rest) → length rest < length left
-unfolding Leaves
+pub reads-shorter : (P : List Told → Type 0) → (P [] → ⊥) → (left rest : List Told) → IsUnambiguous P left (Some rest) → length rest < length left
+unfolding IsUnambiguous
 reads-shorter P filled left rest l = by l.0.0 l.0.1 l.0.2
   where
     by : (g : List Told) → P g → left ≡ g ++ rest → length rest < length left

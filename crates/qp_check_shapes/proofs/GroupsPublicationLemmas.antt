@@ -7,7 +7,7 @@ use Rattle.qp_model.specs.declared.bodies.Entry.{Entry}
 use Rattle.qp_model.specs.declared.bodies.Body.{Body}
 use Rattle.qp_model.specs.declared.bodies.Body.TheVariants as item
 use Rattle.qp_model.specs.Record.{entry}
-use Rattle.qp_model.specs.Told.{Told, Known, plain, given}
+use Rattle.qp_model.specs.Told.{Told, Known, plain, told_new}
 use Rattle.qp_check_shapes.specs.declared.shape_stage.PublishStage.{PublishStage}
 use Rattle.qp_check_shapes.specs.declared.shape_stage.PublishStage.TheVariants as stage
 use Rattle.qp_check_shapes.specs.ShapeUnit.{behind_unit}
@@ -76,25 +76,25 @@ IsApart : System → ℕ → Option Entry → List Told → Type 0
 IsApart sys o now told = (behind_unit sys o now told ≡ None) × (behind_assertion sys o now told ≡ None)
 
 made-apart : (sys : System) (o : ℕ) (now : Option Entry) (b : Bool) (p n k from sig free r : ℕ) (pars : List ℕ) (g gs : List Told)
-    → run sys o g (stage.Made (entry p k r) sig) ≡ Some (end_of b) → IsApart sys o now (given p n k from sig pars free ∷ plain (item.Inc p k r) ∷ (g ++ gs))
+    → run sys o g (stage.Made (entry p k r) sig) ≡ Some (end_of b) → IsApart sys o now (told_new p n k from sig pars free ∷ plain (item.Inc p k r) ∷ (g ++ gs))
 unfolding run next IsApart
 made-apart sys o now true p n k from sig free r pars [] gs h = absurd (cc)
 made-apart sys o now false p n k from sig free r pars [] gs h = absurd (cc)
 made-apart sys o now b p n k from sig free r pars (t ∷ ts) gs h =
     let step = run-step sys o t ts (stage.Made (entry p k r) sig) (end_of b) h in
     let is = made-is o (entry p k r) sig t step.0 step.1 in
-    subst (λ u. IsApart sys o now (given p n k from sig pars free ∷ plain (item.Inc p k r) ∷ u ∷ (ts ++ gs))) (sym is.2)
+    subst (λ u. IsApart sys o now (told_new p n k from sig pars free ∷ plain (item.Inc p k r) ∷ u ∷ (ts ++ gs))) (sym is.2)
     (given-apart sys o now p n k from sig free p k r sig is.0 is.1 pars (ts ++ gs))
 
 block-apart : (sys : System) (o : ℕ) (now : Option Entry) (b : Bool) (p n k from sig free : ℕ) (pars : List ℕ) (g gs : List Told)
-    → run sys o g (stage.Given p k sig) ≡ Some (end_of b) → IsApart sys o now (given p n k from sig pars free ∷ (g ++ gs))
+    → run sys o g (stage.Given p k sig) ≡ Some (end_of b) → IsApart sys o now (told_new p n k from sig pars free ∷ (g ++ gs))
 unfolding run next
 block-apart sys o now true p n k from sig free pars [] gs h = absurd (cc)
 block-apart sys o now false p n k from sig free pars [] gs h = absurd (cc)
 block-apart sys o now b p n k from sig free pars (t ∷ ts) gs h =
     let step = run-step sys o t ts (stage.Given p k sig) (end_of b) h in
     let is = given-is p k sig t step.0 step.1 in
-    subst (λ u. IsApart sys o now (given p n k from sig pars free ∷ u ∷ (ts ++ gs))) (sym is.1)
+    subst (λ u. IsApart sys o now (told_new p n k from sig pars free ∷ u ∷ (ts ++ gs))) (sym is.1)
     (made-apart sys o now b p n k from sig free is.0 pars ts gs (subst (λ x. run sys o ts x ≡ Some (end_of b)) is.2 step.2))
 
 -- a publication, whole or cut, begins with neither a unit nor a single call that asserts

@@ -3,7 +3,7 @@ use Rattle.std.proofs.Common.{◌≡◌, Bool, true, ◌⊎◌, inl, inr, List, 
 use Rattle.qp_model.specs.declared.bodies.Body.{Body}
 use Rattle.qp_model.specs.Told.{Told}
 use Rattle.qp_model.specs.Sequence.{Sequence, EachPart, joined}
-use Rattle.qp_check_shapes.specs.ShapeRelease.{Leaves}
+use Rattle.qp_check_shapes.specs.ShapeRelease.{IsUnambiguous}
 use Rattle.qp_check_shapes.specs.GroupsRead.{ReadsAll}
 
 -- parts that aren't empty, stand in front of a list in at most one way, and begin with no record of `outer`
@@ -43,8 +43,8 @@ last-behind W L behind last g rest l s is = go s.0 s.1 last l (is ∙ ap (λ us.
     go (p ∷ ps) e last l is = go ps e.1 (joined ps ++ rest) (behind last p (joined ps ++ rest) l e.0 (is ∙ append_assoc p (joined ps) rest)) refl
 
 -- a sequence in front of a list in front of which no part stands is empty
-pub none-behind : (W : List Told → Type 0) (rest m last : List Told) → Leaves W rest None → Sequence W m → rest ≡ m ++ last → rest ≡ last
-unfolding Sequence Leaves
+pub none-behind : (W : List Told → Type 0) (rest m last : List Told) → IsUnambiguous W rest None → Sequence W m → rest ≡ m ++ last → rest ≡ last
+unfolding Sequence IsUnambiguous
 none-behind W rest m last none s is = go s.0 s.1 (is ∙ ap (λ us. us ++ last) s.2)
   where
     go : (ps : List (List Told)) → EachPart W ps → rest ≡ joined ps ++ last → rest ≡ last

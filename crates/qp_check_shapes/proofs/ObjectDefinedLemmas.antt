@@ -9,7 +9,7 @@ use Rattle.qp_model.specs.Shapes.{Drops}
 use Rattle.qp_model.specs.Groups.{IsLast}
 use Rattle.qp_model.specs.ObjectShape.{StartGroup, BrokenStart, StepGroup, BrokenStep, IsTurn, Dispatches, FindsEmpty, LooksOnly, IsTail, Ends, OutOfBudget, BreaksStep, ObjectGroups}
 use Rattle.qp_check_shapes.specs.ShapeAction.{IsWhole}
-use Rattle.qp_check_shapes.specs.ObjectRead.{Kinds, Closes, looks_at_queue, IsTurnOf, Steps, Finds, IsTailOf, EndsHere, IsSpent, BreaksOffIn, TakesOnly, ReleasesOnly, TurnsOf, IsObjectOf, Starts, BreaksStart}
+use Rattle.qp_check_shapes.specs.ObjectRead.{Kinds, Closes, looks_at_queue, IsTurnOf, Steps, Finds, IsTailOf, EndsHere, IsSpent, BreaksOffIn, TakesOnly, ReleasesOnly, TurnsOf, IsObjectList, Starts, BreaksStart}
 use Rattle.qp_check_shapes.proofs.GroupsSequenceLemmas.{sequence-one, sequence-map}
 use Rattle.qp_check_shapes.proofs.GroupsActionLemmas.{groups-elements, elements-groups, off-breaks, breaks-off}
 
@@ -52,7 +52,7 @@ of-tail sys o cuts g (TakesOnly f l m e known any is) = absurd (cc)
 of-tail sys o cuts g (ReleasesOnly e head body any h c is) = absurd (cc)
 
 -- the whole list, each way
-pub object-of : (sys : System) (o : ℕ) (nils cuts : Bool) (bs : List Told) → ObjectGroups sys o nils cuts bs → IsObjectOf (kinds_of sys o cuts) nils bs
+pub object-of : (sys : System) (o : ℕ) (nils cuts : Bool) (bs : List Told) → ObjectGroups sys o nils cuts bs → IsObjectList (kinds_of sys o cuts) nils bs
 unfolding ObjectGroups BrokenStart StartGroup Closes TurnsOf
 object-of sys o nils cuts bs (inl s) = BreaksStart s.1.0 s.0 (off-breaks sys o None false s.1.0 s.1.1) s.1.2
 object-of sys o nils cuts bs (inr s) =
@@ -61,7 +61,7 @@ object-of sys o nils cuts bs (inr s) =
     Starts (s.3.0 ++ (plain item.Done ∷ more)) (s.3.0, more, groups-elements sys o None s.3.0 s.3.1, (s.1, s.2, turns, tail-of sys o cuts s.2 s.5, refl), refl)
     (s.6 ∙ ap (λ us. us ++ more) s.3.2 ∙ ap (λ us. plain item.Begin ∷ us) (append_assoc s.3.0 (plain item.Done ∷ []) more))
 
-pub of-object : (sys : System) (o : ℕ) (nils cuts : Bool) (bs : List Told) → IsObjectOf (kinds_of sys o cuts) nils bs → ObjectGroups sys o nils cuts bs
+pub of-object : (sys : System) (o : ℕ) (nils cuts : Bool) (bs : List Told) → IsObjectList (kinds_of sys o cuts) nils bs → ObjectGroups sys o nils cuts bs
 unfolding ObjectGroups BrokenStart StartGroup Closes TurnsOf
 of-object sys o nils cuts bs (BreaksStart body on b is) = inl (on, (body, breaks-off sys o None false body b, is))
 of-object sys o nils cuts bs (Starts body c is) =

@@ -8,7 +8,7 @@ use Rattle.qp_model.specs.Told.{Told, Known, plain}
 use Rattle.qp_model.specs.Sequence.{Sequence}
 use Rattle.qp_model.specs.ObjectShape.{StepHead, is_head, takes}
 use Rattle.qp_check_shapes.specs.GroupsRead.{IsElement, Breaks}
-use Rattle.qp_check_shapes.specs.ObjectRead.{Kinds, Closes, IsTurnOf, Steps, Finds, FrontOf, IsTailOf, EndsHere, IsSpent, BreaksOffIn, TakesOnly, ReleasesOnly, TurnsOf, IsObjectOf, Starts, BreaksStart}
+use Rattle.qp_check_shapes.specs.ObjectRead.{Kinds, Closes, IsTurnOf, Steps, Finds, FrontOf, IsTailOf, EndsHere, IsSpent, BreaksOffIn, TakesOnly, ReleasesOnly, TurnsOf, IsObjectList, Starts, BreaksStart}
 use Rattle.qp_check_shapes.proofs.GroupsSequenceLemmas.{sequence-none, sequence-one, sequence-append}
 use Rattle.qp_check_shapes.proofs.GroupsFrontLemmas.{AnyFront, split-parts, whole-breaks, groups-front, breaks-front, breaks-back}
 
@@ -148,7 +148,7 @@ turns-front W C L F D laws nils g f x t is = by (split-parts (IsTurnOf W D nils)
 
 -- a front of a list is empty, or a list that is cut
 pub object-front : (W C L : Option Entry → List Told → Type 0) (F : List Told → Type 0) (D : Entry → List Told → Type 0) → CutLaws W C L F D → (nils : Bool) (bs back : List Told)
-    → IsObjectOf (wholly W L F D) nils (bs ++ back) → (bs ≡ []) ⊎ IsObjectOf (cut-off W C D) nils bs
+    → IsObjectList (wholly W L F D) nils (bs ++ back) → (bs ≡ []) ⊎ IsObjectList (cut-off W C D) nils bs
 unfolding Closes
 object-front W C L F D laws nils [] back q = inl refl
 object-front W C L F D laws nils (t ∷ ts) back (BreaksStart body on b is) =
@@ -160,14 +160,14 @@ object-front W C L F D laws nils (t ∷ ts) back (Starts body c is) =
     let rest : ts ++ back ≡ body = cc in
     inr (by first (groups-front (W None) (C None) ts back c.0 (plain item.Done ∷ c.1) c.2 (rest ∙ c.4)))
   where
-    done : t ≡ plain item.Begin → (m : List Told) → ts ≡ c.0 ++ m → (m ≡ []) ⊎ ((n : List Told) × (m ≡ plain item.Done ∷ n) × (c.1 ≡ n ++ back)) → IsObjectOf (cut-off W C D) nils (t ∷ ts)
+    done : t ≡ plain item.Begin → (m : List Told) → ts ≡ c.0 ++ m → (m ≡ []) ⊎ ((n : List Told) × (m ≡ plain item.Done ∷ n) × (c.1 ≡ n ++ back)) → IsObjectList (cut-off W C D) nils (t ∷ ts)
     done first m k (inl none) =
         BreaksStart ts refl (subst (Breaks (W None) (AnyFront (W None) (C None))) (sym (k ∙ ap (λ us. c.0 ++ us) none ∙ append-nil c.0)) (whole-breaks (W None) (C None) c.0 c.2))
         (ap (λ u. u ∷ ts) first)
     done first m k (inr d) =
         Starts ts (c.0, d.0, c.2, turns-front W C L F D laws nils c.1 d.0 back c.3 d.2, k ∙ ap (λ us. c.0 ++ us) d.1) (ap (λ u. u ∷ ts) first)
 
-    by : t ≡ plain item.Begin → ((m : List Told) × (ts ≡ c.0 ++ m) × (plain item.Done ∷ c.1 ≡ m ++ back)) ⊎ Breaks (W None) (AnyFront (W None) (C None)) ts → IsObjectOf (cut-off W C D) nils (t ∷ ts)
+    by : t ≡ plain item.Begin → ((m : List Told) × (ts ≡ c.0 ++ m) × (plain item.Done ∷ c.1 ≡ m ++ back)) ⊎ Breaks (W None) (AnyFront (W None) (C None)) ts → IsObjectList (cut-off W C D) nils (t ∷ ts)
     by first (inl m) = done first m.0 m.1 (done-front c.1 back m.0 m.2)
     by first (inr b) = BreaksStart ts refl b (ap (λ u. u ∷ ts) first)
 
@@ -214,14 +214,14 @@ turns-back W C L F D laws nils g t =
 
 -- a list that is cut can be made whole
 pub object-back : (W C L : Option Entry → List Told → Type 0) (F : List Told → Type 0) (D : Entry → List Told → Type 0) → CutLaws W C L F D → (nils : Bool) (bs : List Told)
-    → IsObjectOf (cut-off W C D) nils bs → (back : List Told) × IsObjectOf (wholly W L F D) nils (bs ++ back)
+    → IsObjectList (cut-off W C D) nils bs → (back : List Told) × IsObjectList (wholly W L F D) nils (bs ++ back)
 unfolding Closes
 object-back W C L F D laws nils bs (Starts body c is) =
     let more = turns-back W C L F D laws nils c.1 c.3 in
     (more.0, Starts (body ++ more.0) (c.0, c.1 ++ more.0, c.2, more.1, ap (λ us. us ++ more.0) c.4 ∙ append_assoc c.0 (plain item.Done ∷ c.1) more.0) (ap (λ us. us ++ more.0) is))
 object-back W C L F D laws nils bs (BreaksStart body on b is) = by (breaks-back (W None) (C None) F laws.begins body b)
   where
-    by : (back : List Told) × (Sequence (IsElement (W None)) (body ++ back) ⊎ Breaks (W None) F (body ++ back)) → (back : List Told) × IsObjectOf (wholly W L F D) nils (bs ++ back)
+    by : (back : List Told) × (Sequence (IsElement (W None)) (body ++ back) ⊎ Breaks (W None) F (body ++ back)) → (back : List Told) × IsObjectList (wholly W L F D) nils (bs ++ back)
     by (back, inl s) = (
       back ++ (plain item.Done ∷ []),
       Starts ((body ++ back) ++ (plain item.Done ∷ [])) (body ++ back, [], s, tail-alone (wholly W L F D) nils [] (EndsHere refl), refl)

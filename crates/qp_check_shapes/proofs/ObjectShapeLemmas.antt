@@ -12,7 +12,7 @@ use Rattle.qp_model.specs.Ends.{is_assert}
 use Rattle.qp_check_shapes.specs.ShapeAction.{IsWhole}
 use Rattle.qp_check_shapes.specs.GroupsRead.{Breaks}
 use Rattle.qp_check_shapes.specs.GroupsLast.{LastOf, start_cut, is_anywhere, is_cut, is_unbegun, kinds}
-use Rattle.qp_check_shapes.specs.ObjectRead.{IsObjectOf, IsStartEnd}
+use Rattle.qp_check_shapes.specs.ObjectRead.{IsObjectList, IsStartEnd}
 use Rattle.qp_check_shapes.specs.ObjectFirst.{behind_begin}
 use Rattle.qp_check_shapes.proofs.ShapeReleaseLemmas.{release-whole}
 use Rattle.qp_check_shapes.specs.ShapeRelease.{behind_release}
@@ -54,10 +54,10 @@ first-decided sys o cut first told b is d = subst (λ x. Decides b (Breaks (IsWh
 pub groups-decided : (sys : System) (o : ℕ) (nils : Bool) (cut : Cut) (told rest : List Told) (b : Bool) → Some rest ≡ behind_begin told → Decides b (IsStartEnd (kinds sys o cut) nils rest)
     → Decides b (CutGroups sys o nils cut told)
 groups-decided sys o nils cut told rest b begins d =
-    decides-as (IsObjectOf (kinds sys o cut) nils told) (CutGroups sys o nils cut told) b (object-cut sys o nils cut told) (λ h. by (cut-object sys o nils cut told h))
+    decides-as (IsObjectList (kinds sys o cut) nils told) (CutGroups sys o nils cut told) b (object-cut sys o nils cut told) (λ h. by (cut-object sys o nils cut told h))
     (object-decided (kinds sys o cut) nils told rest b begins d)
   where
-    by : (told ≡ []) ⊎ IsObjectOf (kinds sys o cut) nils told → IsObjectOf (kinds sys o cut) nils told
+    by : (told ≡ []) ⊎ IsObjectList (kinds sys o cut) nils told → IsObjectList (kinds sys o cut) nils told
     by (inl none) = let no_begin : behind_begin told ≡ None = ap behind_begin none in absurd (cc)
     by (inr h) = h
 
@@ -65,7 +65,7 @@ pub unbegun-decided : (sys : System) (o : ℕ) (nils : Bool) (cut : Cut) (told :
 unfolding CutGroups
 unbegun-decided sys o nils cut told b none is = decides-by (CutGroups sys o nils cut told) b (λ h. sound cut (sym is ∙ h)) (λ h. is ∙ whole cut (by (cut-object sys o nils cut told h)) h)
   where
-    by : (told ≡ []) ⊎ IsObjectOf (kinds sys o cut) nils told → told ≡ []
+    by : (told ≡ []) ⊎ IsObjectList (kinds sys o cut) nils told → told ≡ []
     by (inl e) = e
     by (inr h) = absurd (object-not (kinds sys o cut) nils told none h)
 

@@ -10,7 +10,7 @@ use Rattle.qp_model.specs.Told.{Told, Known, Nothing, plain}
 use Rattle.qp_model.specs.ObjectShape.{StepHead, takes}
 use Rattle.qp_check_shapes.specs.GroupsRead.{ReadsAll, IsElement, Breaks, is_close, is_outer}
 use Rattle.qp_check_shapes.specs.GroupsFirst.{behind_done}
-use Rattle.qp_check_shapes.specs.ObjectRead.{Kinds, Closes, IsTurnOf, IsTailOf, EndsHere, IsSpent, BreaksOffIn, TakesOnly, ReleasesOnly, TurnsOf, FrontOf, IsObjectOf, Starts, BreaksStart, IsStepEnd, BreaksIt, ReleasesIt, IsStartEnd, GoesOn, BreaksFirst}
+use Rattle.qp_check_shapes.specs.ObjectRead.{Kinds, Closes, IsTurnOf, IsTailOf, EndsHere, IsSpent, BreaksOffIn, TakesOnly, ReleasesOnly, TurnsOf, FrontOf, IsObjectList, Starts, BreaksStart, IsStepEnd, BreaksIt, ReleasesIt, IsStartEnd, GoesOn, BreaksFirst}
 use Rattle.qp_check_shapes.specs.ObjectFirst.{taken_entry, behind_head, spent_first, is_spent, behind_begin}
 use Rattle.qp_check_shapes.proofs.GroupsDecideLemmas.{decides-as}
 use Rattle.qp_check_shapes.proofs.GroupsReadLemmas.{Parts, reads-close}
@@ -200,17 +200,17 @@ start-breaks k nils laws told rest b reads none d =
     from (BreaksFirst on h) = (on, h)
 
 -- the whole list
-pub object-decided : (k : Kinds) (nils : Bool) (told rest : List Told) (b : Bool) → Some rest ≡ behind_begin told → Decides b (IsStartEnd k nils rest) → Decides b (IsObjectOf k nils told)
-object-decided k nils told rest b begins d = decides-as (IsStartEnd k nils rest) (IsObjectOf k nils told) b to from d
+pub object-decided : (k : Kinds) (nils : Bool) (told rest : List Told) (b : Bool) → Some rest ≡ behind_begin told → Decides b (IsStartEnd k nils rest) → Decides b (IsObjectList k nils told)
+object-decided k nils told rest b begins d = decides-as (IsStartEnd k nils rest) (IsObjectList k nils told) b to from d
   where
     first : told ≡ plain item.Begin ∷ rest
     first = begin-is told rest begins
 
-    to : IsStartEnd k nils rest → IsObjectOf k nils told
+    to : IsStartEnd k nils rest → IsObjectList k nils told
     to (GoesOn c) = Starts rest c first
     to (BreaksFirst on h) = BreaksStart rest on h first
 
-    from : IsObjectOf k nils told → IsStartEnd k nils rest
+    from : IsObjectList k nils told → IsStartEnd k nils rest
     from (Starts body c is) =
         let both : plain item.Begin ∷ body ≡ plain item.Begin ∷ rest = sym is ∙ first in
         let same : body ≡ rest = cc in GoesOn (subst (Closes (k.act None) (TurnsOf k nils)) same c)
@@ -218,6 +218,6 @@ object-decided k nils told rest b begins d = decides-as (IsStartEnd k nils rest)
         let both : plain item.Begin ∷ body ≡ plain item.Begin ∷ rest = sym is ∙ first in
         let same : body ≡ rest = cc in BreaksFirst on (subst (Breaks (k.act None) k.first) same h)
 
-pub object-not : (k : Kinds) (nils : Bool) (told : List Told) → None ≡ behind_begin told → IsObjectOf k nils told → ⊥
+pub object-not : (k : Kinds) (nils : Bool) (told : List Told) → None ≡ behind_begin told → IsObjectList k nils told → ⊥
 object-not k nils told none (Starts body c is) = let some : behind_begin told ≡ Some body = ap behind_begin is in cc
 object-not k nils told none (BreaksStart body on h is) = let some : behind_begin told ≡ Some body = ap behind_begin is in cc

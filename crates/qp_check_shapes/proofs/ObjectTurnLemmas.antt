@@ -8,7 +8,7 @@ use Rattle.qp_model.specs.declared.bodies.Body.{Body}
 use Rattle.qp_model.specs.declared.bodies.Body.TheVariants as item
 use Rattle.qp_model.specs.Told.{Told, Known, Nothing, plain}
 use Rattle.qp_model.specs.ObjectShape.{StepHead, is_head, takes}
-use Rattle.qp_check_shapes.specs.ShapeRelease.{Leaves}
+use Rattle.qp_check_shapes.specs.ShapeRelease.{IsUnambiguous}
 use Rattle.qp_check_shapes.specs.GroupsRead.{ReadsAll, IsElement, is_close, is_outer}
 use Rattle.qp_check_shapes.specs.GroupsFirst.{behind_done}
 use Rattle.qp_check_shapes.specs.ObjectRead.{Closes, looks_at_queue, IsTurnOf, Steps, Finds}
@@ -64,7 +64,7 @@ step-told e head body h =
 
 -- groups, `done`, and more
 pub closes-leaves : (W D : List Told → Type 0) → Parts is_outer W → (told rest more : List Told) (r : Option (List Told)) → ReadsAll (IsElement W) told rest → Some more ≡ behind_done rest
-    → Leaves D more r → Leaves (Closes W D) told r
+    → IsUnambiguous D more r → IsUnambiguous (Closes W D) told r
 unfolding Closes
 closes-leaves W D laws told rest more r reads done l = leaves-at (Closes W D) told r sound whole
   where
@@ -88,7 +88,7 @@ closes-leaves W D laws told rest more r reads done l = leaves-at (Closes W D) to
         let behind : more ≡ c.1 ++ other = cc in
         leaves-whole D more r l c.1 other behind c.3
 
-pub closes-none : (W D : List Told → Type 0) → Parts is_outer W → (told rest : List Told) → ReadsAll (IsElement W) told rest → None ≡ behind_done rest → Leaves (Closes W D) told None
+pub closes-none : (W D : List Told → Type 0) → Parts is_outer W → (told rest : List Told) → ReadsAll (IsElement W) told rest → None ≡ behind_done rest → IsUnambiguous (Closes W D) told None
 unfolding Closes
 closes-none W D laws told rest reads none = leaves-at (Closes W D) told None (λ left is. absurd (cc)) whole
   where
@@ -120,7 +120,7 @@ turn-steps act release nils told g other e h (Steps d head body s c k) is =
     (body, subst (λ x. Closes (act (Some x)) (release x) body) same c, ap behind_head all ∙ tells.1)
 
 pub turn-body : (act : Option Entry → List Told → Type 0) (release : Entry → List Told → Type 0) (nils : Bool) (told body : List Told) (e : Entry) (r : Option (List Told))
-    → Some e ≡ taken_entry told → Some body ≡ behind_head told → Leaves (Closes (act (Some e)) (release e)) body r → Leaves (IsTurnOf act release nils) told r
+    → Some e ≡ taken_entry told → Some body ≡ behind_head told → IsUnambiguous (Closes (act (Some e)) (release e)) body r → IsUnambiguous (IsTurnOf act release nils) told r
 turn-body act release nils told body e r taken_is head_is l = leaves-at (IsTurnOf act release nils) told r sound whole
   where
     sound : (left : List Told) → r ≡ Some left → (g : List Told) × IsTurnOf act release nils g × (told ≡ g ++ left)
@@ -137,7 +137,7 @@ turn-body act release nils told body e r taken_is head_is l = leaves-at (IsTurnO
         leaves-whole (Closes (act (Some e)) (release e)) body r l step.0 other behind step.1
 
 pub turn-headless : (act : Option Entry → List Told → Type 0) (release : Entry → List Told → Type 0) (nils : Bool) (told : List Told) (e : Entry)
-    → Some e ≡ taken_entry told → None ≡ behind_head told → Leaves (IsTurnOf act release nils) told None
+    → Some e ≡ taken_entry told → None ≡ behind_head told → IsUnambiguous (IsTurnOf act release nils) told None
 turn-headless act release nils told e taken_is none = leaves-at (IsTurnOf act release nils) told None (λ left is. absurd (cc)) whole
   where
     whole : (g other : List Told) → told ≡ g ++ other → IsTurnOf act release nils g → None ≡ Some other
@@ -159,7 +159,7 @@ look-is nils (t ∷ ts) rest h = by t.known refl h
     by known is_known h = absurd (none-some _ h)
 
 pub turn-look : (act : Option Entry → List Told → Type 0) (release : Entry → List Told → Type 0) (nils : Bool) (told : List Told) (r : Option (List Told))
-    → None ≡ taken_entry told → r ≡ behind_look nils told → Leaves (IsTurnOf act release nils) told r
+    → None ≡ taken_entry told → r ≡ behind_look nils told → IsUnambiguous (IsTurnOf act release nils) told r
 turn-look act release nils told r none r_is = leaves-at (IsTurnOf act release nils) told r sound whole
   where
     sound : (left : List Told) → r ≡ Some left → (g : List Told) × IsTurnOf act release nils g × (told ≡ g ++ left)

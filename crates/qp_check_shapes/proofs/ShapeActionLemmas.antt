@@ -7,18 +7,18 @@ use Rattle.std.proofs.lemmas.Bool.{false≢true}
 use Rattle.qp_model.specs.declared.systems.System.{System}
 use Rattle.qp_model.specs.declared.bodies.Entry.{Entry}
 use Rattle.qp_model.specs.Record.{entry}
-use Rattle.qp_model.specs.Told.{Told, given}
+use Rattle.qp_model.specs.Told.{Told, told_new}
 use Rattle.qp_model.specs.Calls as call
 use Rattle.qp_model.specs.Parts.{is_static, sizes_of}
 use Rattle.qp_model.specs.Sites.{ring_of}
 use Rattle.qp_model.specs.Shapes.{Fits, FitsAny, Publishes}
 use Rattle.qp_model.proofs.LineLemmas.{same_number}
-use Rattle.qp_check_shapes.specs.ShapeRelease.{Leaves}
+use Rattle.qp_check_shapes.specs.ShapeRelease.{IsUnambiguous}
 use Rattle.qp_check_shapes.specs.ShapeUnit.{IsUnit, goes_to, behind_entry, plain_first, given_first, behind_unit}
 use Rattle.qp_check_shapes.specs.ShapeAction.{IsWhole, OfUnit, OfPublication}
 use Rattle.qp_check_shapes.specs.declared.shape_stage.PublishStage.{PublishStage}
 use Rattle.qp_check_shapes.specs.declared.shape_stage.PublishStage.TheVariants as stage
-use Rattle.qp_check_shapes.specs.ShapePublication.{next, run, behind_stage, is_whole, else_behind}
+use Rattle.qp_check_shapes.specs.ShapePublication.{next, run, behind_stage, is_whole_publication, else_behind}
 use Rattle.qp_check_shapes.proofs.ShapeReleaseLemmas.{leaves}
 use Rattle.qp_check_shapes.proofs.ShapeWholeLemmas.{unit-whole}
 use Rattle.qp_check_shapes.proofs.ShapeUnitLemmas.{unit-leaves}
@@ -27,19 +27,19 @@ use Rattle.qp_check_shapes.proofs.ShapeRunLemmas.{end_of}
 use Rattle.qp_check_shapes.proofs.ShapePublishLemmas.{answer_of, IsPublication, start-sound}
 use Rattle.qp_check_shapes.proofs.ShapeReadLemmas.{start-whole}
 
-whole-is : (s : PublishStage) → is_whole s ≡ true → s ≡ stage.Whole
+whole-is : (s : PublishStage) → is_whole_publication s ≡ true → s ≡ stage.Whole
 whole-is stage.Whole h = refl
 whole-is s h = absurd (false≢true h)
 
 -- what is read from a stage on is made whole
 pub stage-sound : (sys : System) (o : ℕ) (told : List Told) (s : PublishStage) (rest : List Told) → behind_stage sys o told s ≡ Some rest → (g : List Told) × (run sys o g s ≡ Some stage.Whole) × (told ≡ g ++ rest)
 unfolding behind_stage run
-stage-sound sys o [] s rest h = by (is_whole s) refl h
+stage-sound sys o [] s rest h = by (is_whole_publication s) refl h
   where
-    by : (b : Bool) → is_whole s ≡ b → cond b (Some []) None ≡ Some rest → (g : List Told) × (run sys o g s ≡ Some stage.Whole) × ([] ≡ g ++ rest)
+    by : (b : Bool) → is_whole_publication s ≡ b → cond b (Some []) None ≡ Some rest → (g : List Told) × (run sys o g s ≡ Some stage.Whole) × ([] ≡ g ++ rest)
     by true is h = ([], ap Some (whole-is s is), cc)
     by false is h = absurd (cc)
-stage-sound sys o (t ∷ ts) s rest h = by (is_whole s) refl h (λ x. stage-sound sys o ts x rest)
+stage-sound sys o (t ∷ ts) s rest h = by (is_whole_publication s) refl h (λ x. stage-sound sys o ts x rest)
   where
     on : (r : Option PublishStage) → next sys o s t.body t.known ≡ r → option_and_then (λ x. behind_stage sys o ts x) r ≡ Some rest
         → ((x : PublishStage) → behind_stage sys o ts x ≡ Some rest → (g : List Told) × (run sys o g x ≡ Some stage.Whole) × (ts ≡ g ++ rest))
@@ -47,13 +47,13 @@ stage-sound sys o (t ∷ ts) s rest h = by (is_whole s) refl h (λ x. stage-soun
     on None is h behind = absurd (cc)
     on (Some x) is h behind = let found = behind x h in (t ∷ found.0, rw is found.1, ap (λ us. t ∷ us) found.2)
 
-    by : (b : Bool) → is_whole s ≡ b → cond b (Some (t ∷ ts)) (option_and_then (λ x. behind_stage sys o ts x) (next sys o s t.body t.known)) ≡ Some rest
+    by : (b : Bool) → is_whole_publication s ≡ b → cond b (Some (t ∷ ts)) (option_and_then (λ x. behind_stage sys o ts x) (next sys o s t.body t.known)) ≡ Some rest
         → ((x : PublishStage) → behind_stage sys o ts x ≡ Some rest → (g : List Told) × (run sys o g x ≡ Some stage.Whole) × (ts ≡ g ++ rest))
         → (g : List Told) × (run sys o g s ≡ Some stage.Whole) × (t ∷ ts ≡ g ++ rest)
     by true is h behind = ([], ap Some (whole-is s is), cc)
     by false is h behind = on (next sys o s t.body t.known) refl h behind
 
-goes-on : (sys : System) (o : ℕ) (t : Told) (s x : PublishStage) → next sys o s t.body t.known ≡ Some x → is_whole s ≡ false
+goes-on : (sys : System) (o : ℕ) (t : Told) (s x : PublishStage) → next sys o s t.body t.known ≡ Some x → is_whole_publication s ≡ false
 unfolding next
 goes-on sys o t stage.Whole x h = absurd (none-some _ h)
 goes-on sys o t s x h = refl
@@ -78,7 +78,7 @@ made-none sys o p k sig r (t ∷ ts) rest h =
 
 given-none : (sys : System) (o : ℕ) (now : Option Entry) (p n k from sig free : ℕ) (pars : List ℕ) (ts rest : List Told)
     → nat_lt 0 free ≡ true → goes_to (sizes_of sys) (length pars) p ≡ true → is_static sys sig ≡ false → run sys o ts (stage.Given p k sig) ≡ Some stage.Whole
-    → behind_unit sys o now (given p n k from sig pars free ∷ (ts ++ rest)) ≡ None
+    → behind_unit sys o now (told_new p n k from sig pars free ∷ (ts ++ rest)) ≡ None
 unfolding run next given_first
 given-none sys o now p n k from sig free pars [] rest above goes pooled h = absurd (cc)
 given-none sys o now p n k from sig free pars (t ∷ ts) rest above goes pooled h =
@@ -113,11 +113,11 @@ of-publication : (sys : System) (o : ℕ) (now : Option Entry) (g : List Told) �
 of-publication sys o now g h = OfPublication h.0 h.1 None (fits-publication sys o now h.0 h.1 true g h.2)
 
 pub unit-sound : (sys : System) (o : ℕ) (now : Option Entry) (told rest : List Told) → behind_unit sys o now told ≡ Some rest → (g : List Told) × IsUnit sys o now g × (told ≡ g ++ rest)
-unfolding Leaves
-unit-sound sys o now told rest h = let found = subst (λ r. Leaves (IsUnit sys o now) told r) h (unit-leaves sys o now told) in found.0
+unfolding IsUnambiguous
+unit-sound sys o now told rest h = let found = subst (λ r. IsUnambiguous (IsUnit sys o now) told r) h (unit-leaves sys o now told) in found.0
 
 -- an action is read off
-pub action-leaves : (sys : System) (o : ℕ) (now : Option Entry) (told : List Told) → Leaves (IsWhole sys o now) told (else_behind (behind_unit sys o now told) (behind_stage sys o told stage.Start))
+pub action-leaves : (sys : System) (o : ℕ) (now : Option Entry) (told : List Told) → IsUnambiguous (IsWhole sys o now) told (else_behind (behind_unit sys o now told) (behind_stage sys o told stage.Start))
 action-leaves sys o now told = leaves (IsWhole sys o now) (λ us. else_behind (behind_unit sys o now us) (behind_stage sys o us stage.Start)) sound whole told
   where
     sound : (told rest : List Told) → else_behind (behind_unit sys o now told) (behind_stage sys o told stage.Start) ≡ Some rest → (g : List Told) × IsWhole sys o now g × (told ≡ g ++ rest)

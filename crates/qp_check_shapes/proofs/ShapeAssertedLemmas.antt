@@ -9,7 +9,7 @@ use Rattle.qp_model.specs.declared.bodies.Entry.{Entry}
 use Rattle.qp_model.specs.declared.bodies.Body.{Body}
 use Rattle.qp_model.specs.declared.bodies.Body.TheVariants as item
 use Rattle.qp_model.specs.Record.{entry}
-use Rattle.qp_model.specs.Told.{Told, Known, Nothing, Free, plain, given}
+use Rattle.qp_model.specs.Told.{Told, Known, Nothing, Free, plain, told_new}
 use Rattle.qp_model.specs.Calls as call
 use Rattle.qp_model.specs.Calls.{AtQueue, AtFront}
 use Rattle.qp_model.specs.Parts.{is_static, sizes_of}
@@ -18,7 +18,7 @@ use Rattle.qp_check_shapes.specs.ShapeUnit.{goes_to, some_static}
 use Rattle.qp_check_shapes.proofs.ShapeReleaseLemmas.{when-passed}
 use Rattle.qp_check_shapes.proofs.ShapePostLemmas.{new-block, again-static, again-pooled}
 use Rattle.qp_check_shapes.proofs.ShapePartLemmas.{goes-first}
-use Rattle.qp_check_shapes.specs.ShapeRelease.{Leaves}
+use Rattle.qp_check_shapes.specs.ShapeRelease.{IsUnambiguous}
 use Rattle.qp_check_shapes.specs.ShapeAssertion.{IsAsserted, Asserts, no_entry_first, behind_no_entry, no_lifo_first, behind_no_lifo, cut_first, behind_cut, new_cut_first, behind_new_cut, recall_cut_first, behind_recall_reference, behind_recall_cut, plain_cut, given_cut, assertion_first, behind_assertion}
 use Rattle.qp_check_shapes.proofs.ShapeReleaseLemmas.{leaves}
 use Rattle.qp_check_shapes.proofs.ShapeSoundLemmas.{passed}
@@ -49,19 +49,19 @@ no_lifo-sound o (t ∷ ts) rest h = by t.body t.known refl refl h
 -- a post or a last-in post of a new event that finds no entry
 cut-asserted : (sys : System) (o : ℕ) (now : Option Entry) (p n b from sig free r : ℕ) (pars : List ℕ) (told rest : List Told)
     → nat_lt 0 free ≡ true → goes_to (sizes_of sys) (length pars) p ≡ true → is_static sys sig ≡ false → behind_cut o told ≡ Some rest
-    → (g : List Told) × IsAsserted sys o now (given p n b from sig pars free ∷ plain (item.Inc p b r) ∷ g) × (told ≡ g ++ rest)
+    → (g : List Told) × IsAsserted sys o now (told_new p n b from sig pars free ∷ plain (item.Inc p b r) ∷ g) × (told ≡ g ++ rest)
 unfolding FitsAny Fits PostsNew PostsNewFront Posts PostsFront MakesBlock
 cut-asserted sys o now p n b from sig free r pars [] rest above goes pooled k = absurd (cc)
 cut-asserted sys o now p n b from sig free r pars (t ∷ ts) rest above goes pooled k = by t.body t.known refl refl k
   where
     head : List Told
-    head = given p n b from sig pars free ∷ plain (item.Inc p b r) ∷ []
+    head = told_new p n b from sig pars free ∷ plain (item.Inc p b r) ∷ []
 
     makes : MakesNew (is_static sys sig) (sizes_of sys) sig pars None head (entry p b r)
     makes = new-block (is_static sys sig) (sizes_of sys) sig pars None head (entry p b r) pooled (p, n, b, from, free, r, refl, refl, goes-first (sizes_of sys) (length pars) p goes, above)
 
     by : (body : Body) (known : Known) → t.body ≡ body → t.known ≡ known → cut_first o body known ts ≡ Some rest
-        → (g : List Told) × IsAsserted sys o now (given p n b from sig pars free ∷ plain (item.Inc p b r) ∷ g) × (t ∷ ts ≡ g ++ rest)
+        → (g : List Told) × IsAsserted sys o now (told_new p n b from sig pars free ∷ plain (item.Inc p b r) ∷ g) × (t ∷ ts ≡ g ++ rest)
     by (item.NoEntry a f l m) Nothing is_body is_known h =
         let whole : t ≡ plain (item.NoEntry a f l m) = told-is t _ _ is_body is_known in
         let behind : ts ≡ rest = cc in
@@ -76,12 +76,12 @@ cut-asserted sys o now p n b from sig free r pars (t ∷ ts) rest above goes poo
 
 new-asserted : (sys : System) (o : ℕ) (now : Option Entry) (p n b from sig free : ℕ) (pars : List ℕ) (told rest : List Told)
     → nat_lt 0 free ≡ true → goes_to (sizes_of sys) (length pars) p ≡ true → is_static sys sig ≡ false → behind_new_cut o p b told ≡ Some rest
-    → (g : List Told) × IsAsserted sys o now (given p n b from sig pars free ∷ g) × (told ≡ g ++ rest)
+    → (g : List Told) × IsAsserted sys o now (told_new p n b from sig pars free ∷ g) × (told ≡ g ++ rest)
 new-asserted sys o now p n b from sig free pars [] rest above goes pooled k = absurd (cc)
 new-asserted sys o now p n b from sig free pars (t ∷ ts) rest above goes pooled k = by t.body t.known refl refl k
   where
     by : (body : Body) (known : Known) → t.body ≡ body → t.known ≡ known → new_cut_first o p b body known ts ≡ Some rest
-        → (g : List Told) × IsAsserted sys o now (given p n b from sig pars free ∷ g) × (t ∷ ts ≡ g ++ rest)
+        → (g : List Told) × IsAsserted sys o now (told_new p n b from sig pars free ∷ g) × (t ∷ ts ≡ g ++ rest)
     by (item.Inc q c r) Nothing is_body is_known k =
         let test = passed _ _ rest k in
         let tests = and_parts (q == p) (c == b) test.0 in
@@ -177,5 +177,5 @@ assertion-sound sys o now (t ∷ ts) rest h = by t.known refl h
     by known is h = absurd (none-some _ h)
 
 -- a call that ends in its assertion is read off
-pub assertion-leaves : (sys : System) (o : ℕ) (now : Option Entry) (told : List Told) → Leaves (IsAsserted sys o now) told (behind_assertion sys o now told)
+pub assertion-leaves : (sys : System) (o : ℕ) (now : Option Entry) (told : List Told) → IsUnambiguous (IsAsserted sys o now) told (behind_assertion sys o now told)
 assertion-leaves sys o now told = leaves (IsAsserted sys o now) (behind_assertion sys o now) (assertion-sound sys o now) (assertion-whole sys o now) told

@@ -12,7 +12,7 @@ use Rattle.qp_model.specs.Told.{Told, Known, Nothing, Free, Member, plain}
 use Rattle.qp_model.specs.Parts.{is_static, sizes_of}
 use Rattle.qp_check_shapes.specs.ShapeUnit.{is_used, goes_to, had_room, is_static_entry, is_static_now, works_on, works_on_static, some_static, behind_again, behind_new, plain_first, given_first, member_first, unit_first, behind_unit}
 use Rattle.qp_check_shapes.specs.ShapeAssertion.{behind_no_entry, behind_new_cut, plain_cut, given_cut, assertion_first, behind_assertion}
-use Rattle.qp_check_shapes.specs.ShapePublication.{is_done}
+use Rattle.qp_check_shapes.specs.ShapePublication.{is_nothing_behind}
 use Rattle.qp_check_shapes.specs.ShapeFront.{again_front, new_front, plain_front, given_front, unit_front_first, unit_front}
 use Rattle.qp_check_shapes.proofs.ShapeSoundLemmas.{passed}
 use Rattle.qp_check_shapes.proofs.ShapeFrontLemmas.{Front, Leaf, leaf-whole, done-either, lift, release-front-sound, release-front-whole, again-sound, again-whole, new-sound, new-whole}
@@ -30,8 +30,8 @@ plain-sound sys o now body ts h = done-either (plain_first sys o now body) (plai
 
 -- it is the only record of a unit,
 leaf-unit : (sys : System) (o : ℕ) (now : Option Entry) (body : Body) (ts back : List Told) → Leaf (plain_first sys o now body) → plain_first sys o now body (ts ++ back) ≡ Some []
-    → (is_done (plain_first sys o now body ts) || is_done (plain_cut sys o now body ts)) ≡ true
-leaf-unit sys o now body ts back leaf h = or_left (is_done (plain_first sys o now body ts)) (is_done (plain_cut sys o now body ts)) (leaf-whole (plain_first sys o now body) ts back leaf h)
+    → (is_nothing_behind (plain_first sys o now body ts) || is_nothing_behind (plain_cut sys o now body ts)) ≡ true
+leaf-unit sys o now body ts back leaf h = or_left (is_nothing_behind (plain_first sys o now body ts)) (is_nothing_behind (plain_cut sys o now body ts)) (leaf-whole (plain_first sys o now body) ts back leaf h)
 
 plain-unit : (sys : System) (o : ℕ) (now : Option Entry) (body : Body) (ts back : List Told) → plain_first sys o now body (ts ++ back) ≡ Some [] → plain_front sys o now body ts ≡ true
 unfolding plain_front plain_first plain_cut
@@ -59,8 +59,8 @@ plain-unit sys o now body ts back h = absurd (none-some _ h)
 
 -- or of an assertion
 leaf-cut : (sys : System) (o : ℕ) (now : Option Entry) (body : Body) (ts back : List Told) → Leaf (plain_cut sys o now body) → plain_cut sys o now body (ts ++ back) ≡ Some []
-    → (is_done (plain_first sys o now body ts) || is_done (plain_cut sys o now body ts)) ≡ true
-leaf-cut sys o now body ts back leaf h = or_right (is_done (plain_first sys o now body ts)) (is_done (plain_cut sys o now body ts)) (leaf-whole (plain_cut sys o now body) ts back leaf h)
+    → (is_nothing_behind (plain_first sys o now body ts) || is_nothing_behind (plain_cut sys o now body ts)) ≡ true
+leaf-cut sys o now body ts back leaf h = or_right (is_nothing_behind (plain_first sys o now body ts)) (is_nothing_behind (plain_cut sys o now body ts)) (leaf-whole (plain_cut sys o now body) ts back leaf h)
 
 plain-asserted : (sys : System) (o : ℕ) (now : Option Entry) (body : Body) (ts back : List Told) → plain_cut sys o now body (ts ++ back) ≡ Some [] → plain_front sys o now body ts ≡ true
 unfolding plain_front plain_first plain_cut
@@ -103,7 +103,7 @@ first-sound sys o now body (Free free) ts h = given-sound sys o free body ts h
 first-sound sys o now body (Member is) ts h = done-either (unit_first sys o now body (Member is)) (assertion_first sys o now body (Member is)) ts h
 first-sound sys o now body known ts h = absurd (false≢true h)
 
-member-whole : (body : Body) (ts back : List Told) → member_first body (ts ++ back) ≡ Some [] → is_done (member_first body ts) ≡ true
+member-whole : (body : Body) (ts back : List Told) → member_first body (ts ++ back) ≡ Some [] → is_nothing_behind (member_first body ts) ≡ true
 member-whole (item.Same sig n) ts back h = leaf-whole (member_first (item.Same sig n)) ts back (true, λ rest. refl) h
 member-whole body ts back h = absurd (none-some _ h)
 
@@ -113,7 +113,7 @@ unfolding unit_front_first
 first-whole sys o now body Nothing ts back (inl h) = plain-unit sys o now body ts back h
 first-whole sys o now body Nothing ts back (inr h) = plain-asserted sys o now body ts back h
 first-whole sys o now body (Free free) ts back h = given-whole sys o free body ts back h
-first-whole sys o now body (Member is) ts back (inl h) = or_left (is_done (member_first body ts)) (is_done (assertion_first sys o now body (Member is) ts)) (member-whole body ts back h)
+first-whole sys o now body (Member is) ts back (inl h) = or_left (is_nothing_behind (member_first body ts)) (is_nothing_behind (assertion_first sys o now body (Member is) ts)) (member-whole body ts back h)
 first-whole sys o now body known ts back (inl h) = absurd (cc)
 first-whole sys o now body known ts back (inr h) = absurd (cc)
 

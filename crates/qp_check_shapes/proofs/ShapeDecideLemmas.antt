@@ -13,13 +13,13 @@ use Rattle.qp_model.specs.Calls.{Call, Answer, Granted, Refused, Flushed, AtQueu
 use Rattle.qp_model.specs.Parts.{sizes_of}
 use Rattle.qp_model.specs.Shapes.{Fits, FitsAny, NoBlockFor, Publishes}
 use Rattle.qp_model.specs.Groups.{is_post, ends_in_post}
-use Rattle.qp_check_shapes.specs.ShapeRelease.{Leaves}
+use Rattle.qp_check_shapes.specs.ShapeRelease.{IsUnambiguous}
 use Rattle.qp_check_shapes.specs.ShapeUnit.{is_single}
 use Rattle.qp_check_shapes.specs.ShapeAssertion.{IsAsserted, Asserts, behind_assertion}
 use Rattle.qp_check_shapes.specs.ShapeAction.{IsCut, StopsInside}
 use Rattle.qp_check_shapes.specs.declared.shape_stage.PublishStage.{PublishStage}
 use Rattle.qp_check_shapes.specs.declared.shape_stage.PublishStage.TheVariants as stage
-use Rattle.qp_check_shapes.specs.ShapePublication.{run, is_done, is_cut}
+use Rattle.qp_check_shapes.specs.ShapePublication.{run, is_nothing_behind, is_cut_publication}
 use Rattle.qp_check_shapes.proofs.ShapePartLemmas.{first-used}
 use Rattle.qp_check_shapes.proofs.ShapeAssertionLemmas.{assertion-whole, no_block-asserted}
 use Rattle.qp_check_shapes.proofs.ShapeAssertedLemmas.{assertion-leaves}
@@ -37,12 +37,12 @@ decides false P sound whole = λ p. absurd (none (whole p))
     none : false ≡ true → ⊥
     none h = cc
 
-pub done-is : (r : Option (List Told)) → is_done r ≡ true → r ≡ Some []
+pub done-is : (r : Option (List Told)) → is_nothing_behind r ≡ true → r ≡ Some []
 done-is None h = absurd (cc)
 done-is (Some []) h = refl
 done-is (Some (t ∷ ts)) h = absurd (cc)
 
-cut-is : (r : Option PublishStage) → is_cut r ≡ true → r ≡ Some stage.Cut
+cut-is : (r : Option PublishStage) → is_cut_publication r ≡ true → r ≡ Some stage.Cut
 cut-is None h = absurd (cc)
 cut-is (Some stage.Cut) h = refl
 cut-is (Some s) h = absurd (cc)
@@ -52,20 +52,20 @@ asserted-cut sys o now g (Asserts x answer single fits cut) = (x, answer, fits, 
 
 -- all of a list is a call that asserts, and no publication
 pub done-asserted : (sys : System) (o : ℕ) (now : Option Entry) (told : List Told) → behind_assertion sys o now told ≡ Some [] → IsAsserted sys o now told
-unfolding Leaves
+unfolding IsUnambiguous
 done-asserted sys o now told h =
-    let found = subst (λ r. Leaves (IsAsserted sys o now) told r) h (assertion-leaves sys o now told) in
+    let found = subst (λ r. IsUnambiguous (IsAsserted sys o now) told r) h (assertion-leaves sys o now told) in
     subst (λ us. IsAsserted sys o now us) (sym (found.0.2 ∙ append-nil found.0.0)) found.0.1
 
-asserted-done : (sys : System) (o : ℕ) (now : Option Entry) (g : List Told) → IsAsserted sys o now g → is_done (behind_assertion sys o now g) ≡ true
+asserted-done : (sys : System) (o : ℕ) (now : Option Entry) (g : List Told) → IsAsserted sys o now g → is_nothing_behind (behind_assertion sys o now g) ≡ true
 asserted-done sys o now g h =
     let whole : behind_assertion sys o now g ≡ Some [] = subst (λ us. behind_assertion sys o now us ≡ Some []) (append-nil g) (assertion-whole sys o now g [] h) in
-    ap is_done whole
+    ap is_nothing_behind whole
 
-asserts-sound : (sys : System) (o : ℕ) (now : Option Entry) (told : List Told) → (is_done (behind_assertion sys o now told) || is_cut (run sys o told stage.Start)) ≡ true → IsCut sys o now told
-asserts-sound sys o now told h = by (or_cases (is_done (behind_assertion sys o now told)) (is_cut (run sys o told stage.Start)) h)
+asserts-sound : (sys : System) (o : ℕ) (now : Option Entry) (told : List Told) → (is_nothing_behind (behind_assertion sys o now told) || is_cut_publication (run sys o told stage.Start)) ≡ true → IsCut sys o now told
+asserts-sound sys o now told h = by (or_cases (is_nothing_behind (behind_assertion sys o now told)) (is_cut_publication (run sys o told stage.Start)) h)
   where
-    by : (is_done (behind_assertion sys o now told) ≡ true) ⊎ (is_cut (run sys o told stage.Start) ≡ true) → IsCut sys o now told
+    by : (is_nothing_behind (behind_assertion sys o now told) ≡ true) ⊎ (is_cut_publication (run sys o told stage.Start) ≡ true) → IsCut sys o now told
     by (inl h) = asserted-cut sys o now told (done-asserted sys o now told (done-is (behind_assertion sys o now told) h))
     by (inr h) =
         let publication = start-sound sys o false told (cut-is (run sys o told stage.Start) h) in
@@ -102,16 +102,16 @@ cut-read sys o now g h = by h.0 h.2
     by call.Flush fits = absurd (flush-uncut sys o now h.1 g fits h.3)
     by x fits = single x refl fits
 
-asserts-whole : (sys : System) (o : ℕ) (now : Option Entry) (told : List Told) → IsCut sys o now told → (is_done (behind_assertion sys o now told) || is_cut (run sys o told stage.Start)) ≡ true
+asserts-whole : (sys : System) (o : ℕ) (now : Option Entry) (told : List Told) → IsCut sys o now told → (is_nothing_behind (behind_assertion sys o now told) || is_cut_publication (run sys o told stage.Start)) ≡ true
 asserts-whole sys o now told h = by (cut-read sys o now told h)
   where
-    by : (run sys o told stage.Start ≡ Some stage.Cut) ⊎ IsAsserted sys o now told → (is_done (behind_assertion sys o now told) || is_cut (run sys o told stage.Start)) ≡ true
-    by (inl is) = or_right (is_done (behind_assertion sys o now told)) (is_cut (run sys o told stage.Start)) (ap is_cut is)
-    by (inr asserted) = or_left (is_done (behind_assertion sys o now told)) (is_cut (run sys o told stage.Start)) (asserted-done sys o now told asserted)
+    by : (run sys o told stage.Start ≡ Some stage.Cut) ⊎ IsAsserted sys o now told → (is_nothing_behind (behind_assertion sys o now told) || is_cut_publication (run sys o told stage.Start)) ≡ true
+    by (inl is) = or_right (is_nothing_behind (behind_assertion sys o now told)) (is_cut_publication (run sys o told stage.Start)) (ap is_cut_publication is)
+    by (inr asserted) = or_left (is_nothing_behind (behind_assertion sys o now told)) (is_cut_publication (run sys o told stage.Start)) (asserted-done sys o now told asserted)
 
-pub asserts-decides : (sys : System) (o : ℕ) (now : Option Entry) (told : List Told) → Decides (is_done (behind_assertion sys o now told) || is_cut (run sys o told stage.Start)) (IsCut sys o now told)
+pub asserts-decides : (sys : System) (o : ℕ) (now : Option Entry) (told : List Told) → Decides (is_nothing_behind (behind_assertion sys o now told) || is_cut_publication (run sys o told stage.Start)) (IsCut sys o now told)
 asserts-decides sys o now told =
-    decides (is_done (behind_assertion sys o now told) || is_cut (run sys o told stage.Start)) (IsCut sys o now told) (asserts-sound sys o now told) (asserts-whole sys o now told)
+    decides (is_nothing_behind (behind_assertion sys o now told) || is_cut_publication (run sys o told stage.Start)) (IsCut sys o now told) (asserts-sound sys o now told) (asserts-whole sys o now told)
 
 -- what is read is a front of a publication
 pub read-front : (sys : System) (o : ℕ) (now : Option Entry) (t : Told) (ts : List Told) → is_some (run sys o (t ∷ ts) stage.Start) ≡ true

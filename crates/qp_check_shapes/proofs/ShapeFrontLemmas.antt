@@ -18,7 +18,7 @@ use Rattle.qp_check_shapes.specs.ShapeUnit.{had_room, again_first, behind_again,
 use Rattle.qp_check_shapes.specs.ShapeAssertion.{no_entry_first, behind_no_entry, cut_first, behind_cut, new_cut_first, behind_new_cut}
 use Rattle.qp_check_shapes.specs.declared.shape_stage.PublishStage.{PublishStage}
 use Rattle.qp_check_shapes.specs.declared.shape_stage.PublishStage.TheVariants as stage
-use Rattle.qp_check_shapes.specs.ShapePublication.{released, run, is_done}
+use Rattle.qp_check_shapes.specs.ShapePublication.{released, run, is_nothing_behind}
 use Rattle.qp_check_shapes.specs.ShapeFront.{release_front, entry_front_first, entry_front, again_front_first, again_front, new_front_first, new_front}
 use Rattle.qp_check_shapes.proofs.ShapeReleaseLemmas.{when-passed, release-sound, release-whole}
 use Rattle.qp_check_shapes.proofs.ShapeSoundLemmas.{passed}
@@ -35,23 +35,23 @@ Front F G ts = (back : List Told) × ((F (ts ++ back) ≡ Some []) ⊎ (G (ts ++
 abbrev pub Leaf : (List Told → Option (List Told)) → Type 0
 Leaf F = (test : Bool) × ((rest : List Told) → F rest ≡ when test rest)
 
-done-when : (test : Bool) (ts back : List Told) → test ≡ true → ts ++ back ≡ [] → is_done (when test ts) ≡ true
+done-when : (test : Bool) (ts back : List Told) → test ≡ true → ts ++ back ≡ [] → is_nothing_behind (when test ts) ≡ true
 done-when true [] back h e = refl
 done-when true (t ∷ ts) back h e = absurd (cc)
 done-when false ts back h e = absurd (cc)
 
-pub leaf-whole : (F : List Told → Option (List Told)) (ts back : List Told) → Leaf F → F (ts ++ back) ≡ Some [] → is_done (F ts) ≡ true
+pub leaf-whole : (F : List Told → Option (List Told)) (ts back : List Told) → Leaf F → F (ts ++ back) ≡ Some [] → is_nothing_behind (F ts) ≡ true
 leaf-whole F ts back leaf h =
     let all = when-passed leaf.0 (ts ++ back) [] (sym (leaf.1 (ts ++ back)) ∙ h) in
-    ap is_done (leaf.1 ts) ∙ done-when leaf.0 ts back all.0 all.1
+    ap is_nothing_behind (leaf.1 ts) ∙ done-when leaf.0 ts back all.0 all.1
 
-pub done-all : (F : List Told → Option (List Told)) (ts : List Told) → is_done (F ts) ≡ true → F (ts ++ []) ≡ Some []
+pub done-all : (F : List Told → Option (List Told)) (ts : List Told) → is_nothing_behind (F ts) ≡ true → F (ts ++ []) ≡ Some []
 done-all F ts h = subst (λ us. F us ≡ Some []) (sym (append-nil ts)) (done-is (F ts) h)
 
-pub done-either : (F G : List Told → Option (List Told)) (ts : List Told) → (is_done (F ts) || is_done (G ts)) ≡ true → Front F G ts
-done-either F G ts h = by (or_cases (is_done (F ts)) (is_done (G ts)) h)
+pub done-either : (F G : List Told → Option (List Told)) (ts : List Told) → (is_nothing_behind (F ts) || is_nothing_behind (G ts)) ≡ true → Front F G ts
+done-either F G ts h = by (or_cases (is_nothing_behind (F ts)) (is_nothing_behind (G ts)) h)
   where
-    by : (is_done (F ts) ≡ true) ⊎ (is_done (G ts) ≡ true) → Front F G ts
+    by : (is_nothing_behind (F ts) ≡ true) ⊎ (is_nothing_behind (G ts) ≡ true) → Front F G ts
     by (inl k) = ([], inl (done-all F ts k))
     by (inr k) = ([], inr (done-all G ts k))
 
@@ -103,14 +103,14 @@ entry-new : (sys : System) (o : ℕ) (e : Entry) (body : Body) (known : Known) (
 unfolding entry_front_first
 entry-new sys o e (item.Full a f l m k) Nothing ts back h = release-front-whole sys o e ts back h
 entry-new sys o e (item.Post a f l m x) Nothing ts back h =
-    or_left (is_done (new_first sys e (item.Post a f l m x) Nothing ts)) (is_done (cut_first o (item.Post a f l m x) Nothing ts)) (leaf-whole (new_first sys e (item.Post a f l m x) Nothing) ts back (same_entry x e && had_room sys a f l m, λ rest. refl) h)
-entry-new sys o e (item.Lifo f l m x) Nothing ts back h = or_left (is_done (new_first sys e (item.Lifo f l m x) Nothing ts)) (is_done (cut_first o (item.Lifo f l m x) Nothing ts)) (leaf-whole (new_first sys e (item.Lifo f l m x) Nothing) ts back (same_entry x e, λ rest. refl) h)
+    or_left (is_nothing_behind (new_first sys e (item.Post a f l m x) Nothing ts)) (is_nothing_behind (cut_first o (item.Post a f l m x) Nothing ts)) (leaf-whole (new_first sys e (item.Post a f l m x) Nothing) ts back (same_entry x e && had_room sys a f l m, λ rest. refl) h)
+entry-new sys o e (item.Lifo f l m x) Nothing ts back h = or_left (is_nothing_behind (new_first sys e (item.Lifo f l m x) Nothing ts)) (is_nothing_behind (cut_first o (item.Lifo f l m x) Nothing ts)) (leaf-whole (new_first sys e (item.Lifo f l m x) Nothing) ts back (same_entry x e, λ rest. refl) h)
 entry-new sys o e body known ts back h = absurd (none-some _ h)
 
 entry-cut : (sys : System) (o : ℕ) (e : Entry) (body : Body) (known : Known) (ts back : List Told) → cut_first o body known (ts ++ back) ≡ Some [] → entry_front_first sys o e body known ts ≡ true
 unfolding entry_front_first
-entry-cut sys o e (item.NoEntry a f l m) Nothing ts back h = or_right (is_done (new_first sys e (item.NoEntry a f l m) Nothing ts)) (is_done (cut_first o (item.NoEntry a f l m) Nothing ts)) (leaf-whole (cut_first o (item.NoEntry a f l m) Nothing) ts back (true, λ rest. refl) h)
-entry-cut sys o e (item.NoLifo a f l m) Nothing ts back h = or_right (is_done (new_first sys e (item.NoLifo a f l m) Nothing ts)) (is_done (cut_first o (item.NoLifo a f l m) Nothing ts)) (leaf-whole (cut_first o (item.NoLifo a f l m) Nothing) ts back (a == o, λ rest. refl) h)
+entry-cut sys o e (item.NoEntry a f l m) Nothing ts back h = or_right (is_nothing_behind (new_first sys e (item.NoEntry a f l m) Nothing ts)) (is_nothing_behind (cut_first o (item.NoEntry a f l m) Nothing ts)) (leaf-whole (cut_first o (item.NoEntry a f l m) Nothing) ts back (true, λ rest. refl) h)
+entry-cut sys o e (item.NoLifo a f l m) Nothing ts back h = or_right (is_nothing_behind (new_first sys e (item.NoLifo a f l m) Nothing ts)) (is_nothing_behind (cut_first o (item.NoLifo a f l m) Nothing ts)) (leaf-whole (cut_first o (item.NoLifo a f l m) Nothing) ts back (a == o, λ rest. refl) h)
 entry-cut sys o e body known ts back h = absurd (none-some _ h)
 
 entry-whole : (sys : System) (o : ℕ) (e : Entry) (told back : List Told) → (behind_entry sys e (told ++ back) ≡ Some []) ⊎ (behind_cut o (told ++ back) ≡ Some []) → entry_front sys o e told ≡ true
@@ -134,13 +134,13 @@ again-post : (sys : System) (o : ℕ) (e : Entry) (body : Body) (known : Known) 
 unfolding again_front_first
 again-post sys o e (item.Full a f l m k) Nothing ts back h = release-front-whole sys o e ts back h
 again-post sys o e (item.Post a f l m x) Nothing ts back h =
-    or_left (is_done (again_first sys e (item.Post a f l m x) Nothing ts)) (is_done (no_entry_first (item.Post a f l m x) Nothing ts)) (leaf-whole (again_first sys e (item.Post a f l m x) Nothing) ts back (same_entry x e && had_room sys a f l m, λ rest. refl) h)
-again-post sys o e (item.Defer x) Nothing ts back h = or_left (is_done (again_first sys e (item.Defer x) Nothing ts)) (is_done (no_entry_first (item.Defer x) Nothing ts)) (leaf-whole (again_first sys e (item.Defer x) Nothing) ts back (same_entry x e, λ rest. refl) h)
+    or_left (is_nothing_behind (again_first sys e (item.Post a f l m x) Nothing ts)) (is_nothing_behind (no_entry_first (item.Post a f l m x) Nothing ts)) (leaf-whole (again_first sys e (item.Post a f l m x) Nothing) ts back (same_entry x e && had_room sys a f l m, λ rest. refl) h)
+again-post sys o e (item.Defer x) Nothing ts back h = or_left (is_nothing_behind (again_first sys e (item.Defer x) Nothing ts)) (is_nothing_behind (no_entry_first (item.Defer x) Nothing ts)) (leaf-whole (again_first sys e (item.Defer x) Nothing) ts back (same_entry x e, λ rest. refl) h)
 again-post sys o e body known ts back h = absurd (none-some _ h)
 
 again-cut : (sys : System) (o : ℕ) (e : Entry) (body : Body) (known : Known) (ts back : List Told) → no_entry_first body known (ts ++ back) ≡ Some [] → again_front_first sys o e body known ts ≡ true
 unfolding again_front_first
-again-cut sys o e (item.NoEntry a f l m) Nothing ts back h = or_right (is_done (again_first sys e (item.NoEntry a f l m) Nothing ts)) (is_done (no_entry_first (item.NoEntry a f l m) Nothing ts)) (leaf-whole (no_entry_first (item.NoEntry a f l m) Nothing) ts back (true, λ rest. refl) h)
+again-cut sys o e (item.NoEntry a f l m) Nothing ts back h = or_right (is_nothing_behind (again_first sys e (item.NoEntry a f l m) Nothing ts)) (is_nothing_behind (no_entry_first (item.NoEntry a f l m) Nothing ts)) (leaf-whole (no_entry_first (item.NoEntry a f l m) Nothing) ts back (true, λ rest. refl) h)
 again-cut sys o e body known ts back h = absurd (none-some _ h)
 
 pub again-whole : (sys : System) (o : ℕ) (e : Entry) (told back : List Told) → (behind_again sys e (told ++ back) ≡ Some []) ⊎ (behind_no_entry (told ++ back) ≡ Some []) → again_front sys o e told ≡ true

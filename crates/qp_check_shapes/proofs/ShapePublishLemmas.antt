@@ -5,7 +5,7 @@ use Rattle.qp_model.specs.declared.systems.System.{System}
 use Rattle.qp_model.specs.declared.bodies.Entry.{Entry}
 use Rattle.qp_model.specs.declared.bodies.Body.TheVariants as item
 use Rattle.qp_model.specs.Record.{entry}
-use Rattle.qp_model.specs.Told.{Told, plain, given}
+use Rattle.qp_model.specs.Told.{Told, plain, told_new}
 use Rattle.qp_model.specs.Calls.{Answer, Granted, AtQueue}
 use Rattle.qp_model.specs.Parts.{is_static, sizes_of, members, members_below}
 use Rattle.qp_model.specs.Sites.{ring_of}
@@ -128,8 +128,8 @@ abbrev pub IsPublication : System → ℕ → Bool → List Told → Type 0
 IsPublication sys o b g = (sig : ℕ) × (pars : List ℕ) × Publishes (is_static sys sig) (sizes_of sys) (ring_of sys) o sig pars None (answer_of b) g
 
 made-sound : (sys : System) (o p n k from sig free r : ℕ) (pars : List ℕ) (b : Bool) (g : List Told)
-    → MakesNew (is_static sys sig) (sizes_of sys) sig pars None (given p n k from sig pars free ∷ plain (item.Inc p k r) ∷ []) (entry p k r)
-    → run sys o g (stage.Made (entry p k r) sig) ≡ Some (end_of b) → IsPublication sys o b (given p n k from sig pars free ∷ plain (item.Inc p k r) ∷ g)
+    → MakesNew (is_static sys sig) (sizes_of sys) sig pars None (told_new p n k from sig pars free ∷ plain (item.Inc p k r) ∷ []) (entry p k r)
+    → run sys o g (stage.Made (entry p k r) sig) ≡ Some (end_of b) → IsPublication sys o b (told_new p n k from sig pars free ∷ plain (item.Inc p k r) ∷ g)
 unfolding run next
 made-sound sys o p n k from sig free r pars true [] makes h = absurd (cc)
 made-sound sys o p n k from sig free r pars false [] makes h = absurd (cc)
@@ -137,19 +137,19 @@ made-sound sys o p n k from sig free r pars b (t ∷ ts) makes h =
     let step = run-step sys o t ts (stage.Made (entry p k r) sig) (end_of b) h in
     let is = made-is o (entry p k r) sig t step.0 step.1 in
     let shown = published-sound sys o (entry p k r) is.1 b ts (subst (λ x. run sys o ts x ≡ Some (end_of b)) is.3 step.2) in
-    let whole = publishes sys o sig pars (given p n k from sig pars free ∷ plain (item.Inc p k r) ∷ []) (entry p k r) is.0 is.1 b ts makes shown in
-    (sig, pars, subst (λ u. Publishes (is_static sys sig) (sizes_of sys) (ring_of sys) o sig pars None (answer_of b) (given p n k from sig pars free ∷ plain (item.Inc p k r) ∷ u ∷ ts)) (sym is.2) whole)
+    let whole = publishes sys o sig pars (told_new p n k from sig pars free ∷ plain (item.Inc p k r) ∷ []) (entry p k r) is.0 is.1 b ts makes shown in
+    (sig, pars, subst (λ u. Publishes (is_static sys sig) (sizes_of sys) (ring_of sys) o sig pars None (answer_of b) (told_new p n k from sig pars free ∷ plain (item.Inc p k r) ∷ u ∷ ts)) (sym is.2) whole)
 
 given-sound : (sys : System) (o p n k from sig free : ℕ) (pars : List ℕ) (b : Bool) (g : List Told)
-    → ((r : ℕ) → MakesNew (is_static sys sig) (sizes_of sys) sig pars None (given p n k from sig pars free ∷ plain (item.Inc p k r) ∷ []) (entry p k r))
-    → run sys o g (stage.Given p k sig) ≡ Some (end_of b) → IsPublication sys o b (given p n k from sig pars free ∷ g)
+    → ((r : ℕ) → MakesNew (is_static sys sig) (sizes_of sys) sig pars None (told_new p n k from sig pars free ∷ plain (item.Inc p k r) ∷ []) (entry p k r))
+    → run sys o g (stage.Given p k sig) ≡ Some (end_of b) → IsPublication sys o b (told_new p n k from sig pars free ∷ g)
 unfolding run next
 given-sound sys o p n k from sig free pars true [] makes h = absurd (cc)
 given-sound sys o p n k from sig free pars false [] makes h = absurd (cc)
 given-sound sys o p n k from sig free pars b (t ∷ ts) makes h =
     let step = run-step sys o t ts (stage.Given p k sig) (end_of b) h in
     let is = given-is p k sig t step.0 step.1 in
-    subst (λ u. IsPublication sys o b (given p n k from sig pars free ∷ u ∷ ts)) (sym is.1)
+    subst (λ u. IsPublication sys o b (told_new p n k from sig pars free ∷ u ∷ ts)) (sym is.1)
     (made-sound sys o p n k from sig free is.0 pars b ts (makes is.0) (subst (λ x. run sys o ts x ≡ Some (end_of b)) is.2 step.2))
 
 -- what is read from the start to an end is a publication

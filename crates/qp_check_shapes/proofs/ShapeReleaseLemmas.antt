@@ -9,18 +9,18 @@ use Rattle.qp_model.specs.declared.bodies.Body.TheVariants as item
 use Rattle.qp_model.specs.Told.{Told, Known, Nothing, Left, plain, dropped}
 use Rattle.qp_model.specs.Shapes.{Drops, Releases, releases_by}
 use Rattle.qp_model.proofs.LineLemmas.{same_number}
-use Rattle.qp_check_shapes.specs.ShapeRelease.{Leaves, when, back_first, behind_back, left_behind, drop_first, behind_drop, behind_release}
+use Rattle.qp_check_shapes.specs.ShapeRelease.{IsUnambiguous, when, back_first, behind_back, left_behind, drop_first, behind_drop, behind_release}
 use Rattle.qp_model.proofs.RecordLemmas.{told-is}
 
 -- what a reader answers is what stands behind, where it answers that behind each such list, and only there
 pub leaves : (P : List Told → Type 0) (behind : List Told → Option (List Told))
     → ((told rest : List Told) → behind told ≡ Some rest → (g : List Told) × P g × (told ≡ g ++ rest))
     → ((g rest : List Told) → P g → behind (g ++ rest) ≡ Some rest)
-    → (told : List Told) → Leaves P told (behind told)
-unfolding Leaves
+    → (told : List Told) → IsUnambiguous P told (behind told)
+unfolding IsUnambiguous
 leaves P behind sound whole told = by (behind told) refl
   where
-    by : (r : Option (List Told)) → behind told ≡ r → Leaves P told r
+    by : (r : Option (List Told)) → behind told ≡ r → IsUnambiguous P told r
     by None is = λ g rest e h. let one : behind (g ++ rest) ≡ Some rest = whole g rest h in let two : behind (g ++ rest) ≡ None = ap behind (sym e) ∙ is in cc
     by (Some rest) is = (
       sound told rest is,
@@ -97,5 +97,5 @@ release-whole e g rest h = by e.pool h
     by (suc p) h = let more : (suc p == 0) ≡ false = grind (arith, nat_tests) in rw more (drop-whole e g rest h)
 
 -- the release of an entry is read off
-pub release-leaves : (e : Entry) (told : List Told) → Leaves (Drops e) told (behind_release e told)
+pub release-leaves : (e : Entry) (told : List Told) → IsUnambiguous (Drops e) told (behind_release e told)
 release-leaves e told = leaves (Drops e) (behind_release e) (release-sound e) (release-whole e) told

@@ -10,7 +10,7 @@ use Rattle.qp_model.specs.declared.bodies.Body.{Body}
 use Rattle.qp_model.specs.declared.bodies.Body.TheVariants as item
 use Rattle.qp_model.specs.Record.{entry}
 use Rattle.qp_model.specs.Line.{same_entry}
-use Rattle.qp_model.specs.Told.{Told, Known, Nothing, plain, given}
+use Rattle.qp_model.specs.Told.{Told, Known, Nothing, plain, told_new}
 use Rattle.qp_model.specs.Calls as call
 use Rattle.qp_model.specs.Calls.{Granted, Refused}
 use Rattle.qp_model.specs.Parts.{is_static, sizes_of}
@@ -138,25 +138,25 @@ again-unit sys o (Some now) p b r (t ∷ ts) rest h k = by t.body t.known refl r
 -- behind a new block's first reference: a post or a last-in post of its entry
 pub new-unit : (sys : System) (o : ℕ) (now : Option Entry) (p n b from sig free r : ℕ) (pars : List ℕ) (told rest : List Told)
     → nat_lt 0 free ≡ true → goes_to (sizes_of sys) (length pars) p ≡ true → is_static sys sig ≡ false → behind_entry sys (entry p b r) told ≡ Some rest
-    → (g : List Told) × IsUnit sys o now (given p n b from sig pars free ∷ plain (item.Inc p b r) ∷ g) × (told ≡ g ++ rest)
+    → (g : List Told) × IsUnit sys o now (told_new p n b from sig pars free ∷ plain (item.Inc p b r) ∷ g) × (told ≡ g ++ rest)
 unfolding FitsAny Fits PostsNew PostsNewFront PostsFront MakesBlock
 new-unit sys o now p n b from sig free r pars [] rest above goes pooled k = absurd (cc)
 new-unit sys o now p n b from sig free r pars (t ∷ ts) rest above goes pooled k = by t.body t.known refl refl k
   where
     head : List Told
-    head = given p n b from sig pars free ∷ plain (item.Inc p b r) ∷ []
+    head = told_new p n b from sig pars free ∷ plain (item.Inc p b r) ∷ []
 
     makes : MakesNew (is_static sys sig) (sizes_of sys) sig pars None head (entry p b r)
     makes = new-block (is_static sys sig) (sizes_of sys) sig pars None head (entry p b r) pooled (p, n, b, from, free, r, refl, refl, goes-first (sizes_of sys) (length pars) p goes, above)
 
-    post : behind_post sys (entry p b r) (t ∷ ts) ≡ Some rest → (g : List Told) × IsUnit sys o now (given p n b from sig pars free ∷ plain (item.Inc p b r) ∷ g) × (t ∷ ts ≡ g ++ rest)
+    post : behind_post sys (entry p b r) (t ∷ ts) ≡ Some rest → (g : List Told) × IsUnit sys o now (told_new p n b from sig pars free ∷ plain (item.Inc p b r) ∷ g) × (t ∷ ts ≡ g ++ rest)
     post k =
         let posted = posted-sound sys (entry p b r) (t ∷ ts) rest k in
         let posts = posted-posts sys (entry p b r) head posted.0 posted.1 in
         (posted.0, MakesCall (call.Post posts.0 sig pars posts.1 None) posts.2 refl (inr (head, entry p b r, makes, posts.3)) posts.4, posted.2)
 
     by : (body : Body) (known : Known) → t.body ≡ body → t.known ≡ known → new_first sys (entry p b r) body known ts ≡ Some rest
-        → (g : List Told) × IsUnit sys o now (given p n b from sig pars free ∷ plain (item.Inc p b r) ∷ g) × (t ∷ ts ≡ g ++ rest)
+        → (g : List Told) × IsUnit sys o now (told_new p n b from sig pars free ∷ plain (item.Inc p b r) ∷ g) × (t ∷ ts ≡ g ++ rest)
     by (item.Lifo f l m x) Nothing is_body is_known k =
         let test = when-passed _ ts rest k in
         let same : x ≡ entry p b r = same_entry-is x (entry p b r) test.0 in
@@ -168,12 +168,12 @@ new-unit sys o now p n b from sig free r pars (t ∷ ts) rest above goes pooled 
 -- a block given out, and its first reference
 pub block-unit : (sys : System) (o : ℕ) (now : Option Entry) (p n b from sig free : ℕ) (pars : List ℕ) (told rest : List Told)
     → nat_lt 0 free ≡ true → goes_to (sizes_of sys) (length pars) p ≡ true → is_static sys sig ≡ false → behind_new sys p b told ≡ Some rest
-    → (g : List Told) × IsUnit sys o now (given p n b from sig pars free ∷ g) × (told ≡ g ++ rest)
+    → (g : List Told) × IsUnit sys o now (told_new p n b from sig pars free ∷ g) × (told ≡ g ++ rest)
 block-unit sys o now p n b from sig free pars [] rest above goes pooled k = absurd (cc)
 block-unit sys o now p n b from sig free pars (t ∷ ts) rest above goes pooled k = by t.body t.known refl refl k
   where
     by : (body : Body) (known : Known) → t.body ≡ body → t.known ≡ known → reference_first sys p b body known ts ≡ Some rest
-        → (g : List Told) × IsUnit sys o now (given p n b from sig pars free ∷ g) × (t ∷ ts ≡ g ++ rest)
+        → (g : List Told) × IsUnit sys o now (told_new p n b from sig pars free ∷ g) × (t ∷ ts ≡ g ++ rest)
     by (item.Inc q c r) Nothing is_body is_known k =
         let test = passed _ _ rest k in
         let tests = and_parts (q == p) (c == b) test.0 in

@@ -11,7 +11,7 @@ use Rattle.qp_model.specs.declared.bodies.Body.{Body}
 use Rattle.qp_model.specs.declared.bodies.Body.TheVariants as item
 use Rattle.qp_model.specs.Record.{entry}
 use Rattle.qp_model.specs.Line.{same_entry}
-use Rattle.qp_model.specs.Told.{Told, Known, Nothing, Free, Left, Former, plain, given, dropped, raised}
+use Rattle.qp_model.specs.Told.{Told, Known, Nothing, Free, Left, Former, plain, told_new, dropped, raised}
 use Rattle.qp_model.specs.Parts.{is_static, sizes_of}
 use Rattle.qp_check_shapes.specs.ShapeUnit.{goes_to, had_room}
 use Rattle.qp_check_shapes.specs.declared.shape_stage.Ceiling.TheVariants as ceiling
@@ -158,7 +158,7 @@ post-is sys p e t x h = by t.body t.known refl refl h
 
 -- a block for a new event, or the set of a static one
 pub data StartRecord (sys : System) (o : ℕ) (t : Told) (x : PublishStage) : Type 0 where
-  OfBlock : (p n b from sig free : ℕ) (pars : List ℕ) → t ≡ given p n b from sig pars free → nat_lt 0 free ≡ true → goes_to (sizes_of sys) (length pars) p ≡ true → is_static sys sig ≡ false
+  OfBlock : (p n b from sig free : ℕ) (pars : List ℕ) → t ≡ told_new p n b from sig pars free → nat_lt 0 free ≡ true → goes_to (sizes_of sys) (length pars) p ≡ true → is_static sys sig ≡ false
       → x ≡ stage.Given p b sig → StartRecord sys o t x
   OfSet : (sig n set : ℕ) → t ≡ plain (item.Pub sig n set) → is_static sys sig ≡ true → x ≡ published o (entry 0 sig 0) set → StartRecord sys o t x
 

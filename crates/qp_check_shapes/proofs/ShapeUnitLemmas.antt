@@ -17,7 +17,7 @@ use Rattle.qp_model.specs.Shapes.{Fits, FitsAny, Drops, MakesAgain, PostsFront, 
 use Rattle.qp_check_shapes.specs.ShapeUnit.{IsUnit, SaysValue, MakesCall, FlushesOne, had_room, goes_to, is_static_entry, some_static, behind_new, behind_lifo, recalled_first, behind_reference, behind_recall, plain_first, given_first, member_first, unit_first, behind_unit}
 use Rattle.qp_check_shapes.proofs.ShapeReleaseLemmas.{when-passed, release-sound}
 use Rattle.qp_check_shapes.proofs.ShapePostLemmas.{again-static, again-pooled, IsPosted}
-use Rattle.qp_check_shapes.specs.ShapeRelease.{Leaves}
+use Rattle.qp_check_shapes.specs.ShapeRelease.{IsUnambiguous}
 use Rattle.qp_check_shapes.proofs.ShapeReleaseLemmas.{leaves}
 use Rattle.qp_check_shapes.proofs.ShapeSoundLemmas.{passed, static-unit, full-unit, lifo-unit, defer-unit, short-unit, arm-unit, rearm-unit, disarm-unit, idle-unit, again-unit, block-unit, lifo-sound}
 use Rattle.qp_check_shapes.proofs.ShapeWholeLemmas.{unit-whole}
@@ -134,5 +134,5 @@ unit-sound sys o now (t ∷ ts) rest h = by t.known refl h
     by known is h = absurd (none-some _ h)
 
 -- a unit is read off
-pub unit-leaves : (sys : System) (o : ℕ) (now : Option Entry) (told : List Told) → Leaves (IsUnit sys o now) told (behind_unit sys o now told)
+pub unit-leaves : (sys : System) (o : ℕ) (now : Option Entry) (told : List Told) → IsUnambiguous (IsUnit sys o now) told (behind_unit sys o now told)
 unit-leaves sys o now told = leaves (IsUnit sys o now) (behind_unit sys o now) (unit-sound sys o now) (unit-whole sys o now) told

@@ -5,14 +5,14 @@ use Rattle.qp_model.specs.declared.bodies.Body.TheVariants as item
 use Rattle.qp_model.specs.Told.{Told, plain, raised}
 use Rattle.qp_model.specs.Sequence.{Sequence}
 use Rattle.qp_model.specs.Groups.{is_move}
-use Rattle.qp_check_shapes.specs.ShapeRelease.{Leaves}
+use Rattle.qp_check_shapes.specs.ShapeRelease.{IsUnambiguous}
 
 -- such parts, as many as stand in front, and behind them a list in front of which none stands
 pub record ReadsAll (P : List Told → Type 0) (told rest : List Told) : Type 0 where
   pub whole : List Told
   pub parts : Sequence P whole
   pub is : told ≡ whole ++ rest
-  pub none : Leaves P rest None
+  pub none : IsUnambiguous P rest None
 
 -- a group that isn't empty: a note, an action, or actions under a raised ceiling
 pub data IsElement (W : List Told → Type 0) (g : List Told) : Type 0 where

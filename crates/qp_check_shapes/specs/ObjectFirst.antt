@@ -7,7 +7,7 @@ use Rattle.qp_model.specs.declared.bodies.Body.TheVariants as item
 use Rattle.qp_model.specs.Told.{Told, Known, Nothing, Left}
 use Rattle.qp_model.specs.ObjectShape.{is_head}
 use Rattle.qp_check_shapes.specs.ShapeRelease.{when, behind_back}
-use Rattle.qp_check_shapes.specs.ShapePublication.{is_done}
+use Rattle.qp_check_shapes.specs.ShapePublication.{is_nothing_behind}
 use Rattle.qp_check_shapes.specs.ObjectRead.{looks_at_queue}
 
 -- the entry that a step takes
@@ -63,9 +63,9 @@ is_spent (t ∷ rest) = spent_first t.body t.known rest
 -- a front of the release of an entry
 abbrev pub drop_front : Entry → Body → Known → List Told → Bool
 drop_front e (item.Dec p b d k) (Left left) rest =
-    (p == e.pool) && (b == e.block) && (k == e.name) && ((length rest == 0) || (left == 0) && is_done (behind_back p b d rest))
+    (p == e.pool) && (b == e.block) && (k == e.name) && ((length rest == 0) || (left == 0) && is_nothing_behind (behind_back p b d rest))
 drop_front e body known rest = false
 
-abbrev pub release_front : Entry → List Told → Bool
-release_front e [] = true
-release_front e (t ∷ rest) = nat_lt 0 e.pool && drop_front e t.body t.known rest
+abbrev pub release_first : Entry → List Told → Bool
+release_first e [] = true
+release_first e (t ∷ rest) = nat_lt 0 e.pool && drop_front e t.body t.known rest

@@ -56,9 +56,9 @@ unfolding Sequence
 TurnsOf k nils bs = (turns tail : List Told) × Sequence (IsTurnOf k.act k.release nils) turns × IsTailOf k tail × (bs ≡ turns ++ tail)
 
 -- a start and then turns, or a start that breaks off
-pub data IsObjectOf (k : Kinds) (nils : Bool) (bs : List Told) : Type 0 where
-  Starts : (body : List Told) → Closes (k.act None) (TurnsOf k nils) body → bs ≡ plain item.Begin ∷ body → IsObjectOf k nils bs
-  BreaksStart : (body : List Told) → IsTrue k.cuts → Breaks (k.act None) k.first body → bs ≡ plain item.Begin ∷ body → IsObjectOf k nils bs
+pub data IsObjectList (k : Kinds) (nils : Bool) (bs : List Told) : Type 0 where
+  Starts : (body : List Told) → Closes (k.act None) (TurnsOf k nils) body → bs ≡ plain item.Begin ∷ body → IsObjectList k nils bs
+  BreaksStart : (body : List Told) → IsTrue k.cuts → Breaks (k.act None) k.first body → bs ≡ plain item.Begin ∷ body → IsObjectList k nils bs
 
 -- what may stand behind a step's first two records, where it isn't whole
 pub data IsStepEnd (k : Kinds) (e : Entry) (body : List Told) : Type 0 where

@@ -13,7 +13,7 @@ use Rattle.qp_model.specs.Parts.{is_static, sizes_of}
 use Rattle.qp_check_shapes.specs.ShapeRelease.{behind_release}
 use Rattle.qp_check_shapes.specs.ShapeUnit.{goes_to, works_on, had_room, again_first, new_first, plain_first, given_first, unit_first}
 use Rattle.qp_check_shapes.specs.ShapeAssertion.{no_entry_first, no_lifo_first, cut_first, plain_cut, given_cut, assertion_first}
-use Rattle.qp_check_shapes.specs.ShapePublication.{released, run, is_done}
+use Rattle.qp_check_shapes.specs.ShapePublication.{released, run, is_nothing_behind}
 
 -- a front of the release of an entry
 unfoldable pub release_front : System → ℕ → Entry → List Told → Bool
@@ -24,7 +24,7 @@ release_front sys o e told = is_some (run sys o told (released e))
 unfoldable pub entry_front_first : System → ℕ → Entry → Body → Known → List Told → Bool
 unfolding release_front had_room behind_release
 entry_front_first sys o e (item.Full a f l m k) Nothing rest = release_front sys o e rest
-entry_front_first sys o e body known rest = is_done (new_first sys e body known rest) || is_done (cut_first o body known rest)
+entry_front_first sys o e body known rest = is_nothing_behind (new_first sys e body known rest) || is_nothing_behind (cut_first o body known rest)
 
 unfoldable pub entry_front : System → ℕ → Entry → List Told → Bool
 unfolding entry_front_first
@@ -35,7 +35,7 @@ entry_front sys o e (t ∷ rest) = entry_front_first sys o e t.body t.known rest
 unfoldable pub again_front_first : System → ℕ → Entry → Body → Known → List Told → Bool
 unfolding release_front had_room behind_release
 again_front_first sys o e (item.Full a f l m k) Nothing rest = release_front sys o e rest
-again_front_first sys o e body known rest = is_done (again_first sys e body known rest) || is_done (no_entry_first body known rest)
+again_front_first sys o e body known rest = is_nothing_behind (again_first sys e body known rest) || is_nothing_behind (no_entry_first body known rest)
 
 unfoldable pub again_front : System → ℕ → Entry → List Told → Bool
 unfolding again_front_first
@@ -57,7 +57,7 @@ new_front sys o p b (t ∷ rest) = new_front_first sys o p b t.body t.known rest
 unfoldable pub lifo_front_first : System → ℕ → Entry → Entry → Body → Known → List Told → Bool
 unfolding release_front
 lifo_front_first sys o k e (item.Lifo f l m x) Nothing rest = same_entry x e && release_front sys o k rest
-lifo_front_first sys o k e body known rest = is_done (no_lifo_first o body known rest)
+lifo_front_first sys o k e body known rest = is_nothing_behind (no_lifo_first o body known rest)
 
 unfoldable pub lifo_front : System → ℕ → Entry → Entry → List Told → Bool
 unfolding lifo_front_first
@@ -84,7 +84,7 @@ unfolding again_front recall_front release_front plain_first plain_cut
 plain_front sys o now (item.Inc p b r) rest = works_on now p b && again_front sys o (entry p b r) rest
 plain_front sys o now (item.Recall k) rest = recall_front sys o k rest
 plain_front sys o now (item.Flush k) rest = release_front sys o k rest
-plain_front sys o now body rest = is_done (plain_first sys o now body rest) || is_done (plain_cut sys o now body rest)
+plain_front sys o now body rest = is_nothing_behind (plain_first sys o now body rest) || is_nothing_behind (plain_cut sys o now body rest)
 
 -- one that begins with a block given out
 unfoldable pub given_front : System → ℕ → ℕ → Body → List Told → Bool
@@ -96,7 +96,7 @@ unfoldable pub unit_front_first : System → ℕ → Option Entry → Body → K
 unfolding plain_front given_front plain_first given_first plain_cut given_cut
 unit_front_first sys o now body Nothing rest = plain_front sys o now body rest
 unit_front_first sys o now body (Free free) rest = given_front sys o free body rest
-unit_front_first sys o now body known rest = is_done (unit_first sys o now body known rest) || is_done (assertion_first sys o now body known rest)
+unit_front_first sys o now body known rest = is_nothing_behind (unit_first sys o now body known rest) || is_nothing_behind (assertion_first sys o now body known rest)
 
 -- a front of a unit, or of a call that ends in its assertion and is no publication
 unfoldable pub unit_front : System → ℕ → Option Entry → List Told → Bool

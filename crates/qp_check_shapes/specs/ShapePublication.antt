@@ -115,26 +115,26 @@ unfolding next
 run sys o [] s = Some s
 run sys o (t ∷ ts) s = option_and_then (λ x. run sys o ts x) (next sys o s t.body t.known)
 
-abbrev pub is_whole : PublishStage → Bool
-is_whole stage.Whole = true
-is_whole s = false
+abbrev pub is_whole_publication : PublishStage → Bool
+is_whole_publication stage.Whole = true
+is_whole_publication s = false
 
 -- what stands behind the records that make the publication whole
 unfoldable pub behind_stage : System → ℕ → List Told → PublishStage → Option (List Told)
 unfolding next
-behind_stage sys o [] s = if is_whole s then Some [] else None
-behind_stage sys o (t ∷ ts) s = if is_whole s then Some (t ∷ ts) else option_and_then (λ x. behind_stage sys o ts x) (next sys o s t.body t.known)
+behind_stage sys o [] s = if is_whole_publication s then Some [] else None
+behind_stage sys o (t ∷ ts) s = if is_whole_publication s then Some (t ∷ ts) else option_and_then (λ x. behind_stage sys o ts x) (next sys o s t.body t.known)
 
 -- nothing stands behind
-abbrev pub is_done : Option (List Told) → Bool
-is_done None = false
-is_done (Some []) = true
-is_done (Some (t ∷ ts)) = false
+abbrev pub is_nothing_behind : Option (List Told) → Bool
+is_nothing_behind None = false
+is_nothing_behind (Some []) = true
+is_nothing_behind (Some (t ∷ ts)) = false
 
-abbrev pub is_cut : Option PublishStage → Bool
-is_cut None = false
-is_cut (Some stage.Cut) = true
-is_cut (Some s) = false
+abbrev pub is_cut_publication : Option PublishStage → Bool
+is_cut_publication None = false
+is_cut_publication (Some stage.Cut) = true
+is_cut_publication (Some s) = false
 
 -- what stands behind, by another reader where the first finds nothing
 abbrev pub else_behind : Option (List Told) → Option (List Told) → Option (List Told)

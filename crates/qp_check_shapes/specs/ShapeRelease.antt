@@ -8,9 +8,9 @@ use Rattle.qp_model.specs.Told.{Told, Known, Nothing, Left}
 
 -- the list begins with such records and `rest` is what stands behind them, or no such records stand in front;
 -- no two such lists stand in front of one list
-unfoldable pub Leaves : (List Told → Type 0) → List Told → Option (List Told) → Type 0
-Leaves P told None = (g rest : List Told) → told ≡ g ++ rest → P g → ⊥
-Leaves P told (Some rest) =
+unfoldable pub IsUnambiguous : (List Told → Type 0) → List Told → Option (List Told) → Type 0
+IsUnambiguous P told None = (g rest : List Told) → told ≡ g ++ rest → P g → ⊥
+IsUnambiguous P told (Some rest) =
     ((g : List Told) × P g × (told ≡ g ++ rest)) × ((g other : List Told) → told ≡ g ++ other → P g → other ≡ rest)
 
 -- what stands behind, where a test is passed

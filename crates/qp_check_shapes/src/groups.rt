@@ -2,7 +2,7 @@
 
 ghost use Rattle.std.specs.Prelude.{◌≡◌};
 ghost use Rattle.std.specs.Option.{option_map};
-ghost use Rattle.qp_check_shapes.specs.ShapeRelease.{Leaves};
+ghost use Rattle.qp_check_shapes.specs.ShapeRelease.{IsUnambiguous};
 ghost use Rattle.qp_check_shapes.specs.ShapeAction.{IsWhole};
 ghost use Rattle.qp_check_shapes.specs.GroupsRead.{ReadsAll, IsElement};
 ghost use Rattle.qp_check_shapes.specs.GroupsFirst.{is_told_move, former_of, behind_unlock, behind_done};
@@ -76,7 +76,7 @@ pub fn behind_actions<'a>(scene: &Scene, now: Option<Entry>, told: &'a [Told]) -
 
 /// What stands behind the group that a list begins with, where it begins with one.
 pub fn behind_group<'a>(scene: &Scene, now: Option<Entry>, told: &'a [Told]) -> Option<&'a [Told]>
-    ensures { Leaves (IsElement (IsWhole scene.now.sys.now scene.now.o now)) told.now (option_map (λ x. x.now) result) }
+    ensures { IsUnambiguous (IsElement (IsWhole scene.now.sys.now scene.now.o now)) told.now (option_map (λ x. x.now) result) }
 {
     match told.split_first() {
         Some((first, rest)) => {

@@ -10,8 +10,8 @@ ghost use Rattle.qp_model.specs.Ends.{is_assert};
 ghost use Rattle.qp_check_shapes.specs.ShapeAction.{IsWhole};
 ghost use Rattle.qp_check_shapes.specs.GroupsLast.{LastOf, kinds, start_cut, is_anywhere, is_cut, is_unbegun};
 ghost use Rattle.qp_check_shapes.specs.GroupsRead.{Breaks};
-ghost use Rattle.qp_check_shapes.specs.ObjectRead.{Closes, FrontOf, IsStepEnd, IsStartEnd, IsTailOf, IsObjectOf};
-ghost use Rattle.qp_check_shapes.specs.ObjectFirst.{behind_begin, is_spent, drop_front, release_front};
+ghost use Rattle.qp_check_shapes.specs.ObjectRead.{Closes, FrontOf, IsStepEnd, IsStartEnd, IsTailOf, IsObjectList};
+ghost use Rattle.qp_check_shapes.specs.ObjectFirst.{behind_begin, is_spent, drop_front, release_first};
 
 use crate::groups::{behind_done, behind_groups};
 use crate::groups_end::breaks_off;
@@ -64,7 +64,7 @@ fn drop_front(e: Entry, first: &Told, rest: &[Told]) -> bool
 
 /// Whether a list is a front of the release of an entry.
 fn release_front(e: Entry, told: &[Told]) -> bool
-    ensures { result ≡ release_front e told.now }
+    ensures { result ≡ release_first e told.now }
 {
     match told.split_first() {
         Some((first, rest)) => e.pool > 0 && drop_front(e, first, rest),

@@ -3,7 +3,7 @@
 ghost use Rattle.std.specs.Prelude.{◌≡◌, None};
 ghost use Rattle.std.specs.Option.{option_map};
 ghost use Rattle.qp_model.specs.Shapes.{Drops};
-ghost use Rattle.qp_check_shapes.specs.ShapeRelease.{Leaves};
+ghost use Rattle.qp_check_shapes.specs.ShapeRelease.{IsUnambiguous};
 ghost use Rattle.qp_check_shapes.specs.ShapeAction.{IsWhole};
 ghost use Rattle.qp_check_shapes.specs.GroupsRead.{ReadsAll};
 ghost use Rattle.qp_check_shapes.specs.ObjectRead.{Closes, IsTurnOf, looks_at_queue};
@@ -72,7 +72,7 @@ fn behind_look<'a>(nils: bool, told: &'a [Told]) -> Option<&'a [Told]>
 
 /// What stands behind the groups of a step, its `done`, and the release of the entry that it took.
 fn behind_body<'a>(scene: &Scene, e: Entry, told: &'a [Told]) -> Option<&'a [Told]>
-    ensures { Leaves (Closes (IsWhole scene.now.sys.now scene.now.o (Some e)) (Drops e)) told.now (option_map (λ x. x.now) result) }
+    ensures { IsUnambiguous (Closes (IsWhole scene.now.sys.now scene.now.o (Some e)) (Drops e)) told.now (option_map (λ x. x.now) result) }
 {
     match behind_done(behind_groups(scene, Some(e), told)) {
         Some(rest) => behind_release(e, rest),
@@ -82,7 +82,7 @@ fn behind_body<'a>(scene: &Scene, e: Entry, told: &'a [Told]) -> Option<&'a [Tol
 
 /// What stands behind the turn that a list begins with, where it begins with one.
 fn behind_turn<'a>(scene: &Scene, nils: bool, told: &'a [Told]) -> Option<&'a [Told]>
-    ensures { Leaves (IsTurnOf (IsWhole scene.now.sys.now scene.now.o) Drops nils) told.now (option_map (λ x. x.now) result) }
+    ensures { IsUnambiguous (IsTurnOf (IsWhole scene.now.sys.now scene.now.o) Drops nils) told.now (option_map (λ x. x.now) result) }
 {
     match taken_entry(told) {
         Some(e) => match behind_head(told) {

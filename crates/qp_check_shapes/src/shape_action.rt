@@ -6,12 +6,12 @@ ghost use Rattle.std.specs.Option.{option_map, is_some};
 ghost use Rattle.qp_check_calls.specs.Decides.{Decides};
 ghost use Rattle.qp_model.specs.declared.bodies.Entry.{Entry};
 ghost use Rattle.qp_model.specs.Groups.{is_post, ends_in_post};
-ghost use Rattle.qp_check_shapes.specs.ShapeRelease.{Leaves};
+ghost use Rattle.qp_check_shapes.specs.ShapeRelease.{IsUnambiguous};
 ghost use Rattle.qp_check_shapes.specs.ShapeUnit.{behind_unit};
 ghost use Rattle.qp_check_shapes.specs.ShapeAssertion.{behind_assertion};
 ghost use Rattle.qp_check_shapes.specs.ShapeAction.{IsWhole, IsCut, StopsInside};
 ghost use Rattle.qp_check_shapes.specs.declared.shape_stage.PublishStage.TheVariants as stage;
-ghost use Rattle.qp_check_shapes.specs.ShapePublication.{run, behind_stage, is_done, is_cut, else_behind};
+ghost use Rattle.qp_check_shapes.specs.ShapePublication.{run, behind_stage, is_nothing_behind, is_cut_publication, else_behind};
 
 use crate::shape_assertion::assertion_first;
 use crate::shape_publication::{behind_stage, run};
@@ -33,13 +33,13 @@ fn action_first<'a>(scene: &Scene, now: Option<Entry>, told: &'a [Told]) -> Opti
 
 /// What stands behind the action that a list begins with, where it begins with one: a unit, or a publication that is made whole.
 pub fn behind_action<'a>(scene: &Scene, now: Option<Entry>, told: &'a [Told]) -> Option<&'a [Told]>
-    ensures { Leaves (IsWhole scene.now.sys.now scene.now.o now) told.now (option_map (λ x. x.now) result) }
+    ensures { IsUnambiguous (IsWhole scene.now.sys.now scene.now.o now) told.now (option_map (λ x. x.now) result) }
 {
     action_first(scene, now, told)
 }
 
 pub fn is_done(rest: Option<&[Told]>) -> bool
-    ensures { result ≡ is_done (option_map (λ x. x.now) rest.entry) }
+    ensures { result ≡ is_nothing_behind (option_map (λ x. x.now) rest.entry) }
 {
     match rest {
         Some(rest) => rest.is_empty(),
@@ -48,7 +48,7 @@ pub fn is_done(rest: Option<&[Told]>) -> bool
 }
 
 fn is_cut(stage: Option<PublishStage>) -> bool
-    ensures { result ≡ is_cut stage }
+    ensures { result ≡ is_cut_publication stage }
 {
     match stage {
         Some(PublishStage::Cut) => true,
@@ -57,7 +57,7 @@ fn is_cut(stage: Option<PublishStage>) -> bool
 }
 
 fn asserts_first(scene: &Scene, now: Option<Entry>, told: &[Told]) -> bool
-    ensures { result ≡ (is_done (behind_assertion scene.now.sys.now scene.now.o now told.now) || is_cut
+    ensures { result ≡ (is_nothing_behind (behind_assertion scene.now.sys.now scene.now.o now told.now) || is_cut_publication
         (run scene.now.sys.now scene.now.o told.now stage.Start)) }
 {
     is_done(assertion_first(scene, now, told)) || is_cut(run(scene, PublishStage::Start, told))

@@ -2,7 +2,7 @@
 
 ghost use Rattle.std.specs.Prelude.{◌≡◌};
 ghost use Rattle.std.specs.Option.{option_map};
-ghost use Rattle.qp_check_shapes.specs.ShapeRelease.{Leaves};
+ghost use Rattle.qp_check_shapes.specs.ShapeRelease.{IsUnambiguous};
 ghost use Rattle.qp_check_shapes.specs.ShapeAssertion.{IsAsserted, behind_no_entry, behind_no_lifo, behind_cut, behind_new_cut, behind_recall_reference, behind_recall_cut, plain_cut, given_cut, behind_assertion};
 
 use crate::shape_pools::{goes_to, is_used};
@@ -162,7 +162,7 @@ pub fn behind_assertion<'a>(
     now: Option<Entry>,
     told: &'a [Told],
 ) -> Option<&'a [Told]>
-    ensures { Leaves (IsAsserted scene.now.sys.now scene.now.o now) told.now (option_map (λ x. x.now) result) }
+    ensures { IsUnambiguous (IsAsserted scene.now.sys.now scene.now.o now) told.now (option_map (λ x. x.now) result) }
 {
     assertion_first(scene, now, told)
 }

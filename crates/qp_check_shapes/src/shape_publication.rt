@@ -3,7 +3,7 @@
 ghost use Rattle.std.specs.Prelude.{◌≡◌, ◌&&◌};
 ghost use Rattle.std.specs.Option.{option_map};
 ghost use Rattle.qp_model.specs.Record.{entry};
-ghost use Rattle.qp_check_shapes.specs.ShapePublication.{stage_if, start_first, given_next, made_next, post_next, reference_next, lock_next, posts_next, raised_next, posted_next, dropped_next, next, run, behind_stage, is_whole};
+ghost use Rattle.qp_check_shapes.specs.ShapePublication.{stage_if, start_first, given_next, made_next, post_next, reference_next, lock_next, posts_next, raised_next, posted_next, dropped_next, next, run, behind_stage, is_whole_publication};
 
 use crate::shape_pools::goes_to;
 use crate::shape_scene::Scene;
@@ -222,7 +222,7 @@ pub fn run(scene: &Scene, stage: PublishStage, told: &[Told]) -> Option<PublishS
 }
 
 fn is_whole(stage: PublishStage) -> bool
-    ensures { result ≡ is_whole stage }
+    ensures { result ≡ is_whole_publication stage }
 {
     match stage {
         PublishStage::Whole => true,

@@ -5,7 +5,7 @@ ghost use Rattle.std.specs.declared.option.Option.{Option};
 ghost use Rattle.std.specs.Option.{option_map};
 ghost use Rattle.qp_model.specs.Record.{entry};
 ghost use Rattle.qp_model.specs.Told.{Nothing};
-ghost use Rattle.qp_check_shapes.specs.ShapeRelease.{Leaves, when};
+ghost use Rattle.qp_check_shapes.specs.ShapeRelease.{IsUnambiguous, when};
 ghost use Rattle.qp_check_shapes.specs.ShapeUnit.{IsUnit, post_first, behind_again, behind_entry, behind_new, behind_lifo, behind_reference, behind_recall, is_static_now, works_on, works_on_static, plain_first, given_first, behind_unit};
 
 use crate::shape_pools::{goes_to, is_used};
@@ -238,7 +238,7 @@ pub fn unit_first<'a>(scene: &Scene, now: Option<Entry>, told: &'a [Told]) -> Op
 /// What stands behind the action that a list begins with, where it begins with one: a value said, a call that is no publication
 /// and doesn't end in an assertion, or one flushed entry.
 pub fn behind_unit<'a>(scene: &Scene, now: Option<Entry>, told: &'a [Told]) -> Option<&'a [Told]>
-    ensures { Leaves (IsUnit scene.now.sys.now scene.now.o now) told.now (option_map (λ x. x.now) result) }
+    ensures { IsUnambiguous (IsUnit scene.now.sys.now scene.now.o now) told.now (option_map (λ x. x.now) result) }
 {
     unit_first(scene, now, told)
 }

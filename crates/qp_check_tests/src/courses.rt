@@ -16,7 +16,7 @@ use qp_chart::{
     RawTimers, SigNames, State, Texts, Vars,
 };
 use qp_check_calls::{Cut, Known, Piece, Told};
-use qp_check_course::{Task, follows, follows_with_points, start_plan, step_plan};
+use qp_check_course::{CourseTask, follows, follows_with_points, start_plan, step_plan};
 use qp_model::{Body, System};
 use std::alloc::{AllocError, Global};
 
@@ -83,16 +83,16 @@ fn chart(alloc: Global) -> Result<Chart, ChartFault> {
 }
 
 /// Whether a task is the entry into a state, or its initial transition.
-fn is_into(task: &Task, is_entry: bool, state: u8) -> bool {
+fn is_into(task: &CourseTask, is_entry: bool, state: u8) -> bool {
     match task {
-        Task::Enter { state: of } => is_entry && *of == state,
-        Task::Init { state: of } => !is_entry && *of == state,
+        CourseTask::Enter { state: of } => is_entry && *of == state,
+        CourseTask::Init { state: of } => !is_entry && *of == state,
         _ => false,
     }
 }
 
 /// Whether tasks enter the outer state, and then by its initial transition the inner one.
-fn enter_both(tasks: &[Task]) -> bool {
+fn enter_both(tasks: &[CourseTask]) -> bool {
     match tasks {
         [outer, init, inner] => {
             is_into(outer, true, 1) && is_into(init, false, 1) && is_into(inner, true, 2)
@@ -101,9 +101,9 @@ fn enter_both(tasks: &[Task]) -> bool {
     }
 }
 
-fn is_start(tasks: &[Task]) -> bool {
+fn is_start(tasks: &[CourseTask]) -> bool {
     match tasks {
-        [Task::Begin, within @ .., Task::Done] => enter_both(within),
+        [CourseTask::Begin, within @ .., CourseTask::Done] => enter_both(within),
         _ => false,
     }
 }
@@ -116,8 +116,8 @@ fn starts(alloc: Global, chart: &Chart) -> bool {
     }
 }
 
-fn is_unhandled(tasks: &[Task]) -> bool {
-    matches!(tasks, [Task::Unhandled, Task::Done])
+fn is_unhandled(tasks: &[CourseTask]) -> bool {
+    matches!(tasks, [CourseTask::Unhandled, CourseTask::Done])
 }
 
 /// Whether an event without a row is unhandled.

@@ -1,19 +1,19 @@
 //! Lane 0 with its orders and settles, ends and budgets, and deferred entries.
 
-ghost use Rattle.qp_check_histories.specs.Numbers.{WordsFit};
+ghost use Rattle.qp_check_words.specs.Numbers.{WordsFit};
 
 use crate::samples::{
     PORT, Part, Parts, QK, QV, Row, SIM, go, journal, lane, nothing, object, one_lane, records,
     stimuli, two_lanes, with_pool,
 };
-use qp_check_end::ending::end_holds;
-use qp_check_end::journal_end::end_is_right;
-use qp_check_end::lane_ends::{spents_are_seen, spills_stand};
-use qp_check_histories::records_by_word::RecordsByWord;
+use qp_check_ends::ending::end_holds;
+use qp_check_ends::journal_end::end_is_right;
+use qp_check_ends::lane_ends::{spents_are_seen, spills_stand};
 use qp_check_kernel::kernel_lane::is_kernel_lane;
 use qp_check_kernel::one_order::is_one_order;
 use qp_check_lanes::deferral::kept;
 use qp_check_lanes::lane_parts::{count_stands, lane_zero_stands};
+use qp_check_words::records_by_word::RecordsByWord;
 use qp_model::kinds::{
     ASSERT, BEGIN, DEFER, DONE, FLUSH, INC, LIFO, LOCK, LOOK, NEW, NODEFER, NONE, NORECALL, POST,
     RECALL, REST, SEEN, SETTLE, SPENT, SPILL, STIM, TOOK,

@@ -1,7 +1,7 @@
 //! What the tests have in common: records, lanes and journals as constants state them, systems, and stimuli.
 
 ghost use Rattle.std.specs.Prelude.{◌≡◌, ◌≤◌, [], IfOk, length};
-ghost use Rattle.qp_check_histories.specs.Numbers.{WordsFit};
+ghost use Rattle.qp_check_words.specs.Numbers.{WordsFit};
 
 use arrayvec::ArrayVec;
 use qp_base::Ev;

@@ -3,7 +3,7 @@
 use crate::lines::{plain, system};
 use crate::samples::{Part, records};
 use qp_check_calls::Told;
-use qp_check_sources::{Stops, is_source_lane, may_stop, spill_stands};
+use qp_check_ends::{Stops, is_source_lane, may_stop, spill_stands};
 use qp_model::kinds::{FIRE, IDLE, SEEN, SETTLE, STIM};
 use qp_model::{Rec, Stim};
 use std::alloc::{AllocError, Global};

@@ -2,11 +2,11 @@
 
 use crate::samples::{Part, Row, SIM, journal, nothing, one_lane, records};
 use qp_check_calls::Cut;
-use qp_check_histories::records_by_word::RecordsByWord;
 use qp_check_knowledge::known_tables::{free_counts, left_counts, member_lists, number_at};
 use qp_check_knowledge::told_cut::cut_of;
 use qp_check_knowledge::told_home::is_home_lane;
 use qp_check_lanes::groups::Group;
+use qp_check_words::records_by_word::RecordsByWord;
 use qp_model::kinds::{BACK, DEC, DONE, INC, NEW, NIL, SPILL, SUB};
 use qp_model::{Named, Rec};
 use std::alloc::{AllocError, Global};

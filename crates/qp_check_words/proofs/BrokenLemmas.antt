@@ -21,18 +21,18 @@ use Rattle.qp_model.specs.WordLaw.{is_object}
 use Rattle.qp_check_words.specs.declared.verdict.Broken.{Broken}
 use Rattle.qp_check_words.specs.declared.rules.Rule.{Rule}
 use Rattle.qp_check_words.specs.declared.rules.Rule.TheVariants as rule
-use Rattle.qp_check_histories.specs.Numbers.{WordsFit}
-use Rattle.qp_check_words.specs.WordRules.{Try, first_broken, is_site, number_of, site_of, tries_at, tries_by, word_rules, word_tries, rule_holds, lives_hold, operations_allowed}
-use Rattle.qp_check_histories.specs.SystemWords.{words_of, pool_words, words_of_pool, block_words, queue_words, signal_words, timer_words}
+use Rattle.qp_check_words.specs.Numbers.{WordsFit}
+use Rattle.qp_check_words.specs.WordRules.{Try, first_broken, is_site, definition_of_rule, site_of, tries_at, tries_by, word_rules, word_tries, rule_holds, lives_hold, operations_allowed}
+use Rattle.qp_check_words.specs.SystemWords.{words_of, pool_words, words_of_pool, block_words, queue_words, signal_words, timer_words}
 use Rattle.qp_check_words.specs.Judging.{rule_test, lives_of}
 
 -- the word fails
 pub at-fails : (h : Rule → Word → Bool) (r : Rule) (w : Word) (ws : List Word) → (is_site r w && not (h r w)) ≡ true
-    → first_broken (tries_at h r (w ∷ ws)) ≡ Some (record { definition = number_of r; site = site_of w })
+    → first_broken (tries_at h r (w ∷ ws)) ≡ Some (record { definition = definition_of_rule r; site = site_of w })
 unfolding first_broken
 at-fails h r w ws fails = go (is_site r w) refl (h r w) refl fails
   where
-    go : (s : Bool) → is_site r w ≡ s → (t : Bool) → h r w ≡ t → (s && not t) ≡ true → first_broken (tries_at h r (w ∷ ws)) ≡ Some (record { definition = number_of r; site = site_of w })
+    go : (s : Bool) → is_site r w ≡ s → (t : Bool) → h r w ≡ t → (s && not t) ≡ true → first_broken (tries_at h r (w ∷ ws)) ≡ Some (record { definition = definition_of_rule r; site = site_of w })
     go true e false f k = rw (e, f) refl
     go true e true f k = cc
     go false e t f k = cc

@@ -16,8 +16,8 @@ use Rattle.qp_check_words.specs.declared.verdict.Broken.{Broken}
 use Rattle.qp_check_words.specs.declared.rules.Rule.{Rule}
 use Rattle.qp_check_words.specs.declared.rules.Rule.TheVariants as rule
 use Rattle.qp_check_words.specs.WordsLaw.{NoneFailsWhereWordsHold}
-use Rattle.qp_check_words.specs.WordRules.{Try, first_broken, is_site, number_of, site_of, tries_at, tries_by, word_tries, rule_holds, lives_hold, operations_allowed, shown_right}
-use Rattle.qp_check_histories.specs.SystemWords.{words_of}
+use Rattle.qp_check_words.specs.WordRules.{Try, first_broken, is_site, definition_of_rule, site_of, tries_at, tries_by, word_tries, rule_holds, lives_hold, operations_allowed, shown_right}
+use Rattle.qp_check_words.specs.SystemWords.{words_of}
 use Rattle.qp_check_words.proofs.BrokenLemmas.{broken-none, broken-some}
 use Rattle.qp_check_words.proofs.SiteLemmas.{AllSites, sites-from, sites-to}
 
@@ -37,7 +37,7 @@ at-none h r (w ∷ ws) none = go (is_site r w) refl (h r w) refl none (at-none h
     go : (s : Bool) → is_site r w ≡ s → (t : Bool) → h r w ≡ t → first_broken (tries_at h r (w ∷ ws)) ≡ None → (first_broken (tries_at h r ws) ≡ None → list_all (λ w. not (is_site r w) || h r w) ws ≡ true)
         → ((not (is_site r w) || h r w) && list_all (λ w. not (is_site r w) || h r w) ws) ≡ true
     go true e true f n later = rw (e, f) (later (sym (rw (e, f) refl) ∙ n))
-    go true e false f n later = let some : first_broken (tries_at h r (w ∷ ws)) ≡ Some (record { definition = number_of r; site = site_of w }) = rw (e, f) refl in cc
+    go true e false f n later = let some : first_broken (tries_at h r (w ∷ ws)) ≡ Some (record { definition = definition_of_rule r; site = site_of w }) = rw (e, f) refl in cc
     go false e t f n later = rw e (later (sym (rw e refl) ∙ n))
 
 none-at : (h : Rule → Word → Bool) (r : Rule) (ws : List Word) → list_all (λ w. not (is_site r w) || h r w) ws ≡ true → first_broken (tries_at h r ws) ≡ None

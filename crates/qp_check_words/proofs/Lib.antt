@@ -3,3 +3,5 @@ pub mod LawLemmas
 pub mod ShownLemmas
 pub mod SiteLemmas
 pub mod WordLemmas
+pub mod NumberLemmas
+pub mod RiseLemmas

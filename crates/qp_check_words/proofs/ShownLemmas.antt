@@ -13,10 +13,10 @@ use Rattle.qp_model.specs.History.{Touch, Draws, Shows, Neither, touch, same_wor
 use Rattle.qp_model.specs.Machine.{Machine, after, after_from, shown_by}
 use Rattle.qp_model.specs.WordOf.{fitting_number}
 use Rattle.qp_check_lanes.specs.Groups.{has_key, of_key, grouped_from, grouped}
-use Rattle.qp_check_histories.specs.Marks.{word_use, touched, shown_number, shown_key, mark_number, rises_from, shows_within}
-use Rattle.qp_check_word_states.specs.WordState.{shows_from}
+use Rattle.qp_check_words.specs.Marks.{word_use, touched, shown_number, shown_key, mark_number, rises_from, shows_within}
+use Rattle.qp_check_lanes.specs.WordState.{shows_from}
 use Rattle.qp_check_words.specs.Judging.{shown_of}
-use Rattle.qp_check_histories.proofs.NumberLemmas.{list_all_within}
+use Rattle.qp_check_words.proofs.NumberLemmas.{list_all_within}
 
 list_all-and : (p q : Item → Bool) (xs : List Item) → (list_all p xs && list_all q xs) ≡ list_all (λ i. p i && q i) xs
 list_all-and p q [] = refl

@@ -12,7 +12,7 @@ use Rattle.qp_model.specs.declared.words.Word.TheVariants as word
 use Rattle.qp_model.specs.Lists.{count_up}
 use Rattle.qp_model.specs.Sites.{blocks_of, object_at}
 use Rattle.qp_model.specs.WordLaw.{is_pool, is_block, is_object, is_signal, is_timer}
-use Rattle.qp_check_histories.specs.SystemWords.{words_of, pool_words, words_of_pool, block_words, queue_words, signal_words, timer_words}
+use Rattle.qp_check_words.specs.SystemWords.{words_of, pool_words, words_of_pool, block_words, queue_words, signal_words, timer_words}
 
 all-counted : (f : ℕ → Word) (p : Word → Bool) (k n : ℕ) → ((j : ℕ) → k ≤ j → j < k + n → p (f j) ≡ true) → list_all p (map f (count_up k n)) ≡ true
 all-counted f p k zero h = refl

@@ -15,7 +15,7 @@ use Rattle.qp_model.specs.Line.{line}
 use Rattle.qp_model.specs.Subscribers.{subscribers}
 use Rattle.qp_model.specs.TimeEvents.{time_event}
 use Rattle.qp_model.specs.Sites.{ring_of, blocks_of}
-use Rattle.qp_check_histories.specs.Marks.{touched}
+use Rattle.qp_check_words.specs.Marks.{touched}
 use Rattle.qp_check_words.specs.WordRules.{shown_right}
 use Rattle.qp_check_words.specs.Judging.{shown_at}
 use Rattle.qp_check_words.proofs.ShownLemmas.{shown-touched}

@@ -16,8 +16,8 @@ use Rattle.qp_model.specs.TimeEvents.{time_event}
 use Rattle.qp_model.specs.Lives.{has_lives}
 use Rattle.qp_model.specs.Sites.{ring_of, blocks_of}
 use Rattle.qp_check_lanes.specs.Groups.{grouped}
-use Rattle.qp_check_histories.specs.Marks.{shown_key, shows_within}
-use Rattle.qp_check_word_states.specs.WordState.{shows_from}
+use Rattle.qp_check_words.specs.Marks.{shown_key, shows_within}
+use Rattle.qp_check_lanes.specs.WordState.{shows_from}
 use Rattle.qp_check_words.specs.declared.rules.Rule.{Rule}
 use Rattle.qp_check_words.specs.declared.rules.Rule.TheVariants as rule
 use Rattle.qp_check_words.specs.WordRules.{rule_holds}

@@ -16,7 +16,7 @@ use Rattle.qp_model.specs.Subscribers.{subscribers}
 use Rattle.qp_model.specs.TimeEvents.{time_event}
 use Rattle.qp_model.specs.Lives.{has_lives}
 use Rattle.qp_model.specs.Sites.{ring_of, blocks_of}
-use Rattle.qp_check_histories.specs.SystemWords.{words_of}
+use Rattle.qp_check_words.specs.SystemWords.{words_of}
 use Rattle.qp_check_words.specs.declared.verdict.Broken.{Broken}
 use Rattle.qp_check_words.specs.declared.verdict.Site.{Site}
 use Rattle.qp_check_words.specs.declared.verdict.Site.TheVariants as site
@@ -42,15 +42,15 @@ site_of (word.Signal s) = site.Signal s
 site_of (word.Timer t) = site.Timer t
 
 -- the number that `check` prints
-abbrev pub number_of : Rule → ℕ
-number_of rule.DrawnNumbers = 9
-number_of rule.FreeBlocks = 10
-number_of rule.References = 11
-number_of rule.Lives = 12
-number_of rule.Line = 13
-number_of rule.ShownNumbers = 14
-number_of rule.Subscribers = 16
-number_of rule.TimeEvents = 18
+abbrev pub definition_of_rule : Rule → ℕ
+definition_of_rule rule.DrawnNumbers = 9
+definition_of_rule rule.FreeBlocks = 10
+definition_of_rule rule.References = 11
+definition_of_rule rule.Lives = 12
+definition_of_rule rule.Line = 13
+definition_of_rule rule.ShownNumbers = 14
+definition_of_rule rule.Subscribers = 16
+definition_of_rule rule.TimeEvents = 18
 
 -- in the order in which they are tried
 abbrev pub word_rules : List Rule
@@ -100,7 +100,7 @@ rule_holds sys lanes _ w = operations_allowed sys w (hist w (all_items lanes))
 
 -- the definition at each of its sites among these words
 abbrev pub tries_at : (Rule → Word → Bool) → Rule → List Word → List Try
-tries_at holds r words = map (λ w. record { definition = number_of r; site = site_of w; holds = holds r w }) (filter (λ w. is_site r w) words)
+tries_at holds r words = map (λ w. record { definition = definition_of_rule r; site = site_of w; holds = holds r w }) (filter (λ w. is_site r w) words)
 
 -- the definitions, each at its sites
 abbrev pub tries_by : (Rule → Word → Bool) → List Rule → List Word → List Try

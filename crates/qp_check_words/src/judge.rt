@@ -3,18 +3,18 @@
 ghost use Rattle.std.specs.Prelude.{◌≡◌, ◌&&◌, not, IfOk};
 ghost use Rattle.qp_model.specs.History.{all_items, hist, is_numbered, marks_rise};
 ghost use Rattle.qp_check_words.specs.declared.rules.Rule.TheVariants as rule;
-ghost use Rattle.qp_check_histories.specs.Numbers.{WordsFit};
+ghost use Rattle.qp_check_words.specs.Numbers.{WordsFit};
 ghost use Rattle.qp_model.specs.declared.systems.System.{System};
 ghost use Rattle.qp_model.specs.declared.words.Word.TheVariants as word_kind;
 ghost use Rattle.qp_check_words.specs.Judging.{lives_of, rule_test};
 ghost use Rattle.qp_check_words.specs.WordRules.{first_broken, is_site, operations_allowed, shown_right, tries_at, tries_by, word_tries};
 
+use crate::histories::numbers_hold;
 use crate::judging::{lives_of, operations_allowed, shown_at};
+use crate::records_by_word::RecordsByWord;
 use crate::rules::{Rule, site_of};
 use crate::verdict::Broken;
-use qp_check_histories::histories::numbers_hold;
-use qp_check_histories::records_by_word::RecordsByWord;
-use qp_check_histories::words::words_of;
+use crate::words::words_of;
 use qp_check_lanes::given_blocks::GivenBlocks;
 use qp_check_lanes::keys::named;
 use qp_model::{System, Word};

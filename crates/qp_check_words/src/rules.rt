@@ -1,7 +1,7 @@
 //! The definitions of words, and the words at which each is tried.
 
 ghost use Rattle.std.specs.Prelude.{◌≡◌};
-ghost use Rattle.qp_check_words.specs.WordRules.{is_site, number_of, site_of};
+ghost use Rattle.qp_check_words.specs.WordRules.{is_site, definition_of_rule, site_of};
 
 use crate::verdict::Site;
 use qp_model::{Word, definitions};
@@ -22,7 +22,7 @@ pub(crate) enum Rule {
 impl Rule {
     /// The number by which `check` names it.
     pub(crate) fn number(self) -> u8
-        ensures { result ≡ number_of self }
+        ensures { result ≡ definition_of_rule self }
     {
         match self {
             Rule::DrawnNumbers => definitions::DRAWN_NUMBERS,

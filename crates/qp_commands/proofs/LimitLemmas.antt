@@ -5,8 +5,8 @@ use Rattle.std.specs.Str.{bytes_eq}
 use Rattle.std.proofs.lemmas.Bool.{and_from, and_parts}
 use Rattle.std.proofs.lemmas.Bool.Decides.{nat_tests}
 use Rattle.clap.specs.Words.{Row, Text, first_of}
-use Rattle.qp_text.specs.Numbers.{number_of}
-use Rattle.qp_commands.specs.declared.values.Kernel.{Kernel}
+use Rattle.qp_text.specs.Numbers.{number_of_decimal}
+use Rattle.qp_commands.specs.declared.values.KernelName.{KernelName}
 use Rattle.qp_commands.specs.declared.values.Output.{Output}
 use Rattle.qp_commands.specs.declared.values.Kind.{Kind}
 use Rattle.qp_commands.specs.declared.values.Form.{Form}
@@ -31,12 +31,12 @@ read-within most (Some n) = within-is most n
 budget-within : (o : Option Text) → IfSome (budget_in o) (λ b. is_to 1000000 b ≡ true)
 unfolding budget_in is_to
 budget-within None = refl
-budget-within (Some word) = read-within 1000000 (number_of word)
+budget-within (Some word) = read-within 1000000 (number_of_decimal word)
 
 made-within : (o : Option Text) → IfSome (made_in o) (λ n. is_to 1000 n ≡ true)
 unfolding made_in
 made-within None = tt
-made-within (Some word) = read-within 1000 (number_of word)
+made-within (Some word) = read-within 1000 (number_of_decimal word)
 
 InLimits : Option Asked → Type 0
 InLimits asked = IfSome asked (λ a. is_in_limits a ≡ true)
@@ -45,7 +45,7 @@ none-run : (b : Option ℕ) (o : Option Output) (f : Option Form) (s t : Option 
 unfolding run_with InLimits
 none-run b o f s t = tt
 
-some-run : (k : Kernel) (b : Option ℕ) (o : Option Output) (f : Option Form) (s t : Option Text) → IfSome b (λ b. is_to 1000000 b ≡ true)
+some-run : (k : KernelName) (b : Option ℕ) (o : Option Output) (f : Option Form) (s t : Option Text) → IfSome b (λ b. is_to 1000000 b ≡ true)
     → IfSome f (λ f. is_form_of k f ≡ true) → InLimits (run_with (Some k) b o f s t)
 unfolding run_with is_to InLimits
 some-run k None o f s t is fits = tt
@@ -55,22 +55,22 @@ some-run k (Some b) (Some o) (Some f) None t is fits = tt
 some-run k (Some b) (Some o) (Some f) (Some s) None is fits = tt
 some-run k (Some b) (Some o) (Some f) (Some s) (Some t) is fits = and_from _ _ is fits
 
-fit-is : (k : Kernel) (f : Form) → IfSome (form_fit k f) (λ f. is_form_of k f ≡ true)
+fit-is : (k : KernelName) (f : Form) → IfSome (form_fit k f) (λ f. is_form_of k f ≡ true)
 fit-is k f = by (is_form_of k f) refl
   where
     by : (b : Bool) → is_form_of k f ≡ b → IfSome (cond b (Some f) None) (λ f. is_form_of k f ≡ true)
     by true is = is
     by false is = tt
 
-read-fit : (k : Kernel) (f : Option Form) → IfSome (option_and_then (form_fit k) f) (λ f. is_form_of k f ≡ true)
+read-fit : (k : KernelName) (f : Option Form) → IfSome (option_and_then (form_fit k) f) (λ f. is_form_of k f ≡ true)
 read-fit k None = tt
 read-fit k (Some f) = fit-is k f
 
-form-fits : (k : Kernel) (o : Option Text) → IfSome (form_under k o) (λ f. is_form_of k f ≡ true)
+form-fits : (k : KernelName) (o : Option Text) → IfSome (form_under k o) (λ f. is_form_of k f ≡ true)
 unfolding form_under
 form-fits k o = read-fit k (form_in (default_form k) o)
 
-run-has : (k : Option Kernel) (b : Option ℕ) (o : Option Output) (word s t : Option Text) → IfSome b (λ b. is_to 1000000 b ≡ true)
+run-has : (k : Option KernelName) (b : Option ℕ) (o : Option Output) (word s t : Option Text) → IfSome b (λ b. is_to 1000000 b ≡ true)
     → InLimits (run_with k b o (option_and_then (λ k. form_under k word) k) s t)
 run-has None b o word s t is = none-run b o None s t
 run-has (Some k) b o word s t is = some-run k b o (form_under k word) s t is (form-fits k word)

@@ -12,8 +12,8 @@ use Rattle.clap.specs.Kinds.{or_else}
 use Rattle.clap.specs.declared.builder.value_parser.ValueParser.TheVariants as vp
 use Rattle.clap.specs.declared.parser.matches.ValueSource.TheVariants.{CommandLine}
 use Rattle.clap.proofs.OnLiterals.{clap_on_literals}
-use Rattle.qp_commands.specs.declared.values.Kernel.{Kernel}
-use Rattle.qp_commands.specs.declared.values.Kernel.TheVariants.{Sim, Qk, Port, Wait, Qv}
+use Rattle.qp_commands.specs.declared.values.KernelName.{KernelName}
+use Rattle.qp_commands.specs.declared.values.KernelName.TheVariants.{Sim, Qk, Port, Wait, Qv}
 use Rattle.qp_commands.specs.declared.values.Form.{Form}
 use Rattle.qp_commands.specs.declared.values.Form.TheVariants.{One, Two}
 use Rattle.qp_commands.specs.declared.values.Output.{Output}
@@ -146,17 +146,17 @@ replay-names x y z name_x name_y name_z = ap (option_map replay) (files_found (c
 
 -- ---- all options, and names
 
-abbrev run_options : Kernel → Output → Form → List Text
+abbrev run_options : KernelName → Output → Form → List Text
 run_options kernel out form =
     codes "--kernel" ∷ word_of_kernel kernel ∷ codes "--out" ∷ word_of_output out ∷ codes "--form" ∷ word_of_form form ∷ []
 
-abbrev given_kernel : Kernel → Row
+abbrev given_kernel : KernelName → Row
 given_kernel kernel = given (codes "kernel") (word_of_kernel kernel)
 
-abbrev run_held : Kernel → Output → Form → Held
+abbrev run_held : KernelName → Output → Form → Held
 run_held kernel out form = pending (given_kernel kernel ∷ given (codes "out") (word_of_output out) ∷ []) (codes "form") (word_of_form form)
 
-abbrev run_next : Kernel → Output → Form → Text → Held
+abbrev run_next : KernelName → Output → Form → Text → Held
 run_next kernel out form x =
     pending (given_kernel kernel ∷ given (codes "out") (word_of_output out) ∷ given (codes "form") (word_of_form form) ∷ []) (codes "system") x
 
@@ -171,7 +171,7 @@ kernel_held k = pending [] (codes "kernel") k
 abbrev out_held : (k o : Text) → Held
 out_held k o = pending (given (codes "kernel") k ∷ []) (codes "out") o
 
-kernel_stands : (kernel : Kernel) → walk run_rules [] nothing_held (codes "--kernel" ∷ word_of_kernel kernel ∷ []) ≡ standing (kernel_held (word_of_kernel kernel)) 1
+kernel_stands : (kernel : KernelName) → walk run_rules [] nothing_held (codes "--kernel" ∷ word_of_kernel kernel ∷ []) ≡ standing (kernel_held (word_of_kernel kernel)) 1
 unfolding run_app clap_on_literals
 kernel_stands Sim = refl
 kernel_stands Qk = refl
@@ -192,7 +192,7 @@ unfolding run_app clap_on_literals
 form_stands k o One = refl
 form_stands k o Two = refl
 
-kernel_faultless : (kernel : Kernel) → walk_fault (built run_app).top [] (walk_from nothing_held) (codes "--kernel" ∷ word_of_kernel kernel ∷ []) ≡ []
+kernel_faultless : (kernel : KernelName) → walk_fault (built run_app).top [] (walk_from nothing_held) (codes "--kernel" ∷ word_of_kernel kernel ∷ []) ≡ []
 unfolding run_app clap_on_literals
 kernel_faultless Sim = refl
 kernel_faultless Qk = refl
@@ -211,7 +211,7 @@ unfolding run_app clap_on_literals
 form_faultless k o One = refl
 form_faultless k o Two = refl
 
-module _ (kernel : Kernel) (out : Output) (form : Form) where
+module _ (kernel : KernelName) (out : Output) (form : Form) where
   abbrev first_option : List Text
   first_option = codes "--kernel" ∷ word_of_kernel kernel ∷ []
 
@@ -239,7 +239,7 @@ module _ (kernel : Kernel) (out : Output) (form : Form) where
       (ap (λ (w : Walk). walk_fault (built run_app).top [] w third_option) (out_stands (word_of_kernel kernel) out)
       ∙ form_faultless (word_of_kernel kernel) (word_of_output out) form)))
 
-kernel_in-word : (k : Kernel) → kernel_in (Some (word_of_kernel k)) ≡ Some k
+kernel_in-word : (k : KernelName) → kernel_in (Some (word_of_kernel k)) ≡ Some k
 unfolding kernel_in
 kernel_in-word Sim = refl
 kernel_in-word Qk = refl
@@ -263,7 +263,7 @@ unfolding form_in
 form_in-word default One = refl
 form_in-word default Two = refl
 
-run_read : (kernel : Kernel) (out : Output) (form : Form) (x y : Text) → is_name x ≡ true → is_name y ≡ true
+run_read : (kernel : KernelName) (out : Output) (form : Form) (x y : Text) → is_name x ≡ true → is_name y ≡ true
     → command_in (codes "run" ∷ run_options kernel out form ++ x ∷ y ∷ [])
     ≡ run_with (kernel_in (Some (word_of_kernel kernel))) (budget_in None) (output_in (Some (word_of_output out)))
     (option_and_then (λ k. form_under k (Some (word_of_form form))) (kernel_in (Some (word_of_kernel kernel)))) (Some x) (Some y)
@@ -274,7 +274,7 @@ run_read kernel out form x y name_x name_y =
     (two_faults (built run_app).top (run_options kernel out form) (run_held kernel out form) (run_next kernel out form x) x y name_x name_y
     (run_stands kernel out form) (run_faultless kernel out form) refl refl refl))
 
-form_under-word : (kernel : Kernel) (form : Form) → is_form_of kernel form ≡ true → form_under kernel (Some (word_of_form form)) ≡ Some form
+form_under-word : (kernel : KernelName) (form : Form) → is_form_of kernel form ≡ true → form_under kernel (Some (word_of_form form)) ≡ Some form
 unfolding form_under
 form_under-word kernel form fits = rw (form_in-word (default_form kernel) form, fits) refl
 

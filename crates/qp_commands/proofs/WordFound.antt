@@ -4,7 +4,7 @@ use Rattle.std.specs.Borrow.{Bor}
 use Rattle.clap.specs.Words.{Text, first_of, first_value, rows_of}
 use Rattle.clap.specs.declared.parser.matches.Found.{Found}
 use Rattle.clap.proofs.WalkLemmas.{first_value-rows}
-use Rattle.qp_commands.specs.declared.values.Kernel.{Kernel}
+use Rattle.qp_commands.specs.declared.values.KernelName.{KernelName}
 use Rattle.qp_commands.specs.declared.values.Kind.{Kind}
 use Rattle.qp_commands.specs.declared.values.Output.{Output}
 use Rattle.qp_commands.specs.declared.values.Form.{Form}
@@ -27,25 +27,25 @@ pub run-no_kernel : (b : Option ℕ) (o : Option Output) (f : Option Form) (s t 
 unfolding run_with
 run-no_kernel b o f s t = refl
 
-pub run-no_budget : (k : Option Kernel) (o : Option Output) (f : Option Form) (s t : Option Text) → run_with k None o f s t ≡ None
+pub run-no_budget : (k : Option KernelName) (o : Option Output) (f : Option Form) (s t : Option Text) → run_with k None o f s t ≡ None
 unfolding run_with
 run-no_budget None o f s t = refl
 run-no_budget (Some k) o f s t = refl
 
-pub run-no_output : (k : Option Kernel) (b : Option ℕ) (f : Option Form) (s t : Option Text) → run_with k b None f s t ≡ None
+pub run-no_output : (k : Option KernelName) (b : Option ℕ) (f : Option Form) (s t : Option Text) → run_with k b None f s t ≡ None
 unfolding run_with
 run-no_output None b f s t = refl
 run-no_output (Some k) None f s t = refl
 run-no_output (Some k) (Some b) f s t = refl
 
-pub run-no_form : (k : Option Kernel) (b : Option ℕ) (o : Option Output) (s t : Option Text) → run_with k b o None s t ≡ None
+pub run-no_form : (k : Option KernelName) (b : Option ℕ) (o : Option Output) (s t : Option Text) → run_with k b o None s t ≡ None
 unfolding run_with
 run-no_form None b o s t = refl
 run-no_form (Some k) None o s t = refl
 run-no_form (Some k) (Some b) None s t = refl
 run-no_form (Some k) (Some b) (Some o) s t = refl
 
-pub run-no_system : (k : Option Kernel) (b : Option ℕ) (o : Option Output) (f : Option Form) (t : Option Text) → run_with k b o f None t ≡ None
+pub run-no_system : (k : Option KernelName) (b : Option ℕ) (o : Option Output) (f : Option Form) (t : Option Text) → run_with k b o f None t ≡ None
 unfolding run_with
 run-no_system None b o f t = refl
 run-no_system (Some k) None o f t = refl
@@ -53,7 +53,7 @@ run-no_system (Some k) (Some b) None f t = refl
 run-no_system (Some k) (Some b) (Some o) None t = refl
 run-no_system (Some k) (Some b) (Some o) (Some f) t = refl
 
-pub run-no_stimuli : (k : Option Kernel) (b : Option ℕ) (o : Option Output) (f : Option Form) (s : Option Text) → run_with k b o f s None ≡ None
+pub run-no_stimuli : (k : Option KernelName) (b : Option ℕ) (o : Option Output) (f : Option Form) (s : Option Text) → run_with k b o f s None ≡ None
 unfolding run_with
 run-no_stimuli None b o f s = refl
 run-no_stimuli (Some k) None o f s = refl

@@ -2,8 +2,8 @@
 use Rattle.std.specs.Prelude.{codes, decimal, ℕ, ◌≡◌, ◌≢◌, ◌≤◌, ◌==◌, Bool, true, not, List, [], ◌∷◌, None, Some, is_some}
 use Rattle.std.specs.List.{list_all}
 use Rattle.clap.specs.Words.{Text}
-use Rattle.qp_commands.specs.declared.values.Kernel.{Kernel}
-use Rattle.qp_commands.specs.declared.values.Kernel.TheVariants.{Sim, Qk, Port, Wait, Qv}
+use Rattle.qp_commands.specs.declared.values.KernelName.{KernelName}
+use Rattle.qp_commands.specs.declared.values.KernelName.TheVariants.{Sim, Qk, Port, Wait, Qv}
 use Rattle.qp_commands.specs.declared.values.Kind.{Kind}
 use Rattle.qp_commands.specs.declared.values.Kind.TheVariants.{Frames, Journal}
 use Rattle.qp_commands.specs.declared.values.Output.{Output}
@@ -54,7 +54,7 @@ OtherWords = (command_in [] ≡ None)
     × ((word : Text) (words : List Text) → word ≢ codes "run" → word ≢ codes "decode" → word ≢ codes "migrate" → word ≢ codes "check"
     → word ≢ codes "replay" → word ≢ codes "gen" → command_in (word ∷ words) ≡ None)
 
-abbrev pub word_of_kernel : Kernel → Text
+abbrev pub word_of_kernel : KernelName → Text
 word_of_kernel Sim = codes "sim"
 word_of_kernel Qk = codes "qk"
 word_of_kernel Port = codes "port"
@@ -76,7 +76,7 @@ word_of_form Two = codes "2"
 -- every run of names with the default budget, every budget, and every migration of names can be asked for
 
 abbrev pub RunInFull : Type 0
-RunInFull = (kernel : Kernel) (out : Output) (form : Form) (system stimuli : Text) → is_form_of kernel form ≡ true → is_name system ≡ true → is_name stimuli ≡ true
+RunInFull = (kernel : KernelName) (out : Output) (form : Form) (system stimuli : Text) → is_form_of kernel form ≡ true → is_name system ≡ true → is_name stimuli ≡ true
     → command_in (codes "run" ∷ codes "--kernel" ∷ word_of_kernel kernel ∷ codes "--out" ∷ word_of_output out ∷ codes "--form" ∷ word_of_form form
     ∷ system ∷ stimuli ∷ [])
     ≡ Some (run (record { kernel = kernel; budget = 100000; out = out; form = form; system = system; stimuli = stimuli }))

@@ -5,11 +5,11 @@ use Rattle.std.specs.Str.{bytes_eq}
 use Rattle.clap.specs.Words.{App, Kinds, Row, Rule, Text, fault_of, first_of, matches_of, new_rule}
 use Rattle.clap.specs.Simple.{new_shape}
 use Rattle.clap.specs.declared.builder.action.ArgAction.TheVariants.{Set}
-use Rattle.qp_text.specs.Numbers.{number_of}
+use Rattle.qp_text.specs.Numbers.{number_of_decimal}
 use Rattle.qp_commands.specs.declared.asking.Command.{Command}
 use Rattle.qp_commands.specs.declared.asking.Command.TheVariants.{Run, Decode, Migrate, Check, Replay, Generate}
-use Rattle.qp_commands.specs.declared.values.Kernel.{Kernel}
-use Rattle.qp_commands.specs.declared.values.Kernel.TheVariants.{Sim, Qk, Port, Wait, Qv}
+use Rattle.qp_commands.specs.declared.values.KernelName.{KernelName}
+use Rattle.qp_commands.specs.declared.values.KernelName.TheVariants.{Sim, Qk, Port, Wait, Qv}
 use Rattle.qp_commands.specs.declared.values.Kind.{Kind}
 use Rattle.qp_commands.specs.declared.values.Kind.TheVariants.{Journal, Frames}
 use Rattle.qp_commands.specs.declared.values.Output.{Output}
@@ -74,7 +74,7 @@ found_in app words = rows_unless (fault_of app words) (matches_of app words)
 
 -- ---- the values of options; without the option the default
 
-unfoldable pub kernel_in : Option Text → Option Kernel
+unfoldable pub kernel_in : Option Text → Option KernelName
 kernel_in None = Some Sim
 kernel_in (Some word) =
     if bytes_eq word (codes "sim") then Some Sim
@@ -90,12 +90,12 @@ within most n = if nat_le 1 n && nat_le n most then Some n else None
 -- a number in canonical decimal, from 1 to 1,000,000
 unfoldable pub budget_in : Option Text → Option ℕ
 budget_in None = Some 100000
-budget_in (Some word) = option_and_then (within 1000000) (number_of word)
+budget_in (Some word) = option_and_then (within 1000000) (number_of_decimal word)
 
 -- the same from 1 to 1,000
 unfoldable pub made_in : Option Text → Option ℕ
 made_in None = None
-made_in (Some word) = option_and_then (within 1000) (number_of word)
+made_in (Some word) = option_and_then (within 1000) (number_of_decimal word)
 
 unfoldable pub output_in : Option Text → Option Output
 output_in None = Some (Whole Journal)
@@ -117,7 +117,7 @@ form_in default (Some word) =
     else (if bytes_eq word (codes "2") then Some Two else None)
 
 -- the forms in which a journal of this kernel can be written: one of `qv` has form 2 alone
-abbrev pub is_form_of : Kernel → Form → Bool
+abbrev pub is_form_of : KernelName → Form → Bool
 is_form_of Sim form = true
 is_form_of Qk form = true
 is_form_of Port form = true
@@ -126,14 +126,14 @@ is_form_of Qv One = false
 is_form_of Qv Two = true
 
 -- the kernels under which lanes have threads of their own
-abbrev pub has_threads : Kernel → Bool
+abbrev pub has_threads : KernelName → Bool
 has_threads Sim = false
 has_threads Qk = true
 has_threads Port = true
 has_threads Wait = true
 has_threads Qv = false
 
-abbrev pub default_form : Kernel → Form
+abbrev pub default_form : KernelName → Form
 default_form Sim = One
 default_form Qk = One
 default_form Port = One
@@ -141,10 +141,10 @@ default_form Wait = One
 default_form Qv = Two
 
 -- the form, where a journal of this kernel has it
-abbrev pub form_fit : Kernel → Form → Option Form
+abbrev pub form_fit : KernelName → Form → Option Form
 form_fit kernel form = if is_form_of kernel form then Some form else None
 
-unfoldable pub form_under : Kernel → Option Text → Option Form
+unfoldable pub form_under : KernelName → Option Text → Option Form
 form_under kernel word = option_and_then (form_fit kernel) (form_in (default_form kernel) word)
 
 abbrev pub number_of_form : Form → ℕ
@@ -154,7 +154,7 @@ number_of_form Two = 2
 -- ---- what a call asks for, with its words as texts
 
 pub record RunWords : Type 0 where
-  pub kernel : Kernel
+  pub kernel : KernelName
   pub budget : ℕ
   pub out : Output
   pub form : Form
@@ -214,7 +214,7 @@ operand_in None place = []
 operand_in (Some asked) place = operand_at asked place
 
 -- all parts of a run are there
-unfoldable pub run_with : Option Kernel → Option ℕ → Option Output → Option Form → Option Text → Option Text → Option Asked
+unfoldable pub run_with : Option KernelName → Option ℕ → Option Output → Option Form → Option Text → Option Text → Option Asked
 run_with (Some k) (Some b) (Some o) (Some f) (Some system) (Some stimuli) =
     Some (run (record { kernel = k; budget = b; out = o; form = f; system = system; stimuli = stimuli }))
 run_with _ _ _ _ _ _ = None

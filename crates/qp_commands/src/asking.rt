@@ -6,7 +6,7 @@ ghost use Rattle.clap.specs.Words.{found_of, rows_of};
 
 use crate::apps::{Word, app, matches_in};
 use crate::values::{
-    Form, Kernel, Kind, Output, budget_of, form_of, form_under, kernel_of, kind_of, made_of,
+    Form, KernelName, Kind, Output, budget_of, form_of, form_under, kernel_of, kind_of, made_of,
     output_of,
 };
 use clap::ArgMatches;
@@ -17,7 +17,7 @@ use std::alloc::{AllocError, Global};
 pub enum Command<'w> {
     /// Run a system on its stimuli, where no object takes more events than the budget, and print the journal or its summary.
     Run {
-        kernel: Kernel,
+        kernel: KernelName,
         budget: u32,
         out: Output,
         form: Form,

@@ -8,4 +8,4 @@ mod numbers;
 mod values;
 
 pub use asking::{Command, command_of};
-pub use values::{Form, Kernel, Kind, Output};
+pub use values::{Form, KernelName, Kind, Output};

@@ -1,13 +1,13 @@
 //! Numbers among the words of a call.
 
 ghost use Rattle.std.specs.Prelude.{◌≡◌};
-ghost use Rattle.qp_text.specs.Numbers.{fitting, number_of, value_after};
+ghost use Rattle.qp_text.specs.Numbers.{fitting, number_of_decimal, value_after};
 
 use itoa::Buffer;
 
 /// A number of 64 bits in canonical decimal.
 pub(crate) fn number(text: &[u8]) -> Option<u64>
-    ensures { result ≡ number_of text.now }
+    ensures { result ≡ number_of_decimal text.now }
 {
     let n = value(text)?;
     if Buffer::new().format(n).as_bytes() == text {

@@ -6,7 +6,7 @@ use crate::numbers::number;
 
 /// How the objects of a run are scheduled.
 #[derive(Clone, Copy, PartialEq, Eq, Debug)]
-pub enum Kernel {
+pub enum KernelName {
     /// The preemptive kernel in one thread.
     Sim,
     /// The preemptive kernel in a thread, and each source in one of its own.
@@ -58,15 +58,15 @@ impl Form {
 
 /// The kernel of `--kernel`; without the option it is `sim`.
 #[tactic(auto, unfolding(crate::specs::WordTable::kernel_in))]
-pub(crate) fn kernel_of(value: Option<&str>) -> Option<Kernel>
+pub(crate) fn kernel_of(value: Option<&str>) -> Option<KernelName>
     ensures { result ≡ kernel_in (option_map (λ word. word.now) value.entry) }
 {
     match value {
-        None | Some("sim") => Some(Kernel::Sim),
-        Some("qk") => Some(Kernel::Qk),
-        Some("port") => Some(Kernel::Port),
-        Some("wait") => Some(Kernel::Wait),
-        Some("qv") => Some(Kernel::Qv),
+        None | Some("sim") => Some(KernelName::Sim),
+        Some("qk") => Some(KernelName::Qk),
+        Some("port") => Some(KernelName::Port),
+        Some("wait") => Some(KernelName::Wait),
+        Some("qv") => Some(KernelName::Qv),
         Some(_) => None,
     }
 }
@@ -145,12 +145,15 @@ pub(crate) fn form_of(value: Option<&str>, default: Form) -> Option<Form>
 
 /// The form of a run's `--form`. A journal of `qv` has form 2 alone.
 #[tactic(auto, unfolding(crate::specs::WordTable::form_under))]
-pub(crate) fn form_under(kernel: Kernel, value: Option<&str>) -> Option<Form>
+pub(crate) fn form_under(kernel: KernelName, value: Option<&str>) -> Option<Form>
     ensures { result ≡ form_under kernel (option_map (λ word. word.now) value.entry) }
 {
     match kernel {
-        Kernel::Sim | Kernel::Qk | Kernel::Port | Kernel::Wait => form_of(value, Form::One),
-        Kernel::Qv => match form_of(value, Form::Two) {
+        KernelName::Sim | KernelName::Qk | KernelName::Port | KernelName::Wait => form_of(
+            value,
+            Form::One,
+        ),
+        KernelName::Qv => match form_of(value, Form::Two) {
             Some(Form::Two) => Some(Form::Two),
             _ => None,
         },

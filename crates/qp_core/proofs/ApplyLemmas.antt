@@ -12,13 +12,13 @@ use Rattle.qp_model.specs.declared.systems.System.{System}
 use Rattle.qp_model.proofs.ListLemmas.{take-next}
 use Rattle.qp_base.specs.declared.faults.Memory.{Memory}
 use Rattle.qp_table.specs.declared.view.Serve.{Serve}
-use Rattle.qp_core_seats.specs.Words.{Steps}
-use Rattle.qp_core_seats.specs.Keeps.{HasOwn, StepKeeps}
+use Rattle.qp_core_steps.specs.Words.{Steps}
+use Rattle.qp_core_steps.specs.Keeps.{HasOwn, StepKeeps}
 use Rattle.qp_core.specs.Standing.{has_number, TableHolds}
-use Rattle.qp_core.specs.State.{stands_as, seat_in, bare, serves_set, may_pass, may_split, out_part, giving_up, split_off, may_join, joining, Joins, StepsSeat, may_change, Changes, may_apply, Applies}
+use Rattle.qp_core.specs.State.{stands_as, seat_in, bare_seat, serves_set, may_pass, may_split, out_part, giving_up, split_off, may_join, joining, Joins, StepsSeat, may_change, Changes, may_apply, Applies}
 use Rattle.qp_core_steps.specs.Steps.{may_step, Steps_one}
-use Rattle.qp_core.specs.Runs.{HoldsOf, Runs, Reaches, Refuses}
-use Rattle.qp_core_seats.specs.declared.seats.Seat.{Seat}
+use Rattle.qp_core.specs.Runs.{HoldsOf, Runs, LeadsTo, RefusesStep}
+use Rattle.qp_core_steps.specs.declared.seats.Seat.{Seat}
 use Rattle.qp_core.specs.declared.state.CoreState.{CoreState}
 use Rattle.qp_core_steps.specs.declared.ops.Op.{Op}
 use Rattle.qp_core_steps.specs.declared.ops.Op.TheVariants as op
@@ -88,11 +88,11 @@ module _ (seats s1 s2 : List Seat) (at there from : ℕ) (z x y b c d : Seat) (p
   c-is : c ≡ x
   c-is = let g = get-set-else seats at there b apart in let f : slice_get (set seats there b) at ≡ Some c = subst (λ ys. slice_get ys at ≡ Some c) h1 first in cc
 
-  pub join-ok : (e : Seat) (s3 : List Seat) → b ≡ bare from false → e ≡ joining c y → s3 ≡ set s2 at e → (true ≡ may_join seats x from) × Joins seats at x from s3
+  pub join-ok : (e : Seat) (s3 : List Seat) → b ≡ bare_seat from false → e ≡ joining c y → s3 ≡ set s2 at e → (true ≡ may_join seats x from) × Joins seats at x from s3
   join-ok e s3 b_is e_is h3 =
       let n : (x.number == from) ≡ false = ne_eqb x.number from ne-x in
       let may : may_join seats x from ≡ true = ap (λ o. not (x.number == from) && is_some o) is ∙ ap (λ t. not t && true) n in
-      let ends : set s1 at e ≡ set (set seats there (bare from false)) at (joining x y) = (λ k. set (h1 k) at (e_is k)) ∙ (λ k. set (set seats there (b_is k)) at (joining (c-is k) y)) in
+      let ends : set s1 at e ≡ set (set seats there (bare_seat from false)) at (joining x y) = (λ k. set (h1 k) at (e_is k)) ∙ (λ k. set (set seats there (b_is k)) at (joining (c-is k) y)) in
       (sym may, (there, y, is, elsewhere, h3 ∙ (ap (λ ys. set ys at e) h2 ∙ (set-twice s1 at d e ∙ ends))))
 
   pub join-err : (e f : Seat) (s3 s4 : List Seat) → e ≡ c → f ≡ y → s3 ≡ set s2 at e → s4 ≡ set s3 there f → s4 ≡ seats
@@ -125,13 +125,13 @@ steps-then may made same P f g (Err u) h = g h
 
 module _ (s : CoreState) (n at : ℕ) (place : position (stands_as n) s.seats ≡ Some at) where
   abbrev x : Seat
-  x = get_or s.seats at (bare 0 false)
+  x = get_or s.seats at (bare_seat 0 false)
 
   pub within : at < length s.seats
-  within = (position-Some (stands_as n) s.seats at (bare 0 false) place).0
+  within = (position-Some (stands_as n) s.seats at (bare_seat 0 false) place).0
 
   pub here : slice_get s.seats at ≡ Some x
-  here = slice_get-get_or s.seats at (bare 0 false) within
+  here = slice_get-get_or s.seats at (bare_seat 0 false) within
 
   stands : (x.stands ≡ true) × (x.number ≡ n)
   stands = found n s.seats at x place here
@@ -242,17 +242,17 @@ pub runs-snoc : (s : CoreState) (steps : List (ℕ × Op)) (t : CoreState) (n : 
 runs-snoc s [] t n o u e may made = (u, subst (λ z. may_apply z n o ≡ true) e may, subst (λ z. Applies z n o u) e made, refl)
 runs-snoc s (x ∷ steps) t n o u e may made = (e.0, e.1, e.2, runs-snoc e.0 steps t n o u e.3 may made)
 
-module _ (sys : System) (lanes : ℕ) (steps : List (ℕ × Op)) (i : ℕ) (step : ℕ × Op) (below : i < length steps) (is : step ≡ get_or steps i step) (s s' : CoreState) (r : Result Bool Memory) (b : Bool) (reached : Reaches sys lanes (take i steps) s) (one : Steps (may_apply s step.0 step.1) (Applies s step.0 step.1 s') (s' ≡ s) r) (r_is : r ≡ Ok b) where
+module _ (sys : System) (lanes : ℕ) (steps : List (ℕ × Op)) (i : ℕ) (step : ℕ × Op) (below : i < length steps) (is : step ≡ get_or steps i step) (s s' : CoreState) (r : Result Bool Memory) (b : Bool) (reached : LeadsTo sys lanes (take i steps) s) (one : Steps (may_apply s step.0 step.1) (Applies s step.0 step.1 s') (s' ≡ s) r) (r_is : r ≡ Ok b) where
   at-step : slice_get steps i ≡ Some step
   at-step = slice_get_read steps (length steps) i step refl below is
 
   outcome : (b ≡ may_apply s step.0 step.1) × MatchBool b (Applies s step.0 step.1 s') (s' ≡ s)
   outcome = subst (λ q. Steps (may_apply s step.0 step.1) (Applies s step.0 step.1 s') (s' ≡ s) q) r_is one
 
-  pub refused : b ≡ false → Refuses sys lanes steps i
+  pub refused : b ≡ false → RefusesStep sys lanes steps i
   refused e = (s, step.0, step.1, reached, at-step, sym outcome.0 ∙ e)
 
-  pub reached-more : (HoldsOf s → HoldsOf s') → b ≡ true → Reaches sys lanes (take (i + 1) steps) s'
+  pub reached-more : (HoldsOf s → HoldsOf s') → b ≡ true → LeadsTo sys lanes (take (i + 1) steps) s'
   reached-more kept e =
       let made : Applies s step.0 step.1 s' = subst (λ q. MatchBool q (Applies s step.0 step.1 s') (s' ≡ s)) e outcome.1 in
       let next : suc i ≡ i + 1 = omega arith in

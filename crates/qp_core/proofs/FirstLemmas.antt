@@ -17,9 +17,9 @@ use Rattle.qp_table.specs.Whole.{later_lanes}
 use Rattle.qp_table.specs.First.{first_word, first_serve, first_serves}
 use Rattle.qp_table.proofs.Lanes.{adds-nothing, keeps, swaps}
 use Rattle.qp_table.proofs.Start.{first-shows, first-cells, serves-once, serves-fresh, starts}
-use Rattle.qp_core_seats.specs.Seats.{as_view}
+use Rattle.qp_core_steps.specs.Seats.{as_view}
 use Rattle.qp_core.specs.Standing.{bank, has_number, TableHolds}
-use Rattle.qp_core.specs.Runs.{IsFirst, first_seat}
+use Rattle.qp_core.specs.Runs.{IsFirstState, first_seat}
 use Rattle.qp_core.specs.declared.state.CoreState.{CoreState}
 
 -- The first view becomes that of seat 0 and the lane numbers not handed out
@@ -79,7 +79,7 @@ first-holds sys lanes words sound few wide each = record {
 }
 
 pub first-is : (sys : System) (lanes : ℕ) (s : CoreState) → IsSound sys → s.sys.now ≡ sys → s.lanes ≡ lanes → length s.words ≡ 21128 → ((k : ℕ) → k < 21128 → get_or s.words k 0 ≡ first_word sys k) → s.seats ≡ first_seat (first_serves sys 32) ∷ []
-    → IsFirst sys lanes s
+    → IsFirstState sys lanes s
 first-is sys lanes s sound a b wide each seat = record {
   sys_is = a;
   lanes_is = b;

@@ -14,21 +14,21 @@ use Rattle.std.specs.declared.option.Option.{Option}
 use Rattle.qp_table.specs.Counting.{Each}
 use Rattle.qp_table.specs.Rule.{on_queue}
 use Rattle.qp_table.specs.After.{logged, passing, failing}
-use Rattle.qp_table.specs.declared.view.Log.{Log}
+use Rattle.qp_table.specs.declared.view.SeatLog.{SeatLog}
 use Rattle.qp_table.specs.declared.view.CellPlace.{CellPlace}
 use Rattle.qp_table.specs.declared.view.Serve.{Serve}
 use Rattle.qp_table.specs.declared.view.View.{View}
 use Rattle.qp_table.specs.Whole.{Unused}
-use Rattle.qp_core_seats.specs.Seats.{as_view}
-use Rattle.qp_core_seats.specs.Blocks.{ended}
+use Rattle.qp_core_steps.specs.Seats.{as_view}
+use Rattle.qp_core_steps.specs.Blocks.{ended}
 use Rattle.qp_core_steps.specs.Looks.{looked}
 use Rattle.qp_core.specs.Standing.{AreViews, is_own}
 use Rattle.qp_core.specs.State.{stands_as, is_unused, may_pass, in_part, out_part}
 use Rattle.qp_core_steps.specs.Steps.{Steps_one}
-use Rattle.qp_core_seats.specs.declared.seats.Seat.{Seat}
+use Rattle.qp_core_steps.specs.declared.seats.Seat.{Seat}
 use Rattle.qp_core_steps.specs.declared.ops.Op.{Op}
 use Rattle.qp_core_steps.specs.declared.ops.Op.TheVariants as op
-use Rattle.qp_core_seats.proofs.ListLemmas.{none-many}
+use Rattle.qp_core_steps.proofs.ListLemmas.{none-many}
 
 module _ {A : Type 0} where
   pub each-at : (P : A → Type 0) (xs : List A) (i : ℕ) (x : A) → Each P xs → slice_get xs i ≡ Some x → P x
@@ -92,15 +92,15 @@ snoc-view (x ∷ xs) [] a y = absurd a
 snoc-view (x ∷ xs) (v ∷ vs) a y = (a.0, snoc-view xs vs a.1 y)
 
 -- Own logs
-pub own-some : (n : ℕ) (gs : List Log) → is_own n gs ≡ true → 0 < length gs
+pub own-some : (n : ℕ) (gs : List SeatLog) → is_own n gs ≡ true → 0 < length gs
 own-some n [] h = absurd (cc)
 own-some n (g ∷ gs) h = omega arith
 
-pub own-more : (n : ℕ) (gs hs : List Log) → is_own n gs ≡ true → is_own n (gs ++ hs) ≡ true
+pub own-more : (n : ℕ) (gs hs : List SeatLog) → is_own n gs ≡ true → is_own n (gs ++ hs) ≡ true
 own-more n [] hs h = absurd (cc)
 own-more n (g ∷ gs) hs h = h
 
-own-logged : (n : ℕ) (r : Rec) (gs : List Log) → is_own n (logged r gs) ≡ is_own n gs
+own-logged : (n : ℕ) (r : Rec) (gs : List SeatLog) → is_own n (logged r gs) ≡ is_own n gs
 own-logged n r [] = refl
 own-logged n r (g ∷ gs) = refl
 

@@ -11,16 +11,16 @@ use Rattle.qp_table.specs.Counting.{many, without}
 use Rattle.qp_table.specs.Rule.{is_number, Holds}
 use Rattle.qp_table.specs.After.{nothing, onlooker, granted, handing, handed}
 use Rattle.qp_table.specs.declared.view.Glance.{Glance}
-use Rattle.qp_table.specs.declared.view.Log.{Log}
+use Rattle.qp_table.specs.declared.view.SeatLog.{SeatLog}
 use Rattle.qp_table.specs.declared.view.View.{View}
 use Rattle.qp_table.proofs.Counting.{each-snoc, many-without}
 use Rattle.qp_table.proofs.Tokens.{b2n}
 use Rattle.qp_table.proofs.Lanes.{adds-nothing, looks-on, grants, hands-over, joins, set-last, set-longer}
-use Rattle.qp_core_seats.specs.Seats.{as_view}
-use Rattle.qp_core_seats.specs.Keeps.{HasOwn, StepKeeps}
+use Rattle.qp_core_steps.specs.Seats.{as_view}
+use Rattle.qp_core_steps.specs.Keeps.{HasOwn, StepKeeps}
 use Rattle.qp_core.specs.Standing.{bank, is_own, Owns, has_number, TableHolds}
-use Rattle.qp_core.specs.State.{stands_as, bare, may_pass, SetsBy, in_part, giving_up, first_logs, split_off, joining}
-use Rattle.qp_core_seats.specs.declared.seats.Seat.{Seat}
+use Rattle.qp_core.specs.State.{stands_as, bare_seat, may_pass, SetsBy, in_part, giving_up, first_logs, split_off, joining}
+use Rattle.qp_core_steps.specs.declared.seats.Seat.{Seat}
 use Rattle.qp_core.proofs.SeatLemmas.{each-at, each-set, any-set, any-snoc, get-set-else, at-below, at-view, set-view, snoc-view, own-some, own-more, Same, failing-is, passing-is, all-unused}
 
 module _ (sys : System) (lanes : ℕ) (words : List ℕ) (seats : List Seat) (t : TableHolds sys lanes words seats) (i : ℕ) (x : Seat) (at : slice_get seats i ≡ Some x) where
@@ -46,31 +46,31 @@ module _ (sys : System) (lanes : ℕ) (words : List ℕ) (seats : List Seat) (t 
       }
 
   -- The seat of number j is taken over
-  pub join-holds : (j : ℕ) (y : Seat) → slice_get seats j ≡ Some y → j ≢ i → (from : ℕ) → y.number ≡ from → TableHolds sys lanes words (set (set seats j (bare from false)) i (joining x y))
+  pub join-holds : (j : ℕ) (y : Seat) → slice_get seats j ≡ Some y → j ≢ i → (from : ℕ) → y.number ≡ from → TableHolds sys lanes words (set (set seats j (bare_seat from false)) i (joining x y))
   join-holds j y there apart from number =
       let w = at-view seats t.views t.seats_are j y there in
       let v = at-view seats t.views t.seats_are i x at in
-      let h : Holds sys words (bank t.lane_numbers ∷ set (set t.views i (as_view (joining x y))) j (as_view (bare from false))) =
+      let h : Holds sys words (bank t.lane_numbers ∷ set (set t.views i (as_view (joining x y))) j (as_view (bare_seat from false))) =
       joins sys words (bank t.lane_numbers ∷ t.views) t.holds (suc i) (as_view x) v (suc j) (as_view y) (λ e. apart (omega arith)) w in
-      let swapped = set_comm t.views i j (as_view (joining x y)) (as_view (bare from false)) (λ e. apart (sym e)) in
+      let swapped = set_comm t.views i j (as_view (joining x y)) (as_view (bare_seat from false)) (λ e. apart (sym e)) in
       record {
         lane_numbers = t.lane_numbers;
-        views = set (set t.views j (as_view (bare from false))) i (as_view (joining x y));
+        views = set (set t.views j (as_view (bare_seat from false))) i (as_view (joining x y));
         holds = subst (λ vs. Holds sys words (bank t.lane_numbers ∷ vs)) swapped h;
-        seats_are = set-view (set seats j (bare from false)) (set t.views j (as_view (bare from false))) (set-view seats t.views t.seats_are j (bare from false)) i (joining x y);
-        own = each-set (Owns lanes) (set seats j (bare from false)) i (joining x y) (each-set (Owns lanes) seats j (bare from false) t.own (λ stands below. absurd (cc)))
+        seats_are = set-view (set seats j (bare_seat from false)) (set t.views j (as_view (bare_seat from false))) (set-view seats t.views t.seats_are j (bare_seat from false)) i (joining x y);
+        own = each-set (Owns lanes) (set seats j (bare_seat from false)) i (joining x y) (each-set (Owns lanes) seats j (bare_seat from false) t.own (λ stands below. absurd (cc)))
             (λ stands below. own-more x.number x.logs y.logs (each-at (Owns lanes) seats i x t.own at stands below));
-        later = λ n l gone. t.later n l (sym (any-set (has_number n) seats j y (bare from false) there (ap (λ m. m == n) (sym number)))
-            ∙ (sym (any-set (has_number n) (set seats j (bare from false)) i x (joining x y) (get-set-else seats i j (bare from false) (λ e. apart (sym e)) ∙ at) refl) ∙ gone));
+        later = λ n l gone. t.later n l (sym (any-set (has_number n) seats j y (bare_seat from false) there (ap (λ m. m == n) (sym number)))
+            ∙ (sym (any-set (has_number n) (set seats j (bare_seat from false)) i x (joining x y) (get-set-else seats i j (bare_seat from false) (λ e. apart (sym e)) ∙ at) refl) ∙ gone));
         few = t.few;
       }
 
 -- a view that has seen something, and has these logs
-abbrev Began : List Glance → List Log → View
+abbrev Began : List Glance → List SeatLog → View
 Began s gs = record nothing { logs = gs; seen = s }
 
 -- the lane number goes to the new view where it is one of the lanes, and all other numbers stay
-pub record Granted (sys : System) (words : List ℕ) (views : List View) (rest : List ℕ) (s : List Glance) (into : ℕ) (gs : List Log) : Type 0 where
+pub record Granted (sys : System) (words : List ℕ) (views : List View) (rest : List ℕ) (s : List Glance) (into : ℕ) (gs : List SeatLog) : Type 0 where
   pub left : List ℕ
   pub holds : Holds sys words (bank left ∷ (views ++ Began s gs ∷ []))
   pub others : (k : ℕ) → (into == k) ≡ false → many (is_number k) left ≡ many (is_number k) rest

@@ -8,10 +8,10 @@ use Rattle.qp_table.specs.Rule.{cell_at, is_serve, Shows}
 use Rattle.qp_table.specs.declared.view.Serve.{Serve}
 use Rattle.qp_table.specs.QueueLaws.{cells_of}
 use Rattle.qp_table.specs.Whole.{first_now}
-use Rattle.qp_table.specs.First.{IsFresh}
-use Rattle.qp_core.specs.State.{bare, may_apply, Applies}
+use Rattle.qp_table.specs.First.{IsFreshServe}
+use Rattle.qp_core.specs.State.{bare_seat, may_apply, Applies}
 use Rattle.qp_core.specs.Standing.{TableHolds}
-use Rattle.qp_core_seats.specs.declared.seats.Seat.{Seat}
+use Rattle.qp_core_steps.specs.declared.seats.Seat.{Seat}
 use Rattle.qp_core.specs.declared.state.CoreState.{CoreState}
 use Rattle.qp_core.specs.declared.runs.CoreFault.{CoreFault}
 use Rattle.qp_core.specs.declared.runs.CoreFault.TheVariants as fault
@@ -23,10 +23,10 @@ HoldsOf s = TableHolds s.sys.now s.lanes s.words s.seats
 
 -- seat 0, which alone stands at first
 abbrev pub first_seat : List Serve → Seat
-first_seat xs = record (bare 0 true) { logs = record { number = 0; recs = [] } ∷ []; serves = xs }
+first_seat xs = record (bare_seat 0 true) { logs = record { number = 0; recs = [] } ∷ []; serves = xs }
 
 -- the first state: all blocks are free, all queues are empty, and seat 0 serves every object
-pub record IsFirst (sys : System) (lanes : ℕ) (s : CoreState) : Type 0 where
+pub record IsFirstState (sys : System) (lanes : ℕ) (s : CoreState) : Type 0 where
   pub sys_is : s.sys.now ≡ sys
   pub lanes_is : s.lanes ≡ lanes
   pub shows : Shows sys s.words (first_now sys)
@@ -34,7 +34,7 @@ pub record IsFirst (sys : System) (lanes : ℕ) (s : CoreState) : Type 0 where
   pub serves : List Serve
   pub seat : s.seats ≡ first_seat serves ∷ []
   pub all_objects : (a : ℕ) → many (is_serve a) serves ≡ cond (is_object sys a) 1 0
-  pub fresh : Each IsFresh serves
+  pub fresh : Each IsFreshServe serves
 
 -- the steps lead from the one state to the other, each of them allowed where it is made
 abbrev pub Runs : CoreState → List (ℕ × Op) → CoreState → Type 0
@@ -42,15 +42,15 @@ Runs s [] t = t ≡ s
 Runs s ((n, o) ∷ rest) t = (u : CoreState) × (may_apply s n o ≡ true) × Applies s n o u × Runs u rest t
 
 -- they lead there from the first state, and the rule holds there
-abbrev pub Reaches : System → ℕ → List (ℕ × Op) → CoreState → Type 0
-Reaches sys lanes steps t = (s : CoreState) × IsFirst sys lanes s × Runs s steps t × HoldsOf t
+abbrev pub LeadsTo : System → ℕ → List (ℕ × Op) → CoreState → Type 0
+LeadsTo sys lanes steps t = (s : CoreState) × IsFirstState sys lanes s × Runs s steps t × HoldsOf t
 
 -- the step at this place, behind those that were made
-abbrev pub Refuses : System → ℕ → List (ℕ × Op) → ℕ → Type 0
-Refuses sys lanes steps place = (t : CoreState) × (n : ℕ) × (o : Op) × Reaches sys lanes (take place steps) t × (slice_get steps place ≡ Some (n, o)) × (may_apply t n o ≡ false)
+abbrev pub RefusesStep : System → ℕ → List (ℕ × Op) → ℕ → Type 0
+RefusesStep sys lanes steps place = (t : CoreState) × (n : ℕ) × (o : Op) × LeadsTo sys lanes (take place steps) t × (slice_get steps place ≡ Some (n, o)) × (may_apply t n o ≡ false)
 
 -- a run ends in a state with the rule, or names its first step that isn't allowed
 abbrev pub EndsAs : System → ℕ → List (ℕ × Op) → Result CoreState CoreFault → Type 0
-EndsAs sys lanes steps (Ok t) = Reaches sys lanes steps t
-EndsAs sys lanes steps (Err (fault.NotAllowed place)) = Refuses sys lanes steps place
+EndsAs sys lanes steps (Ok t) = LeadsTo sys lanes steps t
+EndsAs sys lanes steps (Err (fault.NotAllowed place)) = RefusesStep sys lanes steps place
 EndsAs sys lanes steps (Err fault.Memory) = ⊤

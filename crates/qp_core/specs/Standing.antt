@@ -5,10 +5,10 @@ use Rattle.qp_model.specs.declared.systems.System.{System}
 use Rattle.qp_table.specs.Counting.{Each, many}
 use Rattle.qp_table.specs.Rule.{is_number, Holds}
 use Rattle.qp_table.specs.After.{nothing}
-use Rattle.qp_table.specs.declared.view.Log.{Log}
+use Rattle.qp_table.specs.declared.view.SeatLog.{SeatLog}
 use Rattle.qp_table.specs.declared.view.View.{View}
-use Rattle.qp_core_seats.specs.Seats.{as_view}
-use Rattle.qp_core_seats.specs.declared.seats.Seat.{Seat}
+use Rattle.qp_core_steps.specs.Seats.{as_view}
+use Rattle.qp_core_steps.specs.declared.seats.Seat.{Seat}
 
 -- the views are those of the seats
 abbrev pub AreViews : List Seat → List View → Type 0
@@ -22,7 +22,7 @@ abbrev pub bank : List ℕ → View
 bank ns = record nothing { lane_numbers = ns }
 
 -- the log of this lane stands first
-abbrev pub is_own : ℕ → List Log → Bool
+abbrev pub is_own : ℕ → List SeatLog → Bool
 is_own n [] = false
 is_own n (g ∷ gs) = g.number == n
 

@@ -9,16 +9,16 @@ use Rattle.qp_model.specs.declared.systems.System.{System}
 use Rattle.qp_model.specs.declared.words.Word.{Word}
 use Rattle.qp_model.specs.declared.words.Word.TheVariants as word
 use Rattle.qp_table.specs.Rule.{pool_at, block_at, queue_at, is_serve, on_queue}
-use Rattle.qp_table.specs.declared.view.Log.{Log}
+use Rattle.qp_table.specs.declared.view.SeatLog.{SeatLog}
 use Rattle.qp_table.specs.declared.view.CellPlace.{CellPlace}
 use Rattle.qp_table.specs.declared.view.Serve.{Serve}
 use Rattle.std.specs.declared.result.Result.{Result}
 use Rattle.qp_base.specs.declared.faults.Memory.{Memory}
-use Rattle.qp_core_seats.specs.Words.{Steps}
-use Rattle.qp_core_seats.specs.Keeps.{HasOwn, StepKeeps}
+use Rattle.qp_core_steps.specs.Words.{Steps}
+use Rattle.qp_core_steps.specs.Keeps.{HasOwn, StepKeeps}
 use Rattle.qp_core.specs.Standing.{has_number}
 use Rattle.qp_core_steps.specs.Steps.{may_step, Steps_one}
-use Rattle.qp_core_seats.specs.declared.seats.Seat.{Seat}
+use Rattle.qp_core_steps.specs.declared.seats.Seat.{Seat}
 use Rattle.qp_core.specs.declared.state.CoreState.{CoreState}
 use Rattle.qp_core_steps.specs.declared.ops.Op.{Op}
 use Rattle.qp_core_steps.specs.declared.ops.Op.TheVariants as op
@@ -36,8 +36,8 @@ abbrev pub standing : List Seat → ℕ → Option Seat
 standing xs n = seat_in xs (position (stands_as n) xs)
 
 -- a seat that holds nothing
-abbrev pub bare : ℕ → Bool → Seat
-bare n t = record { number = n; stands = t; by = 0; logs = []; fresh = []; used = []; hands = []; gives = []; fills = []; claims = []; takes = []; serves = []; seen = record { list = [] } }
+abbrev pub bare_seat : ℕ → Bool → Seat
+bare_seat n t = record { number = n; stands = t; by = 0; logs = []; fresh = []; used = []; hands = []; gives = []; fills = []; claims = []; takes = []; serves = []; seen = record { list = [] } }
 
 -- Split
 
@@ -71,11 +71,11 @@ abbrev pub giving_up : ℕ → Seat → Seat
 giving_up set x = record x { serves = filter (out_part set) x.serves }
 
 -- a seat below `lanes` begins its lane; what is split off has seen what the other has
-abbrev pub first_logs : ℕ → ℕ → List Log
+abbrev pub first_logs : ℕ → ℕ → List SeatLog
 first_logs lanes n = if nat_lt n lanes then record { number = n; recs = [] } ∷ [] else []
 
 abbrev pub split_off : ℕ → ℕ → ℕ → Seat → Seat
-split_off lanes into set x = record (bare into true) { logs = first_logs lanes into; serves = filter (in_part set) x.serves; seen = x.seen }
+split_off lanes into set x = record (bare_seat into true) { logs = first_logs lanes into; serves = filter (in_part set) x.serves; seen = x.seen }
 
 -- Join
 
@@ -98,7 +98,7 @@ joining x y = record x {
 
 -- seat i, which is x, takes over the seat `from`, which stands no more
 abbrev pub Joins : List Seat → ℕ → Seat → ℕ → List Seat → Type 0
-Joins xs i x from xs' = (j : ℕ) × (y : Seat) × (position (stands_as from) xs ≡ Some j) × (slice_get xs j ≡ Some y) × (xs' ≡ slice_set (slice_set xs j (bare from false)) i (joining x y))
+Joins xs i x from xs' = (j : ℕ) × (y : Seat) × (position (stands_as from) xs ≡ Some j) × (slice_get xs j ≡ Some y) × (xs' ≡ slice_set (slice_set xs j (bare_seat from false)) i (joining x y))
 
 -- seat i, which is x, takes a step by itself, and the rule stands after it
 abbrev pub StepsSeat : System → ℕ → List ℕ → List Seat → ℕ → Seat → Op → List ℕ → List Seat → Result Bool Memory → Type 0
@@ -133,7 +133,7 @@ shown_by words (word.Queue a) = slice_index words (queue_at a)
 shown_by words _ = 0
 
 -- the records of a lane
-abbrev pub lane_records : ℕ → List Log → List Rec
+abbrev pub lane_records : ℕ → List SeatLog → List Rec
 lane_records n [] = []
 lane_records n (g ∷ gs) = if g.number == n then g.recs else lane_records n gs
 

@@ -5,8 +5,7 @@ mod runs;
 mod splits;
 mod state;
 
-pub use qp_core_seats::words::{WORDS, Words};
-pub use qp_core_seats::{Glances, Items, Seat, SeatGive, SeatLog};
-pub use qp_core_steps::{Op, step};
+pub use qp_core_steps::words::{WORDS, Words};
+pub use qp_core_steps::{Glances, Items, Op, Seat, SeatGive, SeatLog, step};
 pub use runs::{CoreFault, apply, run};
 pub use state::CoreState;

@@ -2,7 +2,7 @@
 
 ghost use Rattle.std.specs.Prelude.{◌≡◌, ◌<◌, ◌≤◌};
 ghost use Rattle.qp_model.specs.Sound.{IsSound};
-ghost use Rattle.qp_core_seats.specs.Words.{Steps};
+ghost use Rattle.qp_core_steps.specs.Words.{Steps};
 ghost use Rattle.std.specs.List.{position};
 ghost use Rattle.qp_core.specs.State.{stands_as, may_apply, Applies};
 ghost use Rattle.qp_core.specs.Runs.{HoldsOf, EndsAs};

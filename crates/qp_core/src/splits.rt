@@ -3,16 +3,17 @@
 ghost use Rattle.std.specs.Prelude.{◌≡◌, ◌<◌, ◌==◌, ◌&&◌, ◌++◌, [], ◌∷◌, IfOk, OnOk, OnErr, Some, length, slice_get, slice_set};
 ghost use Rattle.std.specs.List.{filter, list_any, list_all, position};
 ghost use Rattle.qp_table.specs.Rule.{on_queue};
-ghost use Rattle.qp_core_seats.specs.Words.{Steps};
+ghost use Rattle.qp_core_steps.specs.Words.{Steps};
 ghost use Rattle.qp_core.specs.Standing.{has_number};
 ghost use Rattle.qp_core.specs.State.{in_set, serves_set, may_pass, may_split, in_part, out_part, giving_up, first_logs, split_off, may_join, joining, Joins, StepsSeat};
-ghost use Rattle.qp_core_seats.specs.declared.seats.Seat.{Seat as ASeat};
+ghost use Rattle.qp_core_steps.specs.declared.seats.Seat.{Seat as ASeat};
 
 use crate::state::{bare, empty_log, seat_place};
 use qp_base::Memory;
-use qp_core_seats::words::Words;
-use qp_core_seats::{Glances, Items, Seat, SeatGive, SeatLog, copy_of_give, no_items};
-use qp_core_steps::{Op, serves_it, step};
+use qp_core_steps::words::Words;
+use qp_core_steps::{
+    Glances, Items, Op, Seat, SeatGive, SeatLog, copy_of_give, no_items, serves_it, step,
+};
 use qp_model::{Entry, System};
 use qp_table::{CellPlace, Fill, Serve, Spot};
 use std::alloc::Global;

@@ -4,14 +4,14 @@ ghost use Rattle.std.specs.Prelude.{◌≡◌, ℕ, ◌<◌, ◌≤◌, ◌++◌
 ghost use Rattle.std.specs.List.{position};
 ghost use Rattle.qp_model.specs.Sound.{IsSound};
 ghost use Rattle.qp_table.specs.First.{first_word, first_serve, first_serves};
-ghost use Rattle.qp_core.specs.State.{stands_as, bare, shown_by, lane_records, records_at, SetsBy};
-ghost use Rattle.qp_core.specs.Runs.{HoldsOf, IsFirst, first_seat};
+ghost use Rattle.qp_core.specs.State.{stands_as, bare_seat, shown_by, lane_records, records_at, SetsBy};
+ghost use Rattle.qp_core.specs.Runs.{HoldsOf, IsFirstState, first_seat};
 
 use crate::splits::add_seat;
 use qp_base::Memory;
-use qp_core_seats::asked::{bit_of, has_object, has_pool};
-use qp_core_seats::words::{WORDS, Words, block_at, pool_at, queue_at};
-use qp_core_seats::{Glances, Items, Seat, SeatLog, no_items};
+use qp_core_steps::asked::{bit_of, has_object, has_pool};
+use qp_core_steps::words::{WORDS, Words, block_at, pool_at, queue_at};
+use qp_core_steps::{Glances, Items, Seat, SeatLog, no_items};
 use qp_model::{Lane, Rec, System, Word};
 use qp_table::Serve;
 use std::alloc::Global;
@@ -38,7 +38,7 @@ pub fn seat_place(seats: &Items<Seat>, number: u32) -> Option<usize>
 
 /// A seat that holds nothing.
 pub fn bare(alloc: Global, number: u32, stands: bool) -> Seat
-    ensures { result ≡ bare number stands }
+    ensures { result ≡ bare_seat number stands }
 {
     Seat {
         number,
@@ -174,7 +174,7 @@ impl<'a> CoreState<'a> {
         requires sound { IsSound sys.now }
         requires some { 0 < lanes }
         requires few { lanes ≤ 49 }
-        ensures first { IfOk result (λ s. IsFirst sys.now lanes s) }
+        ensures first { IfOk result (λ s. IsFirstState sys.now lanes s) }
         ensures kept { IfOk result HoldsOf }
     {
         let words = first_words(alloc, sys)?;

@@ -21,13 +21,13 @@ use Rattle.qp_table.specs.declared.view.View.{View}
 use Rattle.qp_table.proofs.Bounds.{Ascends, pool-ascends, map-small}
 use Rattle.qp_table.specs.QueueLaws.{f_in, l_in, m_in}
 use Rattle.qp_table.proofs.Looks.{looks, looks_from, shows-short, shows-no_block, shows-seen, shows-nil, shows-full, shows-no_entry, shows-no_lifo}
-use Rattle.qp_core_seats.specs.Seats.{as_view, noting}
-use Rattle.qp_core_seats.specs.Blocks.{number_in, low_in}
+use Rattle.qp_core_steps.specs.Seats.{as_view, noting}
+use Rattle.qp_core_steps.specs.Blocks.{number_of_word, low_in}
 use Rattle.qp_core_steps.specs.Looks.{is_word, ones, counts_match, entries_in, states_pool, states_queue, states, shown, may_state, may_look, looked}
-use Rattle.qp_core_seats.specs.Keeps.{StepKeeps}
-use Rattle.qp_core_seats.specs.declared.seats.Seat.{Seat}
-use Rattle.qp_core_seats.proofs.Standing.{has-room}
-use Rattle.qp_core_seats.proofs.BlockLemmas.{adds, down, down-ascends, down-bits, down-length}
+use Rattle.qp_core_steps.specs.Keeps.{StepKeeps}
+use Rattle.qp_core_steps.specs.declared.seats.Seat.{Seat}
+use Rattle.qp_core_steps.proofs.Standing.{has-room}
+use Rattle.qp_core_steps.proofs.BlockLemmas.{adds, down, down-ascends, down-bits, down-length}
 
 -- a map of blocks has as many bits as blocks
 ones-none : (k : ℕ) → ones k 0 ≡ 0
@@ -78,28 +78,28 @@ module _ (sys : System) (lanes : ℕ) (words : List ℕ) (x : Seat) (own : nat_l
   pool-shown : (q : ℕ) → is_pool sys q ≡ true → (b : Body) → body_of r ≡ b → states_pool (get_or words (pool_at q) 0) q x.by r.of b ≡ true → Shown (pool_at q)
   pool-shown q pool (Short p n free reserve) is h =
       let w : ℕ = get_or words (pool_at q) 0 in
-      let a = and_parts ((((r.of == x.by) && (p == q)) && (n == number_in w)) && (free == ones 32 (low_in w))) (nat_le free reserve) h in
-      let f = four (r.of == x.by) (p == q) (n == number_in w) (free == ones 32 (low_in w)) a.0 in
+      let a = and_parts ((((r.of == x.by) && (p == q)) && (n == number_of_word w)) && (free == ones 32 (low_in w))) (nat_le free reserve) h in
+      let f = four (r.of == x.by) (p == q) (n == number_of_word w) (free == ones 32 (low_in w)) a.0 in
       let ascends = pool-ascends sys holds.lanes holds.now holds.leaves holds.logs.count holds.logs.room q pool in let small = holds.fitting.small q pool in
       let few = map-small (blocks_of sys q) (holds.now.pool q).free small.1 ascends in let shows = holds.shows.pools q pool in
       let map_is : low_in w ≡ bits_value (holds.now.pool q).free = omega arith in
-      let count : number_in w ≡ (holds.now.pool q).count = omega arith in
+      let count : number_of_word w ≡ (holds.now.pool q).count = omega arith in
       let len : free ≡ length (holds.now.pool q).free = eqb-true free (ones 32 (low_in w)) f.3 ∙ (ap (ones 32) map_is ∙ ones-length 32 (blocks_of sys q) (holds.now.pool q).free ascends small.1) in
       let le : nat_le free reserve ≡ true = a.1 in let at_most : free ≤ reserve = grind (arith, nat_tests) in
       shows-short sys words views holds id v at_id room q pool r.of reserve r
-      (item-says r ∙ (ap (item r.of) is ∙ (λ i. item r.of (Short (eqb-true p q f.1 i) ((eqb-true n (number_in w) f.2 ∙ count) i) (len i) reserve)))) (omega arith)
+      (item-says r ∙ (ap (item r.of) is ∙ (λ i. item r.of (Short (eqb-true p q f.1 i) ((eqb-true n (number_of_word w) f.2 ∙ count) i) (len i) reserve)))) (omega arith)
   pool-shown q pool (NoBlock p n free) is h =
       let w : ℕ = get_or words (pool_at q) 0 in
-      let a = and_parts ((((r.of == x.by) && (p == q)) && (n == number_in w)) && (free == 0)) (low_in w == 0) h in
-      let f = four (r.of == x.by) (p == q) (n == number_in w) (free == 0) a.0 in
+      let a = and_parts ((((r.of == x.by) && (p == q)) && (n == number_of_word w)) && (free == 0)) (low_in w == 0) h in
+      let f = four (r.of == x.by) (p == q) (n == number_of_word w) (free == 0) a.0 in
       let ascends = pool-ascends sys holds.lanes holds.now holds.leaves holds.logs.count holds.logs.room q pool in let small = holds.fitting.small q pool in
       let few = map-small (blocks_of sys q) (holds.now.pool q).free small.1 ascends in let shows = holds.shows.pools q pool in
       let map_is : low_in w ≡ bits_value (holds.now.pool q).free = omega arith in
-      let count : number_in w ≡ (holds.now.pool q).count = omega arith in
+      let count : number_of_word w ≡ (holds.now.pool q).count = omega arith in
       let zero_map : bits_value (holds.now.pool q).free ≡ 0 = sym map_is ∙ eqb-true (low_in w) 0 a.1 in
       let len : length (holds.now.pool q).free ≡ 0 = sym (ones-length 32 (blocks_of sys q) (holds.now.pool q).free ascends small.1) ∙ (ap (ones 32) zero_map ∙ ones-none 32) in
       shows-no_block sys words views holds id v at_id room q pool r.of r
-      (item-says r ∙ (ap (item r.of) is ∙ (λ i. item r.of (NoBlock (eqb-true p q f.1 i) ((eqb-true n (number_in w) f.2 ∙ count) i) (eqb-true free 0 f.3 i))))) len
+      (item-says r ∙ (ap (item r.of) is ∙ (λ i. item r.of (NoBlock (eqb-true p q f.1 i) ((eqb-true n (number_of_word w) f.2 ∙ count) i) (eqb-true free 0 f.3 i))))) len
   pool-shown q pool _ is h = cc
 
   abbrev word_of : ℕ → ℕ

@@ -14,7 +14,7 @@ use Rattle.qp_table.specs.Counting.{Each, many}
 use Rattle.qp_table.specs.Now.{Now}
 use Rattle.qp_table.specs.Rule.{queue_at, cell_at, mark_in, is_ref, InLine, Codable, code, entries_of, Run, is_item, is_place, on_queue, is_serve, Served, Holds}
 use Rattle.qp_table.specs.After.{InHand, place, claimed, put_first, laid, emptied, took, bump}
-use Rattle.qp_table.specs.declared.view.Log.{Log}
+use Rattle.qp_table.specs.declared.view.SeatLog.{SeatLog}
 use Rattle.qp_table.specs.declared.view.CellPlace.{CellPlace}
 use Rattle.qp_table.specs.declared.view.Serve.{Serve}
 use Rattle.qp_table.specs.declared.view.View.{View}
@@ -24,14 +24,14 @@ use Rattle.qp_table.specs.QueueLaws.{f_in}
 use Rattle.qp_table.proofs.Lines.{item-is}
 use Rattle.qp_table.proofs.Cells.{lays, empties}
 use Rattle.qp_table.proofs.QueueSteps.{claims, frees, lifos}
-use Rattle.qp_core_seats.specs.Seats.{as_view, may_act, may_add, glance, noting}
-use Rattle.qp_core_seats.specs.Blocks.{added}
-use Rattle.qp_core_steps.specs.Queues.{bumped, entry_for, in_hand, has_room as has_free, count_in, serves_it, may_claim, with_claim, Claims, older, oldest, code_in, is_claimed, may_lay, Lays, front_at, before_at, entry_in, may_empty, Empties, may_free, Frees, may_lifo, Lifos}
-use Rattle.qp_core_seats.specs.Keeps.{StepKeeps}
-use Rattle.qp_core_seats.specs.declared.seats.Seat.{Seat}
-use Rattle.qp_core_seats.proofs.ListLemmas.{any-many, none-many}
-use Rattle.qp_core_seats.proofs.Standing.{has-room}
-use Rattle.qp_core_seats.proofs.BlockLemmas.{adds-two}
+use Rattle.qp_core_steps.specs.Seats.{as_view, may_act, may_add, glance, noting}
+use Rattle.qp_core_steps.specs.Blocks.{added}
+use Rattle.qp_core_steps.specs.Queues.{bumped, entry_for, in_hand, has_room as has_free, count_in, serves_it, may_claim, with_claim, SeatClaims, older, oldest, code_in, is_claimed, may_lay, Lays, front_at, before_at, entry_in, may_empty, Empties, may_free, Frees, may_lifo, Lifos}
+use Rattle.qp_core_steps.specs.Keeps.{StepKeeps}
+use Rattle.qp_core_steps.specs.declared.seats.Seat.{Seat}
+use Rattle.qp_core_steps.proofs.ListLemmas.{any-many, none-many}
+use Rattle.qp_core_steps.proofs.Standing.{has-room}
+use Rattle.qp_core_steps.proofs.BlockLemmas.{adds-two}
 
 -- the entry that a step names is static or in hand
 in-hand-case : (sys : System) (x : Seat) (p b k : ℕ) → ((sig : ℕ) → IsTrue (is_static sys sig) → sig < 65536) → (c : Bool) → (p == 0) ≡ c → cond c ((b == 0) && is_static sys k) (is_block sys p b && list_any (is_ref p b k) x.hands) ≡ true
@@ -145,7 +145,7 @@ module _ (sys : System) (words : List ℕ) (views : List View) (holds : Holds sy
       item-inside sys (ring_of sys a + 1) ((holds.now.line a).m + (ring_of sys a + 1 - 1) * (holds.now.line a).l) 0 j e (holds.items a) (omega arith) q.run (subst (Each (Codable sys)) (sym q.same) q.bounded) claim-item
 
 -- what the seat serves, after an addition that doesn't wrap
-bump-same : (now : Now) (logs : List Log) (a l m : ℕ) (xs : List Serve) → l + m ≤ 1 → Each (Served now logs) xs → bumped a l m xs ≡ bump a l m xs
+bump-same : (now : Now) (logs : List SeatLog) (a l m : ℕ) (xs : List Serve) → l + m ≤ 1 → Each (Served now logs) xs → bumped a l m xs ≡ bump a l m xs
 bump-same now logs a l m [] le e = refl
 bump-same now logs a l m (x ∷ xs) le e =
     let f = e.0.few in let p : added x.lifos l ≡ x.lifos + l = mod-eq_of_lt (omega arith) in let q : added x.takes m ≡ x.takes + m = mod-eq_of_lt (omega arith) in
@@ -183,7 +183,7 @@ module _ (sys : System) (lanes : ℕ) (words : List ℕ) (x : Seat) (own : nat_l
   free-is : (a : ℕ) → has_free sys a (get_or words (queue_at a) 0) ≡ true → let w = get_or words (queue_at a) 0 in w % 2097152 + w / 2097152 % 2097152 < w / 4398046511104 + (ring_of sys a + 1)
   free-is a h = grind (arith, nat_tests)
 
-  pub claim-keeps : (a p b k : ℕ) → may_claim sys lanes words x a p b k ≡ true → Claims sys words x a p b k words' x' → StepKeeps sys words x words' x'
+  pub claim-keeps : (a p b k : ℕ) → may_claim sys lanes words x a p b k ≡ true → SeatClaims sys words x a p b k words' x' → StepKeeps sys words x words' x'
   claim-keeps a p b k may made views id holds at_id =
       let c = and_parts ((may_add lanes x && is_object sys a) && in_hand sys x p b k) (has_free sys a (get_or words (queue_at a) 0)) may in
       let t = adds-two lanes x (is_object sys a) (in_hand sys x p b k) c.0 in

@@ -3,13 +3,13 @@ use Rattle.std.proofs.Common.{◌≡◌, ℕ, ◌<◌, nat_lt, List, Bool, true,
 use Rattle.std.specs.declared.result.Result.{Result}
 use Rattle.qp_base.specs.declared.faults.Memory.{Memory}
 use Rattle.qp_model.specs.declared.systems.System.{System}
-use Rattle.qp_core_seats.specs.Words.{Steps}
-use Rattle.qp_core_seats.specs.Keeps.{HasOwn, StepKeeps}
+use Rattle.qp_core_steps.specs.Words.{Steps}
+use Rattle.qp_core_steps.specs.Keeps.{HasOwn, StepKeeps}
 use Rattle.qp_core_steps.specs.Steps.{may_step, Steps_one}
-use Rattle.qp_core_seats.specs.declared.seats.Seat.{Seat}
+use Rattle.qp_core_steps.specs.declared.seats.Seat.{Seat}
 use Rattle.qp_core_steps.specs.declared.ops.Op.{Op}
 use Rattle.qp_core_steps.specs.declared.ops.Op.TheVariants as op
-use Rattle.qp_core_seats.proofs.BlockLemmas.{give-keeps, fill-keeps, make-keeps, drop-keeps, back-keeps}
+use Rattle.qp_core_steps.proofs.BlockLemmas.{give-keeps, fill-keeps, make-keeps, drop-keeps, back-keeps}
 use Rattle.qp_core_steps.proofs.QueueLemmas.{claim-keeps, lay-keeps, empty-keeps, free-keeps, lifo-keeps}
 use Rattle.qp_core_steps.proofs.LookLemmas.{rest-keeps, look-keeps}
 

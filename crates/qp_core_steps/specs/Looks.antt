@@ -15,10 +15,10 @@ use Rattle.qp_table.specs.Rule.{pool_at, block_at, queue_at}
 use Rattle.qp_table.specs.After.{reading}
 use Rattle.qp_table.specs.QueueLaws.{f_in, l_in, m_in}
 use Rattle.qp_table.specs.declared.view.Glance.{Glance}
-use Rattle.qp_core_seats.specs.Seats.{may_act, may_add, glance, seeing, noting}
-use Rattle.qp_core_seats.specs.Blocks.{number_in, low_in, size_of, is_ref_to}
+use Rattle.qp_core_steps.specs.Seats.{may_act, may_add, glance, seeing, noting}
+use Rattle.qp_core_steps.specs.Blocks.{number_of_word, low_in, size_of, is_ref_to}
 use Rattle.qp_core_steps.specs.Queues.{serves_it}
-use Rattle.qp_core_seats.specs.declared.seats.Seat.{Seat}
+use Rattle.qp_core_steps.specs.declared.seats.Seat.{Seat}
 
 -- a word of the event table that the system has, and what it shows
 abbrev pub is_word : System → Word → Bool
@@ -54,8 +54,8 @@ entries_in w = f_in w + l_in w - m_in w
 
 -- a record for object o that shows a pool's word: at most the reserve is free, or nothing is
 abbrev pub states_pool : ℕ → ℕ → ℕ → ℕ → Body → Bool
-states_pool w q by o (Short p n free reserve) = (o == by) && (p == q) && (n == number_in w) && (free == ones 32 (low_in w)) && nat_le free reserve
-states_pool w q by o (NoBlock p n free) = (o == by) && (p == q) && (n == number_in w) && (free == 0) && (low_in w == 0)
+states_pool w q by o (Short p n free reserve) = (o == by) && (p == q) && (n == number_of_word w) && (free == ones 32 (low_in w)) && nat_le free reserve
+states_pool w q by o (NoBlock p n free) = (o == by) && (p == q) && (n == number_of_word w) && (free == 0) && (low_in w == 0)
 states_pool w q by o _ = false
 
 -- and one that shows a queue's word

@@ -17,9 +17,9 @@ use Rattle.qp_table.specs.declared.view.CellPlace.{CellPlace}
 use Rattle.qp_table.specs.declared.view.Glance.{Glance}
 use Rattle.qp_table.specs.declared.view.Serve.{Serve}
 use Rattle.qp_table.specs.QueueLaws.{f_in, l_in, m_in}
-use Rattle.qp_core_seats.specs.Seats.{may_act, may_add, glance, noting}
-use Rattle.qp_core_seats.specs.Blocks.{added}
-use Rattle.qp_core_seats.specs.declared.seats.Seat.{Seat}
+use Rattle.qp_core_steps.specs.Seats.{may_act, may_add, glance, noting}
+use Rattle.qp_core_steps.specs.Blocks.{added}
+use Rattle.qp_core_steps.specs.declared.seats.Seat.{Seat}
 
 -- the entry that a step names: pool 0 means the static signal `name`
 abbrev pub entry_for : ℕ → ℕ → ℕ → Entry
@@ -41,11 +41,11 @@ abbrev pub serves_it : Seat → ℕ → Bool
 serves_it x a = list_any (is_serve a) x.serves
 
 -- the lane's own counts of the queue, with so many last-in posts and takes more
-abbrev pub counted : ℕ → ℕ → ℕ → Serve → Serve
-counted a l m x = if x.object == a then record x { lifos = added x.lifos l; takes = added x.takes m } else x
+abbrev pub serve_with : ℕ → ℕ → ℕ → Serve → Serve
+serve_with a l m x = if x.object == a then record x { lifos = added x.lifos l; takes = added x.takes m } else x
 
 abbrev pub bumped : ℕ → ℕ → ℕ → List Serve → List Serve
-bumped a l m xs = map (counted a l m) xs
+bumped a l m xs = map (serve_with a l m) xs
 
 -- Claim
 
@@ -55,8 +55,8 @@ may_claim sys lanes words x a p b k = may_add lanes x && is_object sys a && in_h
 abbrev pub with_claim : Seat → Rec → Glance → ℕ → ℕ → Entry → ℕ → Seat
 with_claim x r g a j e n = record (noting r g x) { hands = spent e x.hands; claims = x.claims ++ place a j e n ∷ [] }
 
-abbrev pub Claims : System → List ℕ → Seat → ℕ → ℕ → ℕ → ℕ → List ℕ → Seat → Type 0
-Claims sys words x a p b k words' x' =
+abbrev pub SeatClaims : System → List ℕ → Seat → ℕ → ℕ → ℕ → ℕ → List ℕ → Seat → Type 0
+SeatClaims sys words x a p b k words' x' =
     let w = slice_index words (queue_at a) in
     (r : Rec) × (item_of r ≡ record { of = x.by; body = Post a (f_in w + 1) (l_in w) (m_in w) (entry_for p b k) }) × (words' ≡ slice_set words (queue_at a) (added w 1))
     × (x' ≡ with_claim x r (glance (queue_at a) (added w 1)) a (f_in w % (ring_of sys a + 1)) (entry_for p b k) (count_in (added w 1)))

@@ -3,20 +3,20 @@
 ghost use Rattle.std.specs.Prelude.{◌≡◌, ◌+◌, ◌≤◌, ◌==◌, ◌&&◌, ◌++◌, None, Ok, OnOk, OnErr};
 ghost use Rattle.qp_model.specs.Record.{body_of};
 ghost use Rattle.qp_table.specs.After.{reading};
-ghost use Rattle.qp_core_seats.specs.Words.{Steps};
+ghost use Rattle.qp_core_steps.specs.Words.{Steps};
 ghost use Rattle.qp_table.specs.QueueLaws.{f_in, l_in, m_in};
-ghost use Rattle.qp_core_seats.specs.Seats.{may_add, noting};
+ghost use Rattle.qp_core_steps.specs.Seats.{may_add, noting};
 ghost use Rattle.qp_core_steps.specs.Looks.{is_word, ones, counts_match, entries_in, states_pool, states_queue, states, shown, may_look, looked, may_read, may_peek};
 
+use crate::asked::{has_block, has_object, has_pool, size_of};
+use crate::blocks::ONE;
 use crate::entries::{lifos_in, posts_in, takes_in};
+use crate::items::{Items, no_items};
 use crate::queues::serves_it;
+use crate::seats::{Seat, SeatGive, copy_of_give};
+use crate::words::{Words, block_at, glance_at, pool_at, queue_at};
 use arrayvec::ArrayVec;
 use qp_base::Memory;
-use qp_core_seats::asked::{has_block, has_object, has_pool, size_of};
-use qp_core_seats::blocks::ONE;
-use qp_core_seats::items::{Items, no_items};
-use qp_core_seats::seats::{Seat, SeatGive, copy_of_give};
-use qp_core_seats::words::{Words, block_at, glance_at, pool_at, queue_at};
 use qp_model::{Body, Rec, System, Word};
 use qp_table::Glance;
 use std::alloc::Global;

@@ -6,18 +6,18 @@ ghost use Rattle.std.specs.List.{list_any, find, position};
 ghost use Rattle.qp_table.specs.Counting.{without};
 ghost use Rattle.qp_table.specs.Rule.{is_serve, on_queue, is_place, is_entry};
 ghost use Rattle.qp_table.specs.After.{spent};
-ghost use Rattle.qp_core_seats.specs.Words.{Steps};
-ghost use Rattle.qp_core_steps.specs.Queues.{counted, bumped, in_hand, serves_it, may_claim, with_claim, Claims, oldest, may_lay, Lays, may_empty, Empties, may_free, without_take, Frees, may_lifo, Lifos};
+ghost use Rattle.qp_core_steps.specs.Words.{Steps};
+ghost use Rattle.qp_core_steps.specs.Queues.{serve_with, bumped, in_hand, serves_it, may_claim, with_claim, SeatClaims, oldest, may_lay, Lays, may_empty, Empties, may_free, without_take, Frees, may_lifo, Lifos};
 
+use crate::asked::{has_block, has_object};
 use crate::entries::{
     LIFO, TAKE, before_at, code_in, count_in, entry_for, entry_in, front_at, has_room, lifos_in,
     posts_in, takes_in,
 };
+use crate::items::{Items, grown, take_out};
+use crate::seats::Seat;
+use crate::words::{Words, cell_at, glance_at, queue_at};
 use qp_base::Memory;
-use qp_core_seats::asked::{has_block, has_object};
-use qp_core_seats::items::{Items, grown, take_out};
-use qp_core_seats::seats::Seat;
-use qp_core_seats::words::{Words, cell_at, glance_at, queue_at};
 use qp_model::{Entry, Rec, System};
 use qp_table::{CellPlace, Glance, Serve};
 use std::alloc::Global;
@@ -133,7 +133,7 @@ pub fn claim(
     b: u8,
     name: u64,
 ) -> Result<bool, Memory>
-    ensures { Steps (may_claim sys.now lanes words.old seat.old a p b name) (Claims sys.now words.old seat.old a p b name words.new
+    ensures { Steps (may_claim sys.now lanes words.old seat.old a p b name) (SeatClaims sys.now words.old seat.old a p b name words.new
         seat.new) ((words.new ≡ words.old) × (seat.new ≡ seat.old)) result }
 {
     let may = may_claim(sys, lanes, words, seat, a, p, b, name);
@@ -247,7 +247,7 @@ fn first_on(places: &Items<CellPlace>, a: u8) -> Option<CellPlace>
 
 /// The service with so many last-in posts and takes more, where it is that of the object.
 fn counted(x: Serve, a: u8, lifos: u64, takes: u64) -> Serve
-    ensures { result ≡ counted a lifos takes x }
+    ensures { result ≡ serve_with a lifos takes x }
 {
     if x.object != u64::from(a) {
         return x;

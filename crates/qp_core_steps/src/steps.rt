@@ -1,17 +1,17 @@
 //! The steps of one seat.
 
 ghost use Rattle.std.specs.Prelude.{◌≡◌};
-ghost use Rattle.qp_core_seats.specs.Words.{Steps};
-ghost use Rattle.qp_core_seats.specs.Keeps.{HasOwn, StepKeeps};
+ghost use Rattle.qp_core_steps.specs.Words.{Steps};
+ghost use Rattle.qp_core_steps.specs.Keeps.{HasOwn, StepKeeps};
 ghost use Rattle.qp_core_steps.specs.Steps.{may_step, Steps_one};
 
+use crate::blocks::{drop_reference, fill, give, make, put_back};
 use crate::looks::{look, may_peek, may_read};
 use crate::ops::Op;
 use crate::queues::{claim, empty, free, lay, lifo};
+use crate::seats::Seat;
+use crate::words::Words;
 use qp_base::Memory;
-use qp_core_seats::blocks::{drop_reference, fill, give, make, put_back};
-use qp_core_seats::seats::Seat;
-use qp_core_seats::words::Words;
 use qp_model::System;
 use std::alloc::Global;
 

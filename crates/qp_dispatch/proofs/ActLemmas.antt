@@ -30,14 +30,14 @@ use Rattle.qp_model.specs.Line.{is_front}
 use Rattle.qp_model.specs.Pieces.{Point, tell, pieces_of}
 use Rattle.qp_model.specs.Acts.{Moment}
 use Rattle.qp_model.specs.Step.{DoesLeft, tasks_left}
-use Rattle.qp_model.specs.Standing.{Reaches}
+use Rattle.qp_model.specs.Standing.{AgendaReaches}
 use Rattle.qp_model.proofs.ReachLemmas.{reaches-call, reaches-say, reaches-set, does_left-asserted}
 use Rattle.qp_model.proofs.FitsLemmas.{all-append, fits-usual, Answers, Usual, Ending, assertion_of}
 use Rattle.qp_calls.specs.declared.answers.RoomFault.{RoomFault}
 use Rattle.qp_calls.specs.declared.deferred.Deferred.{Deferred}
 use Rattle.qp_calls.specs.declared.did.Did.{Did}
 use Rattle.qp_calls.specs.declared.did.Did.TheVariants as did
-use Rattle.qp_calls.specs.declared.tokens.Entry.{Entry}
+use Rattle.qp_calls.specs.declared.tokens.HeldEntry.{HeldEntry}
 use Rattle.qp_calls.specs.Tokens.{Token, Held, Loose, hands_after, hands_by}
 use Rattle.qp_calls.specs.Counting.{times, count_of}
 use Rattle.qp_calls.specs.LaneView.{LaneView, Grows}
@@ -84,23 +84,23 @@ pub all-right : {X : Type 0} (f : X → Bool) (xs ys : List X) → list_all f (x
 all-right f [] ys h = h
 all-right f (x ∷ xs) ys h = all-right f xs ys (and_parts (f x) (list_all f (xs ++ ys)) h).1
 
-pub counts-join : (t : Token) (es fs : List Entry) → count_of t (tokens_in (map entry_of (es ++ fs))) ≡ count_of t (tokens_in (map entry_of es)) + count_of t (tokens_in (map entry_of fs))
+pub counts-join : (t : Token) (es fs : List HeldEntry) → count_of t (tokens_in (map entry_of (es ++ fs))) ≡ count_of t (tokens_in (map entry_of es)) + count_of t (tokens_in (map entry_of fs))
 counts-join t es fs = ap (λ x. count_of t (tokens_in x)) (map-append entry_of es fs) ∙ tokens-join t (map entry_of es) (map entry_of fs)
 
 -- the hands changed as one of the lists did: what stood beside it still does
-pub stand-change : (es ds fs : List Entry) (v w : LaneView) → ChangeAlike (map entry_of es) (map entry_of ds) v w → list_all (λ e. is_named w.sys e) ds ≡ true → w.sys ≡ v.sys
+pub stand-change : (es ds fs : List HeldEntry) (v w : LaneView) → ChangeAlike (map entry_of es) (map entry_of ds) v w → list_all (λ e. is_named w.sys e) ds ≡ true → w.sys ≡ v.sys
     → StandAll (es ++ fs) v → StandAll (ds ++ fs) w
 stand-change es ds fs v w alike named sys all = record {
   named = all-append (λ e. is_named w.sys e) ds fs named (rw sys (all-right (λ e. is_named v.sys e) es fs all.named));
   counts = λ t. omega (arith, alike t, counts-join t es fs, counts-join t ds fs, all.counts t);
 }
 
-stand-alike : (es ds fs : List Entry) (v w : LaneView) → ChangeAlike (map entry_of es) (map entry_of ds) v w → StandAll ds w → w.sys ≡ v.sys
+stand-alike : (es ds fs : List HeldEntry) (v w : LaneView) → ChangeAlike (map entry_of es) (map entry_of ds) v w → StandAll ds w → w.sys ≡ v.sys
     → StandAll (es ++ fs) v → StandAll (ds ++ fs) w
 stand-alike es ds fs v w alike more sys all = stand-change es ds fs v w alike more.named sys all
 
 -- no reference left the hands, and none came to the list
-pub stand-mild : (es ds fs : List Entry) (v w : LaneView) → ((p b r : ℕ) → count_of (Held p b r) v.hands ≤ count_of (Held p b r) w.hands)
+pub stand-mild : (es ds fs : List HeldEntry) (v w : LaneView) → ((p b r : ℕ) → count_of (Held p b r) v.hands ≤ count_of (Held p b r) w.hands)
     → ((t : Token) → count_of t (tokens_in (map entry_of ds)) ≤ count_of t (tokens_in (map entry_of es))) → StandAll ds w → w.sys ≡ v.sys
     → StandAll (es ++ fs) v → StandAll (ds ++ fs) w
 stand-mild es ds fs v w more less stand sys all = record {
@@ -226,13 +226,13 @@ module _ (me : ℕ) (k : Lasting) (work : Work) (p : Plain) (x : Call) (v w : La
   -- the actions that the call does
   reached : (n : ℕ) (answer : Answer) (g : List Told) (kept : List model.Entry) → did.Value n ≡ did_of answer
       → Fits v.sys v.by (entry_in work.entry) x answer g → KeepsDeferred k.list.entries.capacity x g (kept_in k.list) kept → (chart : Chart) (ts : List Task) (leaf : ℕ)
-      → Reaches v.sys (actor_of me chart k) (moment_of work) (tasks_left (Do p ∷ ts) leaf) (config_of k) (tell g ++ Point ∷ []) (tasks_left ts leaf)
+      → AgendaReaches v.sys (actor_of me chart k) (moment_of work) (tasks_left (Do p ∷ ts) leaf) (config_of k) (tell g ++ Point ∷ []) (tasks_left ts leaf)
       (record (config_of k) { ok = pos n; kept = kept })
   reached n answer g kept said h keeps chart ts leaf =
       let here : Fits v.sys me (entry_in work.entry) x answer g = subst (λ o. Fits v.sys o (entry_in work.entry) x answer g) mine h in
       let go = reaches-call v.sys (actor_of me chart k) (moment_of work) ts leaf (config_of k) p x answer g kept is here keeps (value-yes answer (did.Value n) said refl) in
-      subst (λ o. Reaches v.sys (actor_of me chart k) (moment_of work) (tasks_left (Do p ∷ ts) leaf) (config_of k) (tell g ++ Point ∷ []) (tasks_left ts leaf) (record (config_of k) { ok = o; kept = kept })) (ok-value answer n k.ok said)
-      (subst (λ ps. Reaches v.sys (actor_of me chart k) (moment_of work) (tasks_left (Do p ∷ ts) leaf) (config_of k) (ps ++ Point ∷ []) (tasks_left ts leaf) (record (config_of k) { ok = ok_after answer k.ok; kept = kept })) (pieces-single x g single) go)
+      subst (λ o. AgendaReaches v.sys (actor_of me chart k) (moment_of work) (tasks_left (Do p ∷ ts) leaf) (config_of k) (tell g ++ Point ∷ []) (tasks_left ts leaf) (record (config_of k) { ok = o; kept = kept })) (ok-value answer n k.ok said)
+      (subst (λ ps. AgendaReaches v.sys (actor_of me chart k) (moment_of work) (tasks_left (Do p ∷ ts) leaf) (config_of k) (ps ++ Point ∷ []) (tasks_left ts leaf) (record (config_of k) { ok = ok_after answer k.ok; kept = kept })) (pieces-single x g single) go)
 
   pub act-done : (n : ℕ) (list : Deferred) → AnswersKept (entry_in work.entry) x (did.Value n) k.list list v w → ActDone me (moment_of work) p k (record k { list = list; ok = pos n }) v w
   act-done n list h = record {
@@ -314,7 +314,7 @@ act-set me k work p var value vars x env v is same x_is fits set =
       g = [];
       grows = gains-none v;
       reaches = λ chart ts leaf.
-          subst (λ xs. Reaches v.sys (actor_of me chart k) (moment_of work) (tasks_left (Do p ∷ ts) leaf) (config_of k) (Point ∷ []) (tasks_left ts leaf) (record (config_of k) { vars = xs })) (sym new)
+          subst (λ xs. AgendaReaches v.sys (actor_of me chart k) (moment_of work) (tasks_left (Do p ∷ ts) leaf) (config_of k) (Point ∷ []) (tasks_left ts leaf) (record (config_of k) { vars = xs })) (sym new)
           (reaches-set v.sys (actor_of me chart k) (moment_of work) ts leaf (config_of k) p var (value_of (names_at me k work) value) (rw is refl));
       calm = calm-none v;
       keeps = record { leaf = refl; room = refl; few = λ few. few };

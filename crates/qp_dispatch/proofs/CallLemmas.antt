@@ -17,13 +17,13 @@ use Rattle.qp_model.specs.Shapes.{Fits}
 use Rattle.qp_calls.specs.declared.answers.RoomFault.{RoomFault}
 use Rattle.qp_calls.specs.declared.deferred.Deferred.{Deferred}
 use Rattle.qp_calls.specs.declared.did.Did.{Did}
-use Rattle.qp_calls.specs.declared.tokens.Entry.{Entry}
+use Rattle.qp_calls.specs.declared.tokens.HeldEntry.{HeldEntry}
 use Rattle.qp_calls.specs.Tokens.{Token, Held, Loose, same_token, token_of}
 use Rattle.qp_calls.specs.Counting.{one, times, count_of}
 use Rattle.qp_calls.specs.LaneView.{LaneView}
 use Rattle.qp_calls.specs.Clauses.{entry_of}
 use Rattle.qp_calls.specs.Entries.{did_of, is_value}
-use Rattle.qp_calls.specs.Groups.{Answers, DoesCall}
+use Rattle.qp_calls.specs.Groups.{CallAnswers, DoesCall}
 use Rattle.qp_calls.specs.Deferring.{AnswersKept, DefersCall, FlushesAll, StandAll, kept_in, tokens_in}
 use Rattle.qp_calls.proofs.CountLemmas.{count_in, count-with, stand-same}
 use Rattle.qp_calls.proofs.Flushing.{fault-still}
@@ -45,7 +45,7 @@ tokens-loose p b u [] = refl
 tokens-loose p b u (e ∷ es) = count-with (Loose p b u) e (tokens_in es) ∙ omega (arith, loose-in p b u e, tokens-loose p b u es)
 
 -- what stands still does where no reference left the hands
-pub stand-risen : (es : List Entry) (v w : LaneView) → StandAll es v → ((p b r : ℕ) → count_of (Held p b r) v.hands ≤ count_of (Held p b r) w.hands) → w.sys ≡ v.sys → StandAll es w
+pub stand-risen : (es : List HeldEntry) (v w : LaneView) → StandAll es v → ((p b r : ℕ) → count_of (Held p b r) v.hands ≤ count_of (Held p b r) w.hands) → w.sys ≡ v.sys → StandAll es w
 stand-risen es v w all more sys = record { named = rw sys all.named; counts = by }
   where
     by : (t : Token) → count_of t (tokens_in (map entry_of es)) ≤ count_of t w.hands
@@ -80,7 +80,7 @@ list-same room _ g kept is = refl
 
 -- a call that leaves the deferred list
 pub kept-answers : (now : Option model.Entry) (x : Call) (d : Did) (kept : Deferred) (v w : LaneView) → is_listless x ≡ true → is_single x ≡ true → StandAll kept.entries.items v
-    → Answers v.sys v.by now x d v w → AnswersKept now x d kept kept v w
+    → CallAnswers v.sys v.by now x d v w → AnswersKept now x d kept kept v w
 kept-answers now x d kept v w other single stand h = record {
   answer = h.answer;
   g = h.g;
@@ -231,7 +231,7 @@ pub unsubscribe-deed : (names : Names) (sig : ℕ) → deed_of names (action.Uns
 unfolding deed_of
 unsubscribe-deed names sig = refl
 
-pub no-entry : {X : Type 0} (hand : Option Entry) → hand ≡ None → IsSome hand → X
+pub no-entry : {X : Type 0} (hand : Option HeldEntry) → hand ≡ None → IsSome hand → X
 no-entry None is h = absurd (cc)
 no-entry (Some e) is h = absurd (cc)
 

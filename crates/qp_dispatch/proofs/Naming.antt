@@ -19,7 +19,7 @@ use Rattle.qp_model.specs.Sound.{IsSound}
 use Rattle.qp_model.specs.SoundChart.{IsReceiver, IsSoundEvent, IsSoundPlain, IsDeclared, IsTimer}
 use Rattle.qp_model.specs.WordLaw.{is_object, is_signal}
 use Rattle.qp_model.proofs.ListLemmas.{every-at}
-use Rattle.qp_calls.specs.declared.tokens.Entry.{Entry}
+use Rattle.qp_calls.specs.declared.tokens.HeldEntry.{HeldEntry}
 use Rattle.qp_calls.specs.LaneView.{LaneView}
 use Rattle.qp_calls.specs.Clauses.{IsEvent, Owns}
 use Rattle.qp_dispatch.specs.SoundFor.{HasTimer, IsHome, MayAct}
@@ -77,7 +77,7 @@ owns-timer sys me t place v of by is has =
 
 -- What an action that may be done names.
 
-module _ (sys : System) (me : ℕ) (hand : Option Entry) (p : Plain) (may : MayAct sys me hand p) where
+module _ (sys : System) (me : ℕ) (hand : Option HeldEntry) (p : Plain) (may : MayAct sys me hand p) where
   post-parts : (to : Target) (sig : ℕ) (pars : List Bound) (margin reserve : Option ℕ) → p ≡ action.Post to sig pars margin reserve
       → IsReceiver sys to × IsSoundEvent sys may.chart may.inside sig pars reserve
   unfolding IsSoundPlain

@@ -15,13 +15,13 @@ use Rattle.qp_model.specs.Acts.{Moment}
 use Rattle.qp_model.specs.Step.{tasks_left}
 use Rattle.qp_model.specs.StepNotes.{note_of}
 use Rattle.qp_model.proofs.ReachLemmas.{reaches-note, reaches-raise, reaches-restore}
-use Rattle.qp_calls.specs.declared.tokens.Entry.{Entry}
+use Rattle.qp_calls.specs.declared.tokens.HeldEntry.{HeldEntry}
 use Rattle.qp_calls.specs.declared.answers.RoomFault.{RoomFault}
 use Rattle.qp_calls.specs.Tokens.{Token, hands_after, hands_by}
 use Rattle.qp_calls.specs.Counting.{count_of}
 use Rattle.qp_calls.specs.LaneView.{LaneView, Grows, GrowsOf, Roomier, ceiling_in}
 use Rattle.qp_calls.specs.Notes.{MayNote, needs_spare_alone, spare_after, told_note, told_as}
-use Rattle.qp_calls.specs.Clauses.{IsFault, Stands, entry_of}
+use Rattle.qp_calls.specs.Clauses.{IsFault, EntryStands, entry_of}
 use Rattle.qp_calls.specs.Groups.{Refused}
 use Rattle.qp_calls.specs.Deferring.{ChangeAlike, StandAll, is_named, tokens_in}
 use Rattle.qp_calls.proofs.CountLemmas.{stand-front, stand-same, stand-tail}
@@ -32,7 +32,7 @@ use Rattle.qp_calls.proofs.NoteLemmas.{ceiling-append}
 use Rattle.qp_dispatch.specs.declared.lasting.Lasting.{Lasting}
 use Rattle.qp_dispatch.specs.declared.part.Under.{Under}
 use Rattle.qp_dispatch.specs.Lasts.{config_of, actor_of}
-use Rattle.qp_dispatch.specs.Acting.{ActDone, ActAsserts, Keeps}
+use Rattle.qp_dispatch.specs.Acting.{ActDone, ActAsserts, ActionKeeps}
 use Rattle.qp_dispatch.specs.Parts.{Goes, Asserts, CutShort, StandWith, held_by}
 use Rattle.qp_dispatch.proofs.Quiet.{Quiet, spills-append}
 use Rattle.qp_dispatch.proofs.ActLemmas.{all-right, calm-quiet, counts-join}
@@ -66,17 +66,17 @@ rec-told me b r v w is grown = subst (λ x. Grows (told_as (ceiling_in 0 v.told)
 
 -- What stands.
 
-pub stand-in : (es : List Entry) (e : Entry) (fs : List Entry) (v : LaneView) → StandAll (es ++ e ∷ fs) v → Stands e v
+pub stand-in : (es : List HeldEntry) (e : HeldEntry) (fs : List HeldEntry) (v : LaneView) → StandAll (es ++ e ∷ fs) v → EntryStands e v
 stand-in [] e fs v all = stand-front e fs v all
 stand-in (x ∷ es) e fs v all = stand-in es e fs v (stand-tail x (es ++ e ∷ fs) v all)
 
 -- fewer entries stand too, in any order
-pub stand-fewer : (es fs : List Entry) (v : LaneView) → list_all (λ e. is_named v.sys e) fs ≡ true
+pub stand-fewer : (es fs : List HeldEntry) (v : LaneView) → list_all (λ e. is_named v.sys e) fs ≡ true
     → ((t : Token) → count_of t (tokens_in (map entry_of fs)) ≤ count_of t (tokens_in (map entry_of es))) → StandAll es v → StandAll fs v
 stand-fewer es fs v named less all = record { named = named; counts = λ t. omega (arith, less t, all.counts t) }
 
 -- without those in the middle
-pub stand-without : (es ds fs : List Entry) (v : LaneView) → StandAll ((es ++ ds) ++ fs) v → StandAll ((es ++ []) ++ fs) v
+pub stand-without : (es ds fs : List HeldEntry) (v : LaneView) → StandAll ((es ++ ds) ++ fs) v → StandAll ((es ++ []) ++ fs) v
 stand-without es ds fs v all =
     let left = list_all-front (λ e. is_named v.sys e) (es ++ ds) fs all.named in
     let named = list_all-front (λ e. is_named v.sys e) es ds left in
@@ -84,7 +84,7 @@ stand-without es ds fs v all =
     rw (append-nil es)
     (stand-fewer ((es ++ ds) ++ fs) (es ++ fs) v (all-both es fs v named right) (λ t. omega (arith, counts-join t (es ++ ds) fs, counts-join t es ds, counts-join t es fs)) all)
   where
-    all-both : (es fs : List Entry) (v : LaneView) → list_all (λ e. is_named v.sys e) es ≡ true → list_all (λ e. is_named v.sys e) fs ≡ true → list_all (λ e. is_named v.sys e) (es ++ fs) ≡ true
+    all-both : (es fs : List HeldEntry) (v : LaneView) → list_all (λ e. is_named v.sys e) es ≡ true → list_all (λ e. is_named v.sys e) fs ≡ true → list_all (λ e. is_named v.sys e) (es ++ fs) ≡ true
     all-both [] fs v h k = k
     all-both (x ∷ es) fs v h k = let parts = and_parts (is_named v.sys x) (list_all (λ e. is_named v.sys e) es) h in rw (parts.0, all-both es fs v parts.1 k) refl
 
@@ -96,7 +96,7 @@ still-hands k m u v w list hands t = rw (list, hands) refl
 still-stand : (k m : Lasting) (u : Option Under) (v w : LaneView) → m.list ≡ k.list → w.hands ≡ v.hands → w.sys ≡ v.sys → StandWith k u m u v w
 still-stand k m u v w list hands sys others all = rw list (stand-same (held_by k u ++ others) v w all hands sys)
 
-keeps-same : (k m : Lasting) → m.list ≡ k.list → m.leaf ≡ k.leaf → Keeps k m
+keeps-same : (k m : Lasting) → m.list ≡ k.list → m.leaf ≡ k.leaf → ActionKeeps k m
 keeps-same k m list leaf = record { leaf = leaf; room = rw list refl; few = λ few. rw list few }
 
 -- a note of the agenda
@@ -201,7 +201,7 @@ cut-lost me at pre k u f v w h = (cut h.0, fault-still f v w h.0 h.1)
 
 -- Actions.
 
-bare-held : (k : Lasting) (others : List Entry) → held_by k None ++ others ≡ k.list.entries.items ++ others
+bare-held : (k : Lasting) (others : List HeldEntry) → held_by k None ++ others ≡ k.list.entries.items ++ others
 bare-held k others = ap (λ x. x ++ others) (append-nil k.list.entries.items)
 
 pub goes-act : (me ceiling : ℕ) (at : Moment) (p : Plain) (k m : Lasting) (v w : LaneView) → ActDone me at p k m v w → Goes me at (task.Do p ∷ []) (Point ∷ []) ceiling ceiling k None m None v w

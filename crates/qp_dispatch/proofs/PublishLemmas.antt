@@ -23,9 +23,9 @@ use Rattle.qp_model.specs.Deferral.{KeepsDeferred}
 use Rattle.qp_model.specs.Pieces.{Point, tell, with_points, pieces_of}
 use Rattle.qp_model.specs.Acts.{Moment}
 use Rattle.qp_model.specs.Step.{DoesLeft, tasks_left, publishing_left}
-use Rattle.qp_model.specs.Standing.{Reaches}
+use Rattle.qp_model.specs.Standing.{AgendaReaches}
 use Rattle.qp_model.proofs.ReachLemmas.{reaches-call, reaches-publish, reaches-post, reaches-published, does_left-asserted, does_left-cut}
-use Rattle.qp_calls.specs.declared.tokens.Entry.{Entry}
+use Rattle.qp_calls.specs.declared.tokens.HeldEntry.{HeldEntry}
 use Rattle.qp_calls.specs.declared.publication.Publication.{Publication}
 use Rattle.qp_calls.specs.declared.publication.Begun.{Begun}
 use Rattle.qp_calls.specs.declared.publication.Begun.TheVariants as begun
@@ -35,10 +35,10 @@ use Rattle.qp_calls.specs.Tokens.{with_entry, without_entry}
 use Rattle.qp_calls.specs.Counting.{times}
 use Rattle.qp_calls.specs.LaneView.{LaneView, Grows, ceiling_in}
 use Rattle.qp_calls.specs.Notes.{spills_told}
-use Rattle.qp_calls.specs.Clauses.{Stands, entry_of}
+use Rattle.qp_calls.specs.Clauses.{EntryStands, entry_of}
 use Rattle.qp_calls.specs.Entries.{Unmade}
 use Rattle.qp_calls.specs.Raising.{raised_to}
-use Rattle.qp_calls.specs.Publishing.{AreObjects, Begins, BeginsGoing, GoesOn, GoesOnGoing, GoesOnAssert, EndsGoing}
+use Rattle.qp_calls.specs.Publishing.{AreObjects, Begins, BeginsGoing, PublishingGoesOn, GoesOnGoing, GoesOnAssert, EndsGoing}
 use Rattle.qp_calls.specs.Deferring.{ChangeAlike, is_named, kept_in}
 use Rattle.qp_calls.proofs.Announcing.{members-none}
 use Rattle.qp_calls.proofs.CountLemmas.{count-with, count-without, stand-same, stands-in, stands-named}
@@ -47,7 +47,7 @@ use Rattle.qp_dispatch.specs.declared.lasting.Lasting.{Lasting}
 use Rattle.qp_dispatch.specs.declared.part.Under.{Under}
 use Rattle.qp_dispatch.specs.declared.work.Work.{Work}
 use Rattle.qp_dispatch.specs.Lasts.{config_of, actor_of, entry_in, moment_of, names_at}
-use Rattle.qp_dispatch.specs.Acting.{Keeps}
+use Rattle.qp_dispatch.specs.Acting.{ActionKeeps}
 use Rattle.qp_dispatch.specs.Parts.{Goes, Asserts, IsPublishing, held_by, publishing_of}
 use Rattle.qp_dispatch.proofs.Quiet.{Quiet, no_block-quiet, one-quiet, quiet-append, quiet-ceiling, quiet-drops, quiet-new, quiet-spillless, spills-append, Spillless, spillless-append}
 use Rattle.qp_dispatch.proofs.Rising.{mild-rise, one-mild}
@@ -153,21 +153,21 @@ last-spills c ms g v w h grows none =
 
 -- What the object holds.
 
-one-more : (es : List Entry) (e : Entry) (v w : LaneView) → w.hands ≡ with_entry (entry_of e) v.hands → ChangeAlike (map entry_of (es ++ [])) (map entry_of (es ++ e ∷ [])) v w
+one-more : (es : List HeldEntry) (e : HeldEntry) (v w : LaneView) → w.hands ≡ with_entry (entry_of e) v.hands → ChangeAlike (map entry_of (es ++ [])) (map entry_of (es ++ e ∷ [])) v w
 unfolding times
 one-more es e v w hands t =
     let more = count-with t (entry_of e) v.hands in
     let alone = count-with t (entry_of e) [] in
     rw hands (omega (arith, more, alone, counts-join t es [], counts-join t es (e ∷ [])))
 
-pub one-less : (es : List Entry) (e : Entry) (v w : LaneView) → Stands e v → w.hands ≡ without_entry (entry_of e) v.hands → ChangeAlike (map entry_of (es ++ e ∷ [])) (map entry_of (es ++ [])) v w
+pub one-less : (es : List HeldEntry) (e : HeldEntry) (v w : LaneView) → EntryStands e v → w.hands ≡ without_entry (entry_of e) v.hands → ChangeAlike (map entry_of (es ++ e ∷ [])) (map entry_of (es ++ [])) v w
 unfolding times
 one-less es e v w stands hands t =
     let less = count-without t (entry_of e) v.hands (stands-in e v stands) in
     let alone = count-with t (entry_of e) [] in
     rw hands (omega (arith, less, alone, counts-join t es [], counts-join t es (e ∷ [])))
 
-keeps-same : (k : Lasting) (n : ℕ) → Keeps k (record k { ok = pos n })
+keeps-same : (k : Lasting) (n : ℕ) → ActionKeeps k (record k { ok = pos n })
 keeps-same k n = record { leaf = refl; room = refl; few = λ few. few }
 
 -- The call.
@@ -237,8 +237,8 @@ module _ (me : ℕ) (k : Lasting) (work : Work) (sig : ℕ) (pars : List Bound) 
         g = h.g;
         grows = h.grows;
         reaches = λ chart ts leaf.
-            subst (λ o. Reaches v.sys (actor_of me chart k) (moment_of work) (tasks_left (task.Do (action.Publish sig pars reserve) ∷ ts) leaf) (config_of k) (tell h.g ++ Point ∷ []) (tasks_left ts leaf) (record (config_of k) { ok = o })) (ok-value h.answer n k.ok h.said)
-            (subst (λ ps. Reaches v.sys (actor_of me chart k) (moment_of work) (tasks_left (task.Do (action.Publish sig pars reserve) ∷ ts) leaf) (config_of k) (ps ++ Point ∷ []) (tasks_left ts leaf) (record (config_of k) { ok = ok_after h.answer k.ok })) fit.1
+            subst (λ o. AgendaReaches v.sys (actor_of me chart k) (moment_of work) (tasks_left (task.Do (action.Publish sig pars reserve) ∷ ts) leaf) (config_of k) (tell h.g ++ Point ∷ []) (tasks_left ts leaf) (record (config_of k) { ok = o })) (ok-value h.answer n k.ok h.said)
+            (subst (λ ps. AgendaReaches v.sys (actor_of me chart k) (moment_of work) (tasks_left (task.Do (action.Publish sig pars reserve) ∷ ts) leaf) (config_of k) (ps ++ Point ∷ []) (tasks_left ts leaf) (record (config_of k) { ok = ok_after h.answer k.ok })) fit.1
             (reaches-call v.sys (actor_of me chart k) (moment_of work) ts leaf (config_of k) (action.Publish sig pars reserve) (call.Publish ev.sig ev.pars reserve) h.answer h.g (kept_in k.list) deed here
             (unmade-call h.answer h.g h.none) (value-yes h.answer (did.Value n) h.said refl)));
         lane = λ at. at ∙ sym calm.ceiling;
@@ -322,7 +322,7 @@ asserts-post me code at k u v w h =
     }
 
 -- the publication has ended
-pub goes-published : (me c later : ℕ) (at : Moment) (k : Lasting) (p : Publication) (former : ℕ) (d : Did) (raised : Bool) (v w : LaneView) → 0 < me → p.left ≡ 0 → former ≡ p.former → Stands p.entry v
+pub goes-published : (me c later : ℕ) (at : Moment) (k : Lasting) (p : Publication) (former : ℕ) (d : Did) (raised : Bool) (v w : LaneView) → 0 < me → p.left ≡ 0 → former ≡ p.former → EntryStands p.entry v
     → raised ≡ is_some (raised_to p.former (members p.all)) → (raised ≡ true → later ≡ former) → (raised ≡ false → later ≡ c) → EndsGoing p d v w
     → Goes me at [] (Point ∷ []) c later k (Some (record { publication = p; ceiling = former })) (record k { ok = pos 1 }) None v w
 goes-published me c later at k p former d raised v w some left same stands is was not h =
@@ -349,11 +349,11 @@ goes-published me c later at k p former d raised v w some left same stands is wa
 
 -- What a call that began or went on answered.
 
-pub going-on : (p q : Publication) (b : Begun) (v w : LaneView) → b ≡ begun.Going q → GoesOn p v w (Ok b) → GoesOnGoing p q v w
-going-on p q b v w is h = subst (λ x. GoesOn p v w (Ok x)) is h
+pub going-on : (p q : Publication) (b : Begun) (v w : LaneView) → b ≡ begun.Going q → PublishingGoesOn p v w (Ok b) → GoesOnGoing p q v w
+going-on p q b v w is h = subst (λ x. PublishingGoesOn p v w (Ok x)) is h
 
-pub going-assert : (p : Publication) (b : Begun) (d : Did) (code : ℕ) (v w : LaneView) → b ≡ begun.Did d → d ≡ did.Assert code → GoesOn p v w (Ok b) → GoesOnAssert p (did.Assert code) v w
-going-assert p b d code v w is said h = let k : GoesOnAssert p d v w = subst (λ x. GoesOn p v w (Ok x)) is h in subst (λ x. GoesOnAssert p x v w) said k
+pub going-assert : (p : Publication) (b : Begun) (d : Did) (code : ℕ) (v w : LaneView) → b ≡ begun.Did d → d ≡ did.Assert code → PublishingGoesOn p v w (Ok b) → GoesOnAssert p (did.Assert code) v w
+going-assert p b d code v w is said h = let k : GoesOnAssert p d v w = subst (λ x. PublishingGoesOn p v w (Ok x)) is h in subst (λ x. GoesOnAssert p x v w) said k
 
 pub begun-going : (ev : Event) (reserve : Option ℕ) (c : ℕ) (q : Publication) (b : Begun) (v w : LaneView) → b ≡ begun.Going q → Begins ev reserve c v w (Ok b) → BeginsGoing ev reserve c q v w
 begun-going ev reserve c q b v w is h = subst (λ x. Begins ev reserve c v w (Ok x)) is h

@@ -18,9 +18,9 @@ use Rattle.qp_chart.specs.Agenda.{crossing, transition, moves, handled, ended, s
 use Rattle.qp_model.specs.declared.systems.System.{System}
 use Rattle.qp_model.specs.Able.{chart_able}
 use Rattle.qp_model.specs.SoundChart.{IsSoundAct, IsSoundChart, IsSoundPlain, IsSoundRow, IsSoundState}
-use Rattle.qp_calls.specs.declared.tokens.Entry.{Entry}
+use Rattle.qp_calls.specs.declared.tokens.HeldEntry.{HeldEntry}
 use Rattle.qp_dispatch.specs.SoundFor.{IsHome, MayAct, MayTask}
-use Rattle.qp_dispatch.specs.Resume.{IsReady}
+use Rattle.qp_dispatch.specs.Resume.{CanTakeSteps}
 use Rattle.qp_model.proofs.AbleLemmas.{some-same}
 use Rattle.qp_model.proofs.NumberLemmas.{every-append}
 use Rattle.qp_model.proofs.ListLemmas.{every-at}
@@ -32,7 +32,7 @@ handler_is : ℕ → ℕ × Row → Handler
 handler_is s found = record { state = s; place = found.0; row = found.1 }
 
 module _ (sys : System) (me : ℕ) (chart : Chart) (home : IsHome sys me chart) (sound : IsSoundChart sys chart) where
-  module _ (hand : Option Entry) where
+  module _ (hand : Option HeldEntry) where
     abbrev May : List Task → Type 0
     May ts = AllByRecursion (MayTask sys me hand) ts
 
@@ -142,7 +142,7 @@ module _ (sys : System) (me : ℕ) (chart : Chart) (home : IsHome sys me chart) 
           subst (λ y. IsSoundRow sys chart y.row) same (first_row-sound names sig 1 x.row found (state-sound None s x at).rows here)
 
   -- the agenda of any step
-  step-may : (hand : Entry) (leaf : ℕ) (names : Names) (sig : ℕ) → AllByRecursion (MayTask sys me (Some hand)) (step_plan chart leaf names sig).tasks
+  step-may : (hand : HeldEntry) (leaf : ℕ) (names : Names) (sig : ℕ) → AllByRecursion (MayTask sys me (Some hand)) (step_plan chart leaf names sig).tasks
   unfolding step_plan handled handler
   step-may hand leaf names sig = by_handler (handler_on chart names sig (up chart leaf)) refl
     where
@@ -170,5 +170,5 @@ module _ (sys : System) (me : ℕ) (chart : Chart) (home : IsHome sys me chart) 
   )
 
   -- a sound object whose actions have what they ask for
-  pub home-ready : chart_able sys chart ≡ true → IsReady sys me chart
+  pub home-ready : chart_able sys chart ≡ true → CanTakeSteps sys me chart
   home-ready able = record { home = home; able = able; start = start-may; steps = step-may }

@@ -13,15 +13,15 @@ use Rattle.qp_model.specs.declared.bodies.Entry as model
 use Rattle.qp_model.specs.declared.bodies.Body.TheVariants as item
 use Rattle.qp_model.specs.Told.{Told, Event, plain}
 use Rattle.qp_model.specs.Shapes.{Drops, releases_by}
-use Rattle.qp_model.specs.Pieces.{Piece, Point, bare, tell}
+use Rattle.qp_model.specs.Pieces.{Piece, Point, records_in, tell}
 use Rattle.qp_model.specs.Acts.{Config, Actor}
-use Rattle.qp_model.specs.Step.{Remainder, DoesLeft, GoesOn, Closes, at_leaf, moment, tasks_left, publishing_left, whole_step}
-use Rattle.qp_model.specs.Standing.{Advances, Reaches}
+use Rattle.qp_model.specs.Step.{Remainder, DoesLeft, StepGoesOn, Closes, at_leaf, moment, tasks_left, publishing_left, whole_step}
+use Rattle.qp_model.specs.Standing.{Advances, AgendaReaches}
 use Rattle.qp_model.specs.Able.{task_able}
 use Rattle.qp_model.proofs.Completes.{release, release_drops}
 use Rattle.qp_model.proofs.PublicationLemmas.{tell-append}
 use Rattle.qp_model.proofs.StepLemmas.{advances-reaches, goes_on-done, goes_on-failed}
-use Rattle.qp_calls.specs.declared.tokens.Entry.{Entry}
+use Rattle.qp_calls.specs.declared.tokens.HeldEntry.{HeldEntry}
 use Rattle.qp_calls.specs.Tokens.{Token, hands_after, hands_by}
 use Rattle.qp_calls.specs.LaneView.{LaneView, Grows, GrowsOf}
 use Rattle.qp_calls.specs.Clauses.{Stops, entry_of, event_of, params_of}
@@ -44,7 +44,7 @@ use Rattle.qp_dispatch.specs.CallsDone.{StandsIn}
 use Rattle.qp_dispatch.specs.Parts.{held_by, left_by}
 use Rattle.qp_dispatch.specs.SoundFor.{MayTask}
 use Rattle.qp_dispatch.specs.Runs.{RunAsserts, RunCut, Runs, Setting, hand_of, tasks_in}
-use Rattle.qp_dispatch.specs.Resume.{BeginsOn, EndsAsserted, Halts, IsGoing, IsLaneOf, ReleasesEntry, Resumes, ToEnd, ToPoint, entry_here, event_at, event_in, held_in, left_of, step_entry}
+use Rattle.qp_dispatch.specs.Resume.{BeginsOn, EndsAsserted, StepHalts, IsGoing, IsLaneOf, ReleasesEntry, Resumes, ToEnd, ToPoint, entry_here, event_in_hand, event_in, held_in, left_of, step_entry}
 use Rattle.qp_dispatch.proofs.ActLemmas.{calm-quiet, counts-join, stand-change}
 use Rattle.qp_dispatch.proofs.Quiet.{quiet-drops}
 use Rattle.qp_model.proofs.GroupLemmas.{bare-append}
@@ -69,10 +69,10 @@ unfolding tasks_left publishing_left
 tasks-of None ts leaf = refl
 tasks-of (Some u) ts leaf = refl
 
-moment-is : (work : Work) (hand : Entry) → work.entry ≡ Some hand → moment_of work ≡ moment (event_of work.ev) (entry_here work.entry)
+moment-is : (work : Work) (hand : HeldEntry) → work.entry ≡ Some hand → moment_of work ≡ moment (event_of work.ev) (entry_here work.entry)
 moment-is work hand is = rw is refl
 
-more-alike : (es ds fs : List Entry) (v w : LaneView) → ChangeAlike (map entry_of es) (map entry_of ds) v w → ChangeAlike (map entry_of (es ++ fs)) (map entry_of (ds ++ fs)) v w
+more-alike : (es ds fs : List HeldEntry) (v w : LaneView) → ChangeAlike (map entry_of es) (map entry_of ds) v w → ChangeAlike (map entry_of (es ++ fs)) (map entry_of (ds ++ fs)) v w
 more-alike es ds fs v w alike t = omega (arith, alike t, counts-join t es fs, counts-join t ds fs)
 
 drops_are : (e : model.Entry) (rel : List Told) → releases_by e.pool e rel → Drops e rel
@@ -84,16 +84,16 @@ unfolding times
 none-counts t = refl
 
 -- a lane that stopped has its hands
-pub stopped-stand : (code : ℕ) (w z : LaneView) (es : List Entry) → Stops code w z → StandAll es w → StandAll es z
+pub stopped-stand : (code : ℕ) (w z : LaneView) (es : List HeldEntry) → Stops code w z → StandAll es w → StandAll es z
 stopped-stand code w z es stops all = stand-same es w z all (rw stops refl) (rw stops refl)
 
-pub spilled-stand : (n : ℕ) (w z : LaneView) (es : List Entry) → GrowsOf 0 (plain (item.Spill n) ∷ []) w z → StandAll es w → StandAll es z
+pub spilled-stand : (n : ℕ) (w z : LaneView) (es : List HeldEntry) → GrowsOf 0 (plain (item.Spill n) ∷ []) w z → StandAll es w → StandAll es z
 unfolding hands_after hands_by
 spilled-stand n w z es grown all = stand-same es w z all grown.hands grown.sys
 
 -- the lane halted behind records that begin something
 pub halted : (home : Setting) (ceiling later : ℕ) (k m : Lasting) (s y : Position) (g : List Told) (v w z : LaneView) (answer : Step) → Grows g v w
-    → BeginsOn v.sys (actor_of home.me home.chart k) (event_in s v) (step_entry s) (left_of home k s v) (config_of k) g → StandAll (held_in m y) w → Halts w z answer
+    → BeginsOn v.sys (actor_of home.me home.chart k) (event_in s v) (step_entry s) (left_of home k s v) (config_of k) g → StandAll (held_in m y) w → StepHalts w z answer
     → Resumes home ceiling later k s m y v z answer
 halted home ceiling later k m s y g v w z step.Point grows begins all h = absurd h
 halted home ceiling later k m s y g v w z step.Done grows begins all h = absurd h
@@ -125,20 +125,20 @@ module _ (home : Setting) (ceiling later : ℕ) (k m : Lasting) (g : Going) (v w
 
   -- a run within the step, as the step advances
   advanced : (ends : List Piece) (y : Option Under) (rest : List Task) (r : Runs true home (moment_of g.work) ends ceiling later k g.left.under (tasks_in home g.left) m y rest v w)
-      → Advances v.sys a ev e (left_by g.left.under (tasks_in home g.left) g.leaf) (config_of k) (tell (bare r.ps) ++ ends) (left_by y rest g.leaf) (config_of m)
+      → Advances v.sys a ev e (left_by g.left.under (tasks_in home g.left) g.leaf) (config_of k) (tell (records_in r.ps) ++ ends) (left_by y rest g.leaf) (config_of m)
   advanced ends y rest r =
-      let here : Reaches v.sys a (moment ev e) (left_by g.left.under (tasks_in home g.left) g.leaf) (config_of k) (r.ps ++ ends) (left_by y rest g.leaf) (config_of m) =
-      subst (λ at. Reaches v.sys a at (left_by g.left.under (tasks_in home g.left) g.leaf) (config_of k) (r.ps ++ ends) (left_by y rest g.leaf) (config_of m)) (moment-is g.work going.hand going.is) (r.reaches g.leaf) in
-      advances-reaches v.sys a ev e (left_by g.left.under (tasks_in home g.left) g.leaf) (left_by y rest g.leaf) (config_of k) (config_of m) (tell (bare r.ps) ++ ends)
+      let here : AgendaReaches v.sys a (moment ev e) (left_by g.left.under (tasks_in home g.left) g.leaf) (config_of k) (r.ps ++ ends) (left_by y rest g.leaf) (config_of m) =
+      subst (λ at. AgendaReaches v.sys a at (left_by g.left.under (tasks_in home g.left) g.leaf) (config_of k) (r.ps ++ ends) (left_by y rest g.leaf) (config_of m)) (moment-is g.work going.hand going.is) (r.reaches g.leaf) in
+      advances-reaches v.sys a ev e (left_by g.left.under (tasks_in home g.left) g.leaf) (left_by y rest g.leaf) (config_of k) (config_of m) (tell (records_in r.ps) ++ ends)
       (leaf-of g.left.under (tasks_in home g.left) g.leaf ∙ sym (leaf-of y rest g.leaf))
-      (subst (λ ps. Reaches v.sys a (moment ev e) (left_by g.left.under (tasks_in home g.left) g.leaf) (config_of k) (ps ++ ends) (left_by y rest g.leaf) (config_of m)) (r.plain refl) here)
+      (subst (λ ps. AgendaReaches v.sys a (moment ev e) (left_by g.left.under (tasks_in home g.left) g.leaf) (config_of k) (ps ++ ends) (left_by y rest g.leaf) (config_of m)) (r.plain refl) here)
 
   reached : (ends : List Piece) (y : Option Under) (rest : List Task) (r : Runs true home (moment_of g.work) ends ceiling later k g.left.under (tasks_in home g.left) m y rest v w)
-      → Reaches v.sys a (moment ev e) (left_by g.left.under (tasks_in home g.left) g.leaf) (config_of k) (tell (bare r.ps) ++ ends) (left_by y rest g.leaf) (config_of m)
+      → AgendaReaches v.sys a (moment ev e) (left_by g.left.under (tasks_in home g.left) g.leaf) (config_of k) (tell (records_in r.ps) ++ ends) (left_by y rest g.leaf) (config_of m)
   reached ends y rest r =
-      let here : Reaches v.sys a (moment ev e) (left_by g.left.under (tasks_in home g.left) g.leaf) (config_of k) (r.ps ++ ends) (left_by y rest g.leaf) (config_of m) =
-      subst (λ at. Reaches v.sys a at (left_by g.left.under (tasks_in home g.left) g.leaf) (config_of k) (r.ps ++ ends) (left_by y rest g.leaf) (config_of m)) (moment-is g.work going.hand going.is) (r.reaches g.leaf) in
-      subst (λ ps. Reaches v.sys a (moment ev e) (left_by g.left.under (tasks_in home g.left) g.leaf) (config_of k) (ps ++ ends) (left_by y rest g.leaf) (config_of m)) (r.plain refl) here
+      let here : AgendaReaches v.sys a (moment ev e) (left_by g.left.under (tasks_in home g.left) g.leaf) (config_of k) (r.ps ++ ends) (left_by y rest g.leaf) (config_of m) =
+      subst (λ at. AgendaReaches v.sys a at (left_by g.left.under (tasks_in home g.left) g.leaf) (config_of k) (r.ps ++ ends) (left_by y rest g.leaf) (config_of m)) (moment-is g.work going.hand going.is) (r.reaches g.leaf) in
+      subst (λ ps. AgendaReaches v.sys a (moment ev e) (left_by g.left.under (tasks_in home g.left) g.leaf) (config_of k) (ps ++ ends) (left_by y rest g.leaf) (config_of m)) (r.plain refl) here
 
   lane-on : (ends : List Piece) (y : Option Under) (rest : List Task) → Runs true home (moment_of g.work) ends ceiling later k g.left.under (tasks_in home g.left) m y rest v w → IsLaneOf home later w
   lane-on ends y rest r = record {
@@ -153,7 +153,7 @@ module _ (home : Setting) (ceiling later : ℕ) (k m : Lasting) (g : Going) (v w
   pub to-point : (left : Left) → Runs true home (moment_of g.work) (Point ∷ []) ceiling later k g.left.under (tasks_in home g.left) m left.under (tasks_in home left) v w
       → ToPoint home ceiling later k (stage.Within g) m (stage.Within (record { work = g.work; left = left; leaf = g.leaf })) v w
   to-point left r = record {
-    g = bare r.ps;
+    g = records_in r.ps;
     grows = r.grows;
     advances = advanced (Point ∷ []) left.under (tasks_in home left) r;
     going = record { work = g.work; left = left; leaf = g.leaf };
@@ -187,11 +187,11 @@ module _ (home : Setting) (ceiling later : ℕ) (k m : Lasting) (g : Going) (v w
       let does = subst (λ at. DoesLeft v.sys a at (left_by g.left.under (tasks_in home g.left) g.leaf).publishing (left_by g.left.under (tasks_in home g.left) g.leaf).posts (left_by g.left.under (tasks_in home g.left) g.leaf).tasks (config_of k) r.ps None)
       (moment-is g.work going.hand going.is) (r.does g.leaf) in
       record {
-        g = bare r.ps;
+        g = records_in r.ps;
         mid = w;
         code = code;
         grows = r.grows;
-        goes = subst (λ ps. GoesOn v.sys a ev e (left_by g.left.under (tasks_in home g.left) g.leaf) (config_of k) ps None) (r.plain refl)
+        goes = subst (λ ps. StepGoesOn v.sys a ev e (left_by g.left.under (tasks_in home g.left) g.leaf) (config_of k) ps None) (r.plain refl)
             (goes_on-failed v.sys a ev e (left_by g.left.under (tasks_in home g.left) g.leaf) (config_of k) r.ps does);
         some = r.some;
         last = r.last;
@@ -201,40 +201,40 @@ module _ (home : Setting) (ceiling later : ℕ) (k m : Lasting) (g : Going) (v w
 
   -- the records of a run that was cut begin something
   pub cut-begins : (y : Option Under) → (r : RunCut true home (moment_of g.work) k g.left.under (tasks_in home g.left) m y v w)
-      → BeginsOn v.sys a ev e (left_by g.left.under (tasks_in home g.left) g.leaf) (config_of k) (bare r.ps)
-  unfolding GoesOn Closes
+      → BeginsOn v.sys a ev e (left_by g.left.under (tasks_in home g.left) g.leaf) (config_of k) (records_in r.ps)
+  unfolding StepGoesOn Closes
   cut-begins y r =
       let b = r.begins g.leaf in
       let does = subst (λ at. DoesLeft v.sys a at (left_by g.left.under (tasks_in home g.left) g.leaf).publishing (left_by g.left.under (tasks_in home g.left) g.leaf).posts (left_by g.left.under (tasks_in home g.left) g.leaf).tasks (config_of k) (r.ps ++ b.0) b.1)
       (moment-is g.work going.hand going.is) b.2 in
       let rel = closed b.1 in
-      let same : tell (bare r.ps) ++ (b.0 ++ tell rel.0) ≡ (r.ps ++ b.0) ++ tell rel.0 = ap (λ x. x ++ (b.0 ++ tell rel.0)) (sym (r.plain refl)) ∙ sym (append_assoc r.ps b.0 (tell rel.0)) in
-      (b.0 ++ tell rel.0, at_leaf (left_by g.left.under (tasks_in home g.left) g.leaf).leaf b.1, (r.ps ++ b.0, rel.0, b.1, does, rel.1, same, refl), λ none is. b.3 (unleafed (left_by g.left.under (tasks_in home g.left) g.leaf).leaf b.1 none) (nil-front (bare b.0) (bare (tell rel.0)) (sym (bare-append b.0 (tell rel.0)) ∙ is)))
+      let same : tell (records_in r.ps) ++ (b.0 ++ tell rel.0) ≡ (r.ps ++ b.0) ++ tell rel.0 = ap (λ x. x ++ (b.0 ++ tell rel.0)) (sym (r.plain refl)) ∙ sym (append_assoc r.ps b.0 (tell rel.0)) in
+      (b.0 ++ tell rel.0, at_leaf (left_by g.left.under (tasks_in home g.left) g.leaf).leaf b.1, (r.ps ++ b.0, rel.0, b.1, does, rel.1, same, refl), λ none is. b.3 (unleafed (left_by g.left.under (tasks_in home g.left) g.leaf).leaf b.1 none) (nil-front (records_in b.0) (records_in (tell rel.0)) (sym (bare-append b.0 (tell rel.0)) ∙ is)))
     where
       closed : (mid : Option Config) → (rel : List Told) × Closes e mid rel
       closed None = ([], refl)
       closed (Some d) = (release e.pool e, release_drops e.pool e)
 
   -- nothing is left but the release
-  pub to-end : (hand : Entry) (z : LaneView) (r : Runs true home (moment_of g.work) [] ceiling later k g.left.under (tasks_in home g.left) m None [] v w) → g.work.entry ≡ Some hand → Released (entry_of hand) w z
+  pub to-end : (hand : HeldEntry) (z : LaneView) (r : Runs true home (moment_of g.work) [] ceiling later k g.left.under (tasks_in home g.left) m None [] v w) → g.work.entry ≡ Some hand → Released (entry_of hand) w z
       → ToEnd home ceiling later k (stage.Within g) (record m { leaf = g.leaf }) v z
   unfolding Advances
   to-end hand z r is rel =
-      let grown : Grows (bare r.ps ++ rel.g) v z = grows-then (bare r.ps) rel.g v w z r.grows rel.grows in
+      let grown : Grows (records_in r.ps ++ rel.g) v z = grows-then (records_in r.ps) rel.g v w z r.grows rel.grows in
       let drops : Drops e rel.g = subst (λ x. Drops (entry_here x) rel.g) (sym is) rel.drops in
       let calm = calm-quiet rel.g w z rel.grows (quiet-drops (entry_of hand) rel.g rel.drops) in
       let lane_mid = lane-on [] None [] r in
       let goes = advanced [] None [] r (tell rel.g) (Some (record (config_of m) { leaf = g.leaf })) (goes_on-done v.sys a ev e g.leaf (config_of m) rel.g drops) in
-      let same : (tell (bare r.ps) ++ []) ++ tell rel.g ≡ tell (bare r.ps ++ rel.g) = ap (λ x. x ++ tell rel.g) (append-nil (tell (bare r.ps))) ∙ sym (tell-append (bare r.ps) rel.g) in
+      let same : (tell (records_in r.ps) ++ []) ++ tell rel.g ≡ tell (records_in r.ps ++ rel.g) = ap (λ x. x ++ tell rel.g) (append-nil (tell (records_in r.ps))) ∙ sym (tell-append (records_in r.ps) rel.g) in
       let stood : StandAll ((m.list.entries.items ++ []) ++ hand_of g.work.entry) w = r.stand (hand_of g.work.entry) hand-stands in
       let stood_is : StandAll ((m.list.entries.items ++ []) ++ hand ∷ []) w = subst (λ x. StandAll ((m.list.entries.items ++ []) ++ hand_of x) w) is stood in
       let plain_stood : StandAll (m.list.entries.items ++ hand ∷ []) w = subst (λ x. StandAll (x ++ hand ∷ []) w) (append-nil m.list.entries.items) stood_is in
       let stands = stand-in m.list.entries.items hand [] w plain_stood in
       let less = one-less m.list.entries.items hand w z stands rel.hands in
       record {
-        g = bare r.ps ++ rel.g;
+        g = records_in r.ps ++ rel.g;
         grows = grown;
-        goes = subst (λ ps. GoesOn v.sys a ev e (left_by g.left.under (tasks_in home g.left) g.leaf) (config_of k) ps (Some (record (config_of m) { leaf = g.leaf }))) same goes;
+        goes = subst (λ ps. StepGoesOn v.sys a ev e (left_by g.left.under (tasks_in home g.left) g.leaf) (config_of k) ps (Some (record (config_of m) { leaf = g.leaf }))) same goes;
         room = r.keeps.room;
         lane = record {
           of = rel.grows.sys ∙ lane_mid.of;
@@ -266,15 +266,15 @@ module _ (home : Setting) (ceiling later : ℕ) (k m : Lasting) (g : Going) (v w
 
   -- a run to the end, before the release
   pub over-begins : (r : Runs true home (moment_of g.work) [] ceiling later k g.left.under (tasks_in home g.left) m None [] v w)
-      → BeginsOn v.sys a ev e (left_by g.left.under (tasks_in home g.left) g.leaf) (config_of k) (bare r.ps)
+      → BeginsOn v.sys a ev e (left_by g.left.under (tasks_in home g.left) g.leaf) (config_of k) (records_in r.ps)
   unfolding Advances
   over-begins r =
       let drops = release_drops e.pool e in
       let goes = advanced [] None [] r (tell (release e.pool e)) (Some (record (config_of m) { leaf = g.leaf })) (goes_on-done v.sys a ev e g.leaf (config_of m) (release e.pool e) (drops_are e (release e.pool e) drops)) in
-      let same : (tell (bare r.ps) ++ []) ++ tell (release e.pool e) ≡ tell (bare r.ps) ++ tell (release e.pool e) = ap (λ x. x ++ tell (release e.pool e)) (append-nil (tell (bare r.ps))) in (
+      let same : (tell (records_in r.ps) ++ []) ++ tell (release e.pool e) ≡ tell (records_in r.ps) ++ tell (release e.pool e) = ap (λ x. x ++ tell (release e.pool e)) (append-nil (tell (records_in r.ps))) in (
         tell (release e.pool e),
         Some (record (config_of m) { leaf = g.leaf }),
-        subst (λ ps. GoesOn v.sys a ev e (left_by g.left.under (tasks_in home g.left) g.leaf) (config_of k) ps (Some (record (config_of m) { leaf = g.leaf }))) same goes,
+        subst (λ ps. StepGoesOn v.sys a ev e (left_by g.left.under (tasks_in home g.left) g.leaf) (config_of k) ps (Some (record (config_of m) { leaf = g.leaf }))) same goes,
         λ none. absurd (cc),
       )
 
@@ -288,7 +288,7 @@ module _ (home : Setting) (ceiling later : ℕ) (k m : Lasting) (g : Going) (v w
       → StandAll (held_in m (stage.Within (record { work = g.work; left = left; leaf = g.leaf }))) w
   cut-stand left r = r.stand (hand_of g.work.entry) hand-stands
 
-pub released-is : (hand : Option Entry) (e : Entry) (v w : LaneView) → hand ≡ Some e → ReleasesEntry hand v w → Released (entry_of e) v w
+pub released-is : (hand : Option HeldEntry) (e : HeldEntry) (v w : LaneView) → hand ≡ Some e → ReleasesEntry hand v w → Released (entry_of e) v w
 released-is hand e v w is h = subst (λ x. ReleasesEntry x v w) is h
 
 -- a step that was just taken up goes on as one under way
@@ -298,17 +298,17 @@ advances-as sys a x y d e l r c ps later f ev en le h =
     subst (λ z. Advances sys a y e z c ps later f) le (subst (λ z. Advances sys a y z l c ps later f) en (subst (λ z. Advances sys a z d l c ps later f) ev h))
 
 goes-as : (sys : System) (a : Actor) (x y : Event) (d e : model.Entry) (l r : Remainder) (c : Config) (ps : List Piece) (end : Option Config) → x ≡ y → d ≡ e → l ≡ r
-    → GoesOn sys a x d l c ps end → GoesOn sys a y e r c ps end
+    → StepGoesOn sys a x d l c ps end → StepGoesOn sys a y e r c ps end
 goes-as sys a x y d e l r c ps end ev en le h =
-    subst (λ z. GoesOn sys a y e z c ps end) le (subst (λ z. GoesOn sys a y z l c ps end) en (subst (λ z. GoesOn sys a z d l c ps end) ev h))
+    subst (λ z. StepGoesOn sys a y e z c ps end) le (subst (λ z. StepGoesOn sys a y z l c ps end) en (subst (λ z. StepGoesOn sys a z d l c ps end) ev h))
 
 -- the entries of a step that was just taken up
-taken-held : (k : Lasting) (g : Going) (e : Entry) → g.work.entry ≡ Some e → g.left.under ≡ None → held_in k (stage.Within g) ≡ held_in k (stage.Taken e)
+taken-held : (k : Lasting) (g : Going) (e : HeldEntry) → g.work.entry ≡ Some e → g.left.under ≡ None → held_in k (stage.Within g) ≡ held_in k (stage.Taken e)
 taken-held k g e is none = rw (is, none) (ap (λ x. x ++ e ∷ []) (append-nil k.list.entries.items))
 
-pub resumes-taken : (home : Setting) (ceiling later : ℕ) (k m : Lasting) (s z : Position) (e : Entry) (g : Going) (v u w : LaneView) (answer : Step) → stage.Taken e ≡ s → u ≡ v
-    → event_of g.work.ev ≡ event_at e v → g.work.entry ≡ Some e → g.left.under ≡ None
-    → left_by g.left.under (tasks_in home g.left) g.leaf ≡ whole_step (actor_of home.me home.chart k) (config_of k) (event_at e v)
+pub resumes-taken : (home : Setting) (ceiling later : ℕ) (k m : Lasting) (s z : Position) (e : HeldEntry) (g : Going) (v u w : LaneView) (answer : Step) → stage.Taken e ≡ s → u ≡ v
+    → event_of g.work.ev ≡ event_in_hand e v → g.work.entry ≡ Some e → g.left.under ≡ None
+    → left_by g.left.under (tasks_in home g.left) g.leaf ≡ whole_step (actor_of home.me home.chart k) (config_of k) (event_in_hand e v)
     → Resumes home ceiling later k (stage.Within g) m z u w answer → Resumes home ceiling later k s m z v w answer
 resumes-taken home ceiling later k m s z e g v u w answer taken still ev is none left h =
     subst (λ x. Resumes home ceiling later k x m z v w answer) taken (by answer (subst (λ x. Resumes home ceiling later k (stage.Within g) m z x w answer) still h))
@@ -322,25 +322,25 @@ resumes-taken home ceiling later k m s z e g v u w answer taken still ev is none
     held : held_in k (stage.Within g) ≡ held_in k (stage.Taken e)
     held = taken-held k g e is none
 
-    goes : (ps : List Piece) (end : Option Config) → GoesOn v.sys a (event_of g.work.ev) (entry_here g.work.entry) (left_by g.left.under (tasks_in home g.left) g.leaf) (config_of k) ps end
-        → GoesOn v.sys a (event_at e v) (entry_of e) (whole_step a (config_of k) (event_at e v)) (config_of k) ps end
+    goes : (ps : List Piece) (end : Option Config) → StepGoesOn v.sys a (event_of g.work.ev) (entry_here g.work.entry) (left_by g.left.under (tasks_in home g.left) g.leaf) (config_of k) ps end
+        → StepGoesOn v.sys a (event_in_hand e v) (entry_of e) (whole_step a (config_of k) (event_in_hand e v)) (config_of k) ps end
     goes ps end h =
-        goes-as v.sys a (event_of g.work.ev) (event_at e v) (entry_here g.work.entry) (entry_of e) (left_by g.left.under (tasks_in home g.left) g.leaf) (whole_step a (config_of k) (event_at e v)) (config_of k) ps end ev entry_is left h
+        goes-as v.sys a (event_of g.work.ev) (event_in_hand e v) (entry_here g.work.entry) (entry_of e) (left_by g.left.under (tasks_in home g.left) g.leaf) (whole_step a (config_of k) (event_in_hand e v)) (config_of k) ps end ev entry_is left h
 
     by : (answer : Step) → Resumes home ceiling later k (stage.Within g) m z v w answer → Resumes home ceiling later k (stage.Taken e) m z v w answer
     by step.Point h = record {
       g = h.g;
       grows = h.grows;
       advances =
-          advances-as v.sys a (event_of g.work.ev) (event_at e v) (entry_here g.work.entry) (entry_of e) (left_by g.left.under (tasks_in home g.left) g.leaf) (whole_step a (config_of k) (event_at e v)) (config_of k)
+          advances-as v.sys a (event_of g.work.ev) (event_in_hand e v) (entry_here g.work.entry) (entry_of e) (left_by g.left.under (tasks_in home g.left) g.leaf) (whole_step a (config_of k) (event_in_hand e v)) (config_of k)
           (tell h.g ++ Point ∷ []) (left_of home m z w) (config_of m) ev entry_is left h.advances;
       going = h.going;
       stands = h.stands;
       done = h.done;
       split = ap (λ (l : Remainder). l.tasks) (sym left) ∙ h.split;
-      reaches = subst (λ x. Reaches v.sys a (moment x (entry_of e)) (whole_step a (config_of k) (event_at e v)) (config_of k) (tell h.g ++ Point ∷ []) (left_of home m z w) (config_of m)) ev
-          (subst (λ x. Reaches v.sys a (moment (event_of g.work.ev) x) (whole_step a (config_of k) (event_at e v)) (config_of k) (tell h.g ++ Point ∷ []) (left_of home m z w) (config_of m)) entry_is
-          (subst (λ l. Reaches v.sys a (moment (event_of g.work.ev) (entry_here g.work.entry)) l (config_of k) (tell h.g ++ Point ∷ []) (left_of home m z w) (config_of m)) left h.reaches));
+      reaches = subst (λ x. AgendaReaches v.sys a (moment x (entry_of e)) (whole_step a (config_of k) (event_in_hand e v)) (config_of k) (tell h.g ++ Point ∷ []) (left_of home m z w) (config_of m)) ev
+          (subst (λ x. AgendaReaches v.sys a (moment (event_of g.work.ev) x) (whole_step a (config_of k) (event_in_hand e v)) (config_of k) (tell h.g ++ Point ∷ []) (left_of home m z w) (config_of m)) entry_is
+          (subst (λ l. AgendaReaches v.sys a (moment (event_of g.work.ev) (entry_here g.work.entry)) l (config_of k) (tell h.g ++ Point ∷ []) (left_of home m z w) (config_of m)) left h.reaches));
       same_event = h.same_event ∙ ev;
       same_entry = h.same_entry ∙ entry_is;
       room = h.room;

@@ -9,16 +9,16 @@ use Rattle.qp_model.specs.declared.bodies.Body.TheVariants as item
 use Rattle.qp_model.specs.Told.{Told, plain}
 use Rattle.qp_model.specs.Parts.{members, members_below}
 use Rattle.qp_model.specs.Shapes.{Drops, Posts, PostsOne, PublishesLast, restoring}
-use Rattle.qp_model.specs.Pieces.{Piece, Point, bare, tell}
+use Rattle.qp_model.specs.Pieces.{Piece, Point, records_in, tell}
 use Rattle.qp_model.specs.Acts.{Config, Actor, Moment}
 use Rattle.qp_model.specs.Step.{Publishing, GoesOnPublishing, DoesLeft, tasks_left, publishing_left}
-use Rattle.qp_model.specs.Standing.{Reaches}
+use Rattle.qp_model.specs.Standing.{AgendaReaches}
 use Rattle.qp_model.specs.Able.{task_able}
 use Rattle.qp_model.proofs.Completes.{completes, release, release_drops, again_any}
 use Rattle.qp_model.proofs.GroupLemmas.{bare-append, bare-tell}
 use Rattle.qp_model.proofs.PublicationLemmas.{tell-append}
 use Rattle.qp_model.proofs.ReachLemmas.{reaches-none, reaches-trans, reaches-asserted}
-use Rattle.qp_calls.specs.declared.tokens.Entry.{Entry}
+use Rattle.qp_calls.specs.declared.tokens.HeldEntry.{HeldEntry}
 use Rattle.qp_calls.specs.declared.answers.RoomFault.{RoomFault}
 use Rattle.qp_chart_compiled.specs.AsTask.{first}
 use Rattle.qp_calls.specs.LaneView.{LaneView, Grows}
@@ -32,7 +32,7 @@ use Rattle.qp_dispatch.specs.declared.part.Part.TheVariants as part
 use Rattle.qp_dispatch.specs.declared.work.Work.{Work}
 use Rattle.qp_dispatch.specs.Lasts.{config_of, actor_of, moment_of}
 use Rattle.qp_dispatch.specs.CallsDone.{StandsIn}
-use Rattle.qp_dispatch.specs.Acting.{Keeps}
+use Rattle.qp_dispatch.specs.Acting.{ActionKeeps}
 use Rattle.qp_dispatch.specs.Parts.{Goes, Asserts, CutShort, FewerLeft, GoesFurther, IsPublishing, Parts, held_by, left_by, publishing_of, entries_under}
 use Rattle.qp_dispatch.specs.SoundFor.{MayTask}
 use Rattle.qp_dispatch.specs.Runs.{MayRun, NothingLeft, PartDoes, RunAsserts, RunCut, Runs, Setting, hand_of, weight}
@@ -43,17 +43,17 @@ use Rattle.qp_model.proofs.ListLemmas.{list_all-front, every-behind}
 
 -- What a run rests on, at each part.
 
-pub stand-left : (es fs : List Entry) (v : LaneView) → StandAll (es ++ fs) v → StandAll es v
+pub stand-left : (es fs : List HeldEntry) (v : LaneView) → StandAll (es ++ fs) v → StandAll es v
 stand-left es fs v all = stand-fewer (es ++ fs) es v (list_all-front (λ e. is_named v.sys e) es fs all.named) (λ t. omega (arith, counts-join t es fs)) all
 
-pub stand-hand : (es : List Entry) (hand : Option Entry) (v : LaneView) → StandAll (es ++ hand_of hand) v → StandsIn hand v
+pub stand-hand : (es : List HeldEntry) (hand : Option HeldEntry) (v : LaneView) → StandAll (es ++ hand_of hand) v → StandsIn hand v
 stand-hand es None v all = tt
 stand-hand es (Some e) v all = stand-in es e [] v all
 
-pub stand-list : (k : Lasting) (u : Option Under) (hand : Option Entry) (v : LaneView) → StandAll (held_by k u ++ hand_of hand) v → StandAll k.list.entries.items v
+pub stand-list : (k : Lasting) (u : Option Under) (hand : Option HeldEntry) (v : LaneView) → StandAll (held_by k u ++ hand_of hand) v → StandAll k.list.entries.items v
 stand-list k u hand v all = stand-left k.list.entries.items (entries_under u) v (stand-left (held_by k u) (hand_of hand) v all)
 
-pub stand-under : (k : Lasting) (u : Option Under) (from : Under) (hand : Option Entry) (v : LaneView) → u ≡ Some from → StandAll (held_by k u ++ hand_of hand) v → StandAll (held_by k (Some from)) v
+pub stand-under : (k : Lasting) (u : Option Under) (from : Under) (hand : Option HeldEntry) (v : LaneView) → u ≡ Some from → StandAll (held_by k u ++ hand_of hand) v → StandAll (held_by k (Some from)) v
 stand-under k u from hand v is all = stand-left (held_by k (Some from)) (hand_of hand) v (subst (λ o. StandAll (held_by k o ++ hand_of hand) v) is all)
 
 pub able-behind : {X : Type 0} (p : X → Bool) (xs ys : List X) → list_all p (xs ++ ys) ≡ true → list_all p ys ≡ true
@@ -100,7 +100,7 @@ part-task home work ceiling later k u t ts rest m y v w p is at next does =
     rw is (record { pre = t ∷ []; split = split; does = does; less = subst (λ x. weight y rest < weight None x) (sym split) (task-less y t rest) })
 
 -- what a run rests on stays
-pub may-on : (stops : Bool) (home : Setting) (at : Moment) (hand : Option Entry) (ceiling later : ℕ) (k : Lasting) (u : Option Under) (ts : List Task) (m : Lasting) (y : Option Under) (rest : List Task)
+pub may-on : (stops : Bool) (home : Setting) (at : Moment) (hand : Option HeldEntry) (ceiling later : ℕ) (k : Lasting) (u : Option Under) (ts : List Task) (m : Lasting) (y : Option Under) (rest : List Task)
     (v w : LaneView) → MayRun home hand k u ts ceiling v → Runs stops home at [] ceiling later k u ts m y rest v w → MayRun home hand m y rest later w
 may-on stops home at hand ceiling later k u ts m y rest v w may r = record {
   of = r.grows.sys ∙ may.of;
@@ -138,12 +138,12 @@ complete-left sys a at (Some u) ts leaf c able few = by (members u.publication.l
 
 -- A run grows by a part.
 
-same-actor : (home : Setting) (k m : Lasting) → Keeps k m → actor_of home.me home.chart m ≡ actor_of home.me home.chart k
+same-actor : (home : Setting) (k m : Lasting) → ActionKeeps k m → actor_of home.me home.chart m ≡ actor_of home.me home.chart k
 same-actor home k m keeps = ap (λ room. record { o = home.me; chart = home.chart; room = room }) keeps.room
 
 module _ (stops : Bool) (home : Setting) (at : Moment) (ceiling : ℕ) (k : Lasting) (u : Option Under) (ts : List Task) (v : LaneView) where
   pub runs-none : IsPublishing u v → Runs stops home at [] ceiling ceiling k u ts k u ts v v
-  unfolding bare
+  unfolding records_in
   runs-none publishing = record {
     ps = [];
     grows = gains-none v;
@@ -162,30 +162,30 @@ module _ (stops : Bool) (home : Setting) (at : Moment) (ceiling : ℕ) (k : Last
   module _ (mid later : ℕ) (l m : Lasting) (x y : Option Under) (pre mids rest : List Task) (w z : LaneView) (r : Runs stops home at [] ceiling mid k u ts l x mids v w) (split : mids ≡ pre ++ rest) where
     -- what a part reaches, a run reaches behind it
     reached : (points : List Piece) (h : Goes home.me at pre points mid later l x m y w z) (leaf : ℕ)
-        → Reaches v.sys (actor_of home.me home.chart k) at (left_by u ts leaf) (config_of k) (r.ps ++ (tell h.g ++ points)) (left_by y rest leaf) (config_of m)
+        → AgendaReaches v.sys (actor_of home.me home.chart k) at (left_by u ts leaf) (config_of k) (r.ps ++ (tell h.g ++ points)) (left_by y rest leaf) (config_of m)
     reached points h leaf =
-        let before : Reaches v.sys (actor_of home.me home.chart k) at (left_by u ts leaf) (config_of k) r.ps (left_by x mids leaf) (config_of l) =
-        subst (λ ps. Reaches v.sys (actor_of home.me home.chart k) at (left_by u ts leaf) (config_of k) ps (left_by x mids leaf) (config_of l)) (append-nil r.ps) (r.reaches leaf) in
-        let here : Reaches w.sys (actor_of home.me home.chart l) at (left_by x mids leaf) (config_of l) (tell h.g ++ points) (left_by y rest leaf) (config_of m) =
-        subst (λ us. Reaches w.sys (actor_of home.me home.chart l) at (left_by x us leaf) (config_of l) (tell h.g ++ points) (left_by y rest leaf) (config_of m)) (sym split) (h.reaches home.chart rest leaf) in
-        let there : Reaches v.sys (actor_of home.me home.chart k) at (left_by x mids leaf) (config_of l) (tell h.g ++ points) (left_by y rest leaf) (config_of m) =
-        subst (λ a. Reaches v.sys a at (left_by x mids leaf) (config_of l) (tell h.g ++ points) (left_by y rest leaf) (config_of m)) (same-actor home k l r.keeps)
-        (subst (λ s. Reaches s (actor_of home.me home.chart l) at (left_by x mids leaf) (config_of l) (tell h.g ++ points) (left_by y rest leaf) (config_of m)) r.grows.sys here) in
+        let before : AgendaReaches v.sys (actor_of home.me home.chart k) at (left_by u ts leaf) (config_of k) r.ps (left_by x mids leaf) (config_of l) =
+        subst (λ ps. AgendaReaches v.sys (actor_of home.me home.chart k) at (left_by u ts leaf) (config_of k) ps (left_by x mids leaf) (config_of l)) (append-nil r.ps) (r.reaches leaf) in
+        let here : AgendaReaches w.sys (actor_of home.me home.chart l) at (left_by x mids leaf) (config_of l) (tell h.g ++ points) (left_by y rest leaf) (config_of m) =
+        subst (λ us. AgendaReaches w.sys (actor_of home.me home.chart l) at (left_by x us leaf) (config_of l) (tell h.g ++ points) (left_by y rest leaf) (config_of m)) (sym split) (h.reaches home.chart rest leaf) in
+        let there : AgendaReaches v.sys (actor_of home.me home.chart k) at (left_by x mids leaf) (config_of l) (tell h.g ++ points) (left_by y rest leaf) (config_of m) =
+        subst (λ a. AgendaReaches v.sys a at (left_by x mids leaf) (config_of l) (tell h.g ++ points) (left_by y rest leaf) (config_of m)) (same-actor home k l r.keeps)
+        (subst (λ s. AgendaReaches s (actor_of home.me home.chart l) at (left_by x mids leaf) (config_of l) (tell h.g ++ points) (left_by y rest leaf) (config_of m)) r.grows.sys here) in
         reaches-trans v.sys (actor_of home.me home.chart k) at (left_by u ts leaf) (left_by x mids leaf) (left_by y rest leaf) (config_of k) (config_of l) (config_of m) r.ps (tell h.g ++ points) before there
 
-    bare-more : (g : List Told) → bare (r.ps ++ tell g) ≡ bare r.ps ++ g
-    bare-more g = bare-append r.ps (tell g) ∙ ap (λ x. bare r.ps ++ x) (bare-tell g)
+    bare-more : (g : List Told) → records_in (r.ps ++ tell g) ≡ records_in r.ps ++ g
+    bare-more g = bare-append r.ps (tell g) ∙ ap (λ x. records_in r.ps ++ x) (bare-tell g)
 
-    tells-more : (g : List Told) → stops ≡ true → r.ps ++ tell g ≡ tell (bare (r.ps ++ tell g))
-    tells-more g e = ap (λ x. x ++ tell g) (r.plain e) ∙ sym (tell-append (bare r.ps) g) ∙ ap tell (sym (bare-more g))
+    tells-more : (g : List Told) → stops ≡ true → r.ps ++ tell g ≡ tell (records_in (r.ps ++ tell g))
+    tells-more g e = ap (λ x. x ++ tell g) (r.plain e) ∙ sym (tell-append (records_in r.ps) g) ∙ ap tell (sym (bare-more g))
 
     split-more : ts ≡ (r.done ++ pre) ++ rest
     split-more = r.split ∙ ap (λ x. r.done ++ x) split ∙ sym (append_assoc r.done pre rest)
 
-    grows-more : (g : List Told) → Grows g w z → Grows (bare (r.ps ++ tell g)) v z
-    grows-more g h = subst (λ x. Grows x v z) (sym (bare-more g)) (grows-then (bare r.ps) g v w z r.grows h)
+    grows-more : (g : List Told) → Grows g w z → Grows (records_in (r.ps ++ tell g)) v z
+    grows-more g h = subst (λ x. Grows x v z) (sym (bare-more g)) (grows-then (records_in r.ps) g v w z r.grows h)
 
-    keeps-then : Keeps l m → Keeps k m
+    keeps-then : ActionKeeps l m → ActionKeeps k m
     keeps-then h = record {
       leaf = h.leaf ∙ r.keeps.leaf;
       room = h.room ∙ r.keeps.room;
@@ -199,7 +199,7 @@ module _ (stops : Bool) (home : Setting) (at : Moment) (ceiling : ℕ) (k : Last
       grows = grows-more h.g h.grows;
       plain = tells-more h.g;
       reaches = λ leaf.
-          subst (λ ps. Reaches v.sys (actor_of home.me home.chart k) at (left_by u ts leaf) (config_of k) ps (left_by y rest leaf) (config_of m)) (sym (append_assoc r.ps (tell h.g) points)) (reached points h leaf);
+          subst (λ ps. AgendaReaches v.sys (actor_of home.me home.chart k) at (left_by u ts leaf) (config_of k) ps (left_by y rest leaf) (config_of m)) (sym (append_assoc r.ps (tell h.g) points)) (reached points h leaf);
       done = r.done ++ pre;
       split = split-more;
       lane = λ here. h.lane (r.lane here);
@@ -223,8 +223,8 @@ module _ (stops : Bool) (home : Setting) (at : Moment) (ceiling : ℕ) (k : Last
       where
         ended : (leaf : ℕ) → DoesLeft v.sys (actor_of home.me home.chart k) at (left_by u ts leaf).publishing (left_by u ts leaf).posts (left_by u ts leaf).tasks (config_of k) (r.ps ++ tell h.g) None
         ended leaf =
-            let before : Reaches v.sys (actor_of home.me home.chart k) at (left_by u ts leaf) (config_of k) r.ps (left_by x mids leaf) (config_of l) =
-            subst (λ ps. Reaches v.sys (actor_of home.me home.chart k) at (left_by u ts leaf) (config_of k) ps (left_by x mids leaf) (config_of l)) (append-nil r.ps) (r.reaches leaf) in
+            let before : AgendaReaches v.sys (actor_of home.me home.chart k) at (left_by u ts leaf) (config_of k) r.ps (left_by x mids leaf) (config_of l) =
+            subst (λ ps. AgendaReaches v.sys (actor_of home.me home.chart k) at (left_by u ts leaf) (config_of k) ps (left_by x mids leaf) (config_of l)) (append-nil r.ps) (r.reaches leaf) in
             let here = subst
             (λ us. DoesLeft w.sys (actor_of home.me home.chart l) at (left_by x us leaf).publishing (left_by x us leaf).posts (left_by x us leaf).tasks (config_of l) (tell h.g) None) (sym split)
             (h.does home.chart rest leaf) in
@@ -236,7 +236,7 @@ module _ (stops : Bool) (home : Setting) (at : Moment) (ceiling : ℕ) (k : Last
     -- what was cut could go on to the end
     pub runs-cut : list_all (task_able v.sys (is_some at.entry)) ts ≡ true → length (kept_in k.list) ≤ k.list.entries.capacity
         → CutShort home.me at pre l x m y w z → RunCut stops home at k u ts m y v z
-    unfolding Reaches tasks_left
+    unfolding AgendaReaches tasks_left
     runs-cut able few h = record {
       ps = r.ps ++ tell h.g;
       grows = grows-more h.g h.grows;
@@ -251,10 +251,10 @@ module _ (stops : Bool) (home : Setting) (at : Moment) (ceiling : ℕ) (k : Last
 
         Begun : ℕ → List Piece → Type 0
         Begun leaf ps = (more : List Piece) × (end : Option Config)
-            × DoesLeft v.sys a at (left_by u ts leaf).publishing (left_by u ts leaf).posts (left_by u ts leaf).tasks (config_of k) (ps ++ more) end × (end ≡ None → bare more ≡ [] → ⊥)
+            × DoesLeft v.sys a at (left_by u ts leaf).publishing (left_by u ts leaf).posts (left_by u ts leaf).tasks (config_of k) (ps ++ more) end × (end ≡ None → records_in more ≡ [] → ⊥)
 
-        before : (leaf : ℕ) → Reaches v.sys a at (left_by u ts leaf) (config_of k) r.ps (left_by x mids leaf) (config_of l)
-        before leaf = subst (λ ps. Reaches v.sys a at (left_by u ts leaf) (config_of k) ps (left_by x mids leaf) (config_of l)) (append-nil r.ps) (r.reaches leaf)
+        before : (leaf : ℕ) → AgendaReaches v.sys a at (left_by u ts leaf) (config_of k) r.ps (left_by x mids leaf) (config_of l)
+        before leaf = subst (λ ps. AgendaReaches v.sys a at (left_by u ts leaf) (config_of k) ps (left_by x mids leaf) (config_of l)) (append-nil r.ps) (r.reaches leaf)
 
         able_mids : list_all (task_able v.sys (is_some at.entry)) mids ≡ true
         able_mids = able-behind (task_able v.sys (is_some at.entry)) r.done mids (subst (λ us. list_all (task_able v.sys (is_some at.entry)) us ≡ true) r.split able)
@@ -269,11 +269,11 @@ module _ (stops : Bool) (home : Setting) (at : Moment) (ceiling : ℕ) (k : Last
             subst (λ ps. Begun leaf ps) (sym nothing) (rest.0, rest.1, before leaf rest.0 rest.1 rest.2, λ fails. left-tells v.sys a at x mids leaf (config_of l) rest.0 rest.1 fails rest.2)
         by leaf (inr f) =
             let on = complete-left v.sys a at None rest leaf f.after able_rest (subst (λ n. length f.after.kept ≤ n) r.keeps.room f.few) in
-            let here : Reaches w.sys (actor_of home.me home.chart l) at (left_by x mids leaf) (config_of l) (tell (h.g ++ f.rest) ++ Point ∷ []) (tasks_left rest leaf) f.after =
-            subst (λ us. Reaches w.sys (actor_of home.me home.chart l) at (left_by x us leaf) (config_of l) (tell (h.g ++ f.rest) ++ Point ∷ []) (tasks_left rest leaf) f.after) (sym split) (f.reaches home.chart rest leaf) in
-            let there : Reaches v.sys a at (left_by x mids leaf) (config_of l) (tell (h.g ++ f.rest) ++ Point ∷ []) (tasks_left rest leaf) f.after =
-            subst (λ b. Reaches v.sys b at (left_by x mids leaf) (config_of l) (tell (h.g ++ f.rest) ++ Point ∷ []) (tasks_left rest leaf) f.after) (same-actor home k l r.keeps)
-            (subst (λ s. Reaches s (actor_of home.me home.chart l) at (left_by x mids leaf) (config_of l) (tell (h.g ++ f.rest) ++ Point ∷ []) (tasks_left rest leaf) f.after) r.grows.sys here) in
+            let here : AgendaReaches w.sys (actor_of home.me home.chart l) at (left_by x mids leaf) (config_of l) (tell (h.g ++ f.rest) ++ Point ∷ []) (tasks_left rest leaf) f.after =
+            subst (λ us. AgendaReaches w.sys (actor_of home.me home.chart l) at (left_by x us leaf) (config_of l) (tell (h.g ++ f.rest) ++ Point ∷ []) (tasks_left rest leaf) f.after) (sym split) (f.reaches home.chart rest leaf) in
+            let there : AgendaReaches v.sys a at (left_by x mids leaf) (config_of l) (tell (h.g ++ f.rest) ++ Point ∷ []) (tasks_left rest leaf) f.after =
+            subst (λ b. AgendaReaches v.sys b at (left_by x mids leaf) (config_of l) (tell (h.g ++ f.rest) ++ Point ∷ []) (tasks_left rest leaf) f.after) (same-actor home k l r.keeps)
+            (subst (λ s. AgendaReaches s (actor_of home.me home.chart l) at (left_by x mids leaf) (config_of l) (tell (h.g ++ f.rest) ++ Point ∷ []) (tasks_left rest leaf) f.after) r.grows.sys here) in
             let whole = before leaf ((tell (h.g ++ f.rest) ++ Point ∷ []) ++ on.0) on.1 (there on.0 on.1 on.2) in
             let same : r.ps ++ ((tell (h.g ++ f.rest) ++ Point ∷ []) ++ on.0) ≡ (r.ps ++ tell h.g) ++ (tell f.rest ++ (Point ∷ on.0)) =
             ap (λ x. r.ps ++ ((x ++ Point ∷ []) ++ on.0)) (tell-append h.g f.rest)
@@ -311,15 +311,15 @@ module _ (stops : Bool) (home : Setting) (at : Moment) (ceiling : ℕ) (k : Last
   -- a run that doesn't stop goes on behind a point
   pub runs-past : (later : ℕ) (m : Lasting) (y : Option Under) (rest : List Task) (z : LaneView) → stops ≡ false → Runs stops home at (Point ∷ []) ceiling later k u ts m y rest v z
       → Runs stops home at [] ceiling later k u ts m y rest v z
-  unfolding bare
+  unfolding records_in
   runs-past later m y rest z never r =
-      let same : bare (r.ps ++ Point ∷ []) ≡ bare r.ps = bare-append r.ps (Point ∷ []) ∙ append-nil (bare r.ps) in
+      let same : records_in (r.ps ++ Point ∷ []) ≡ records_in r.ps = bare-append r.ps (Point ∷ []) ∙ append-nil (records_in r.ps) in
       record {
         ps = r.ps ++ Point ∷ [];
         grows = subst (λ g. Grows g v z) (sym same) r.grows;
         plain = λ e. let wrong : true ≡ false = sym e ∙ never in absurd (cc);
         reaches = λ leaf.
-            subst (λ ps. Reaches v.sys (actor_of home.me home.chart k) at (left_by u ts leaf) (config_of k) ps (left_by y rest leaf) (config_of m)) (sym (append-nil (r.ps ++ Point ∷ []))) (r.reaches leaf);
+            subst (λ ps. AgendaReaches v.sys (actor_of home.me home.chart k) at (left_by u ts leaf) (config_of k) ps (left_by y rest leaf) (config_of m)) (sym (append-nil (r.ps ++ Point ∷ []))) (r.reaches leaf);
         done = r.done;
         split = r.split;
         lane = r.lane;

@@ -12,10 +12,10 @@ use Rattle.qp_model.specs.Shapes.{Fits, Subscribes, Unsubscribes, Arms, Rearms, 
 use Rattle.qp_calls.specs.declared.did.Did.TheVariants as did
 use Rattle.qp_calls.specs.declared.answers.Arm.TheVariants as armed
 use Rattle.qp_calls.specs.Tokens.{hands_after, hands_by}
-use Rattle.qp_calls.specs.LaneView.{LaneView, Adds, GrowsOf, Roomier, ceiling_in}
+use Rattle.qp_calls.specs.LaneView.{LaneView, AddsTold, GrowsOf, Roomier, ceiling_in}
 use Rattle.qp_calls.specs.Notes.{MayNote, spare_after, told_note, told_as}
 use Rattle.qp_calls.specs.Clauses as clause
-use Rattle.qp_calls.specs.Groups.{Answers}
+use Rattle.qp_calls.specs.Groups.{CallAnswers}
 use Rattle.qp_calls.proofs.Answering.{answers-room}
 use Rattle.qp_model.proofs.RecordLemmas.{body-is, of-is}
 
@@ -25,7 +25,7 @@ unfolding MayNote
 may-refuse me t ticks interval r v is bad some = rw (body-is me (BadTicks t ticks interval) r is) (bad, some)
 
 pub refused : (me t ticks interval : ℕ) (r : Rec) (v w : LaneView) → item_of r ≡ record { of = me; body = BadTicks t ticks interval } → v.by ≡ me → 0 < v.spare
-    → GrowsOf r.of (told_note r v) v w → w.spare ≡ spare_after r v.spare → Adds (plain (BadTicks t ticks interval) ∷ []) v w
+    → GrowsOf r.of (told_note r v) v w → w.spare ≡ spare_after r v.spare → AddsTold (plain (BadTicks t ticks interval) ∷ []) v w
 unfolding told_note spare_after
 refused me t ticks interval r v w is by some grown spare =
     let body = body-is me (BadTicks t ticks interval) r is in
@@ -51,28 +51,28 @@ fit-parts ticks interval h =
 
 -- Subscriptions.
 
-pub sub-granted : (sig : ℕ) (b : Bool) (a r w : LaneView) → b ≡ true → Roomier a r → clause.Subscribing sig r w b → Answers a.sys a.by None (call.Subscribe sig) (did.Value 1) a w
+pub sub-granted : (sig : ℕ) (b : Bool) (a r w : LaneView) → b ≡ true → Roomier a r → clause.Subscribing sig r w b → CallAnswers a.sys a.by None (call.Subscribe sig) (did.Value 1) a w
 unfolding Fits Subscribes hands_after hands_by
 sub-granted sig b a r w is room h =
     let k : clause.Subscribing sig r w true = subst (λ x. clause.Subscribing sig r w x) is h in
     answers-room None (call.Subscribe sig) (did.Value 1) a r w room
     (record { answer = Granted; g = plain (Sub sig k.0) ∷ []; said = refl; grows = k.1.grows; fits = (k.0, refl); hands = λ y. k.1.grows.hands })
 
-pub sub-same : (sig : ℕ) (b : Bool) (a r w : LaneView) → b ≡ false → Roomier a r → clause.Subscribing sig r w b → Answers a.sys a.by None (call.Subscribe sig) (did.Value 0) a w
+pub sub-same : (sig : ℕ) (b : Bool) (a r w : LaneView) → b ≡ false → Roomier a r → clause.Subscribing sig r w b → CallAnswers a.sys a.by None (call.Subscribe sig) (did.Value 0) a w
 unfolding Fits Subscribes hands_after hands_by
 sub-same sig b a r w is room h =
     let k : clause.Subscribing sig r w false = subst (λ x. clause.Subscribing sig r w x) is h in
     answers-room None (call.Subscribe sig) (did.Value 0) a r w room
     (record { answer = Refused; g = same_in sig k.0 true ∷ []; said = refl; grows = k.1.grows; fits = (k.0, refl); hands = λ y. k.1.grows.hands })
 
-pub unsub-granted : (sig : ℕ) (b : Bool) (a r w : LaneView) → b ≡ true → Roomier a r → clause.Unsubscribing sig r w b → Answers a.sys a.by None (call.Unsubscribe sig) (did.Value 1) a w
+pub unsub-granted : (sig : ℕ) (b : Bool) (a r w : LaneView) → b ≡ true → Roomier a r → clause.Unsubscribing sig r w b → CallAnswers a.sys a.by None (call.Unsubscribe sig) (did.Value 1) a w
 unfolding Fits Unsubscribes hands_after hands_by
 unsub-granted sig b a r w is room h =
     let k : clause.Unsubscribing sig r w true = subst (λ x. clause.Unsubscribing sig r w x) is h in
     answers-room None (call.Unsubscribe sig) (did.Value 1) a r w room
     (record { answer = Granted; g = plain (Unsub sig k.0) ∷ []; said = refl; grows = k.1.grows; fits = (k.0, refl); hands = λ y. k.1.grows.hands })
 
-pub unsub-same : (sig : ℕ) (b : Bool) (a r w : LaneView) → b ≡ false → Roomier a r → clause.Unsubscribing sig r w b → Answers a.sys a.by None (call.Unsubscribe sig) (did.Value 0) a w
+pub unsub-same : (sig : ℕ) (b : Bool) (a r w : LaneView) → b ≡ false → Roomier a r → clause.Unsubscribing sig r w b → CallAnswers a.sys a.by None (call.Unsubscribe sig) (did.Value 0) a w
 unfolding Fits Unsubscribes hands_after hands_by
 unsub-same sig b a r w is room h =
     let k : clause.Unsubscribing sig r w false = subst (λ x. clause.Unsubscribing sig r w x) is h in
@@ -85,8 +85,8 @@ module _ (t place : ℕ) (a r w : LaneView) (number : t ≡ timer_number a.sys.t
   here : t ≡ timer_number r.sys.timers r.by place
   here = rw room.same number
 
-  pub arm-refused : (ticks interval : ℕ) → ticks_fit ticks interval ≡ false → Adds (plain (BadTicks t ticks interval) ∷ []) r w
-      → Answers a.sys a.by None (call.Arm place ticks interval) (did.Assert 4) a w
+  pub arm-refused : (ticks interval : ℕ) → ticks_fit ticks interval ≡ false → AddsTold (plain (BadTicks t ticks interval) ∷ []) r w
+      → CallAnswers a.sys a.by None (call.Arm place ticks interval) (did.Assert 4) a w
   unfolding Fits Arms
   arm-refused ticks interval bad h =
       answers-room None (call.Arm place ticks interval) (did.Assert 4) a r w room
@@ -99,7 +99,7 @@ module _ (t place : ℕ) (a r w : LaneView) (number : t ≡ timer_number a.sys.t
         hands = λ y. absurd (cc);
       })
 
-  pub arm-done : (ticks interval : ℕ) → ticks_fit ticks interval ≡ true → clause.Arms t ticks interval r w armed.Done → Answers a.sys a.by None (call.Arm place ticks interval) (did.Value 1) a w
+  pub arm-done : (ticks interval : ℕ) → ticks_fit ticks interval ≡ true → clause.Arms t ticks interval r w armed.Done → CallAnswers a.sys a.by None (call.Arm place ticks interval) (did.Value 1) a w
   unfolding Fits Arms hands_after hands_by
   arm-done ticks interval good h =
       answers-room None (call.Arm place ticks interval) (did.Value 1) a r w room
@@ -113,7 +113,7 @@ module _ (t place : ℕ) (a r w : LaneView) (number : t ≡ timer_number a.sys.t
       })
 
   pub arm-armed : (ticks interval n c : ℕ) → ticks_fit ticks interval ≡ true → clause.Arms t ticks interval r w (armed.Armed n c)
-      → Answers a.sys a.by None (call.Arm place ticks interval) (did.Assert 3) a w
+      → CallAnswers a.sys a.by None (call.Arm place ticks interval) (did.Assert 3) a w
   unfolding Fits Arms
   arm-armed ticks interval n c good h =
       answers-room None (call.Arm place ticks interval) (did.Assert 3) a r w room
@@ -126,7 +126,7 @@ module _ (t place : ℕ) (a r w : LaneView) (number : t ≡ timer_number a.sys.t
         hands = λ y. absurd (cc);
       })
 
-  pub rearm-refused : (ticks : ℕ) → ticks_fit ticks 0 ≡ false → Adds (plain (BadTicks t ticks 0) ∷ []) r w → Answers a.sys a.by None (call.Rearm place ticks) (did.Assert 4) a w
+  pub rearm-refused : (ticks : ℕ) → ticks_fit ticks 0 ≡ false → AddsTold (plain (BadTicks t ticks 0) ∷ []) r w → CallAnswers a.sys a.by None (call.Rearm place ticks) (did.Assert 4) a w
   unfolding Fits Rearms
   rearm-refused ticks bad h =
       answers-room None (call.Rearm place ticks) (did.Assert 4) a r w room
@@ -139,7 +139,7 @@ module _ (t place : ℕ) (a r w : LaneView) (number : t ≡ timer_number a.sys.t
         hands = λ y. absurd (cc);
       })
 
-  pub rearm-none : (ticks former : ℕ) → ticks_fit ticks 0 ≡ true → former ≡ 0 → clause.Rearms t ticks r w former → Answers a.sys a.by None (call.Rearm place ticks) (did.Value 0) a w
+  pub rearm-none : (ticks former : ℕ) → ticks_fit ticks 0 ≡ true → former ≡ 0 → clause.Rearms t ticks r w former → CallAnswers a.sys a.by None (call.Rearm place ticks) (did.Value 0) a w
   unfolding Fits Rearms hands_after hands_by
   rearm-none ticks former good none h =
       let k : clause.Rearms t ticks r w 0 = subst (λ x. clause.Rearms t ticks r w x) none h in
@@ -153,7 +153,7 @@ module _ (t place : ℕ) (a r w : LaneView) (number : t ≡ timer_number a.sys.t
         hands = λ y. k.1.grows.hands;
       })
 
-  pub rearm-some : (ticks former : ℕ) → ticks_fit ticks 0 ≡ true → (former ≡ 0 → ⊥) → clause.Rearms t ticks r w former → Answers a.sys a.by None (call.Rearm place ticks) (did.Value 1) a w
+  pub rearm-some : (ticks former : ℕ) → ticks_fit ticks 0 ≡ true → (former ≡ 0 → ⊥) → clause.Rearms t ticks r w former → CallAnswers a.sys a.by None (call.Rearm place ticks) (did.Value 1) a w
   unfolding Fits Rearms hands_after hands_by
   rearm-some ticks zero good some h = absurd (some refl)
   rearm-some ticks (suc former) good some h =
@@ -167,7 +167,7 @@ module _ (t place : ℕ) (a r w : LaneView) (number : t ≡ timer_number a.sys.t
         hands = λ y. h.1.grows.hands;
       })
 
-  pub disarm-none : (former : ℕ) → former ≡ 0 → clause.Disarms t r w former → Answers a.sys a.by None (call.Disarm place) (did.Value 0) a w
+  pub disarm-none : (former : ℕ) → former ≡ 0 → clause.Disarms t r w former → CallAnswers a.sys a.by None (call.Disarm place) (did.Value 0) a w
   unfolding Fits Disarms hands_after hands_by
   disarm-none former none h =
       let k : clause.Disarms t r w 0 = subst (λ x. clause.Disarms t r w x) none h in
@@ -181,7 +181,7 @@ module _ (t place : ℕ) (a r w : LaneView) (number : t ≡ timer_number a.sys.t
         hands = λ y. k.1.grows.hands;
       })
 
-  pub disarm-some : (former : ℕ) → (former ≡ 0 → ⊥) → clause.Disarms t r w former → Answers a.sys a.by None (call.Disarm place) (did.Value 1) a w
+  pub disarm-some : (former : ℕ) → (former ≡ 0 → ⊥) → clause.Disarms t r w former → CallAnswers a.sys a.by None (call.Disarm place) (did.Value 1) a w
   unfolding Fits Disarms hands_after hands_by
   disarm-some zero some h = absurd (some refl)
   disarm-some (suc former) some h =

@@ -9,11 +9,11 @@ use Rattle.qp_model.specs.Told.{Told}
 use Rattle.qp_model.specs.Pieces.{Point, tell}
 use Rattle.qp_model.specs.Acts.{Config, Moment}
 use Rattle.qp_model.specs.Step.{DoesLeft, tasks_left}
-use Rattle.qp_model.specs.Standing.{Reaches}
+use Rattle.qp_model.specs.Standing.{AgendaReaches}
 use Rattle.qp_calls.specs.declared.answers.RoomFault.{RoomFault}
 use Rattle.qp_calls.specs.declared.did.Did.{Did}
 use Rattle.qp_calls.specs.declared.did.Did.TheVariants as did
-use Rattle.qp_calls.specs.declared.tokens.Entry.{Entry}
+use Rattle.qp_calls.specs.declared.tokens.HeldEntry.{HeldEntry}
 use Rattle.qp_calls.specs.LaneView.{LaneView, Grows, ceiling_in}
 use Rattle.qp_calls.specs.Notes.{last_code, spills_told}
 use Rattle.qp_calls.specs.Clauses.{IsFault}
@@ -26,7 +26,7 @@ use Rattle.qp_dispatch.specs.Lasts.{config_of, actor_of}
 -- what stood beside the deferred entries still does
 abbrev pub StandBeside : Lasting → Lasting → LaneView → LaneView → Type 0
 StandBeside k m v w =
-    (others : List Entry) → StandAll (k.list.entries.items ++ others) v → StandAll (m.list.entries.items ++ others) w
+    (others : List HeldEntry) → StandAll (k.list.entries.items ++ others) v → StandAll (m.list.entries.items ++ others) w
 
 -- the lane has the ceiling that it had, and no `spill` if it had none
 pub record Calm (v w : LaneView) : Type 0 where
@@ -34,7 +34,7 @@ pub record Calm (v w : LaneView) : Type 0 where
   pub spills : spills_told v.told ≡ false → spills_told w.told ≡ false
 
 -- no action changes the leaf or the capacity of the deferred list, which stays within it
-pub record Keeps (k m : Lasting) : Type 0 where
+pub record ActionKeeps (k m : Lasting) : Type 0 where
   pub leaf : m.leaf ≡ k.leaf
   pub room : m.list.entries.capacity ≡ k.list.entries.capacity
   pub few : length (kept_in k.list) ≤ k.list.entries.capacity → length (kept_in m.list) ≤ k.list.entries.capacity
@@ -44,9 +44,9 @@ pub record ActDone (me : ℕ) (at : Moment) (p : Plain) (k m : Lasting) (v w : L
   pub g : List Told
   pub grows : Grows g v w
   pub reaches : (chart : Chart) (ts : List Task) (leaf : ℕ)
-      → Reaches v.sys (actor_of me chart k) at (tasks_left (Do p ∷ ts) leaf) (config_of k) (tell g ++ Point ∷ []) (tasks_left ts leaf) (config_of m)
+      → AgendaReaches v.sys (actor_of me chart k) at (tasks_left (Do p ∷ ts) leaf) (config_of k) (tell g ++ Point ∷ []) (tasks_left ts leaf) (config_of m)
   pub calm : Calm v w
-  pub keeps : Keeps k m
+  pub keeps : ActionKeeps k m
   pub hands : ChangeAlike (kept_in k.list) (kept_in m.list) v w
   pub stand : StandBeside k m v w
 
@@ -65,7 +65,7 @@ pub record ActBegins (me : ℕ) (at : Moment) (p : Plain) (k : Lasting) (g : Lis
   pub after : Config
   pub few : length after.kept ≤ k.list.entries.capacity
   pub reaches : (chart : Chart) (ts : List Task) (leaf : ℕ)
-      → Reaches v.sys (actor_of me chart k) at (tasks_left (Do p ∷ ts) leaf) (config_of k) (tell (g ++ rest) ++ Point ∷ []) (tasks_left ts leaf) after
+      → AgendaReaches v.sys (actor_of me chart k) at (tasks_left (Do p ∷ ts) leaf) (config_of k) (tell (g ++ rest) ++ Point ∷ []) (tasks_left ts leaf) after
 
 -- `room` refused: nothing was done, or the front of a flush
 pub record ActCut (me : ℕ) (at : Moment) (p : Plain) (k m : Lasting) (v w : LaneView) : Type 0 where

@@ -9,8 +9,8 @@ use Rattle.qp_calls.specs.declared.answers.RoomFault.{RoomFault}
 use Rattle.qp_calls.specs.declared.deferred.Deferred.{Deferred}
 use Rattle.qp_calls.specs.declared.did.Did.{Did}
 use Rattle.qp_calls.specs.LaneView.{LaneView}
-use Rattle.qp_calls.specs.declared.tokens.Entry.{Entry}
-use Rattle.qp_calls.specs.Clauses.{IsFault, Stands}
+use Rattle.qp_calls.specs.declared.tokens.HeldEntry.{HeldEntry}
+use Rattle.qp_calls.specs.Clauses.{IsFault, EntryStands}
 use Rattle.qp_calls.specs.Deferring.{AnswersKept, FlushCut}
 
 -- `room` refused: a flush may have dropped some entries, the other calls have done nothing
@@ -24,9 +24,9 @@ CallDone now x kept more old new (Ok d) = AnswersKept now x d kept more old new
 CallDone now x kept more old new (Err fault) = CallCut x kept more old new × IsFault new fault
 
 -- the entry at hand may be handed in, if there is one
-abbrev pub StandsIn : Option Entry → LaneView → Type 0
+abbrev pub StandsIn : Option HeldEntry → LaneView → Type 0
 StandsIn None v = ⊤
-StandsIn (Some e) v = Stands e v
+StandsIn (Some e) v = EntryStands e v
 
 -- a call other than a publication
 abbrev pub is_single : Call → Bool

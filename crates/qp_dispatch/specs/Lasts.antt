@@ -5,7 +5,7 @@ use Rattle.qp_chart.specs.Expr.{Names}
 use Rattle.qp_chart.specs.declared.checked.Chart.{Chart}
 use Rattle.qp_model.specs.declared.bodies.Entry as model
 use Rattle.qp_model.specs.Acts.{Config, Actor, Moment}
-use Rattle.qp_calls.specs.declared.tokens.Entry.{Entry}
+use Rattle.qp_calls.specs.declared.tokens.HeldEntry.{HeldEntry}
 use Rattle.qp_calls.specs.Clauses.{entry_of, event_of}
 use Rattle.qp_calls.specs.Deferring.{kept_in}
 use Rattle.qp_dispatch.specs.declared.lasting.Lasting.{Lasting}
@@ -20,7 +20,7 @@ abbrev pub actor_of : ℕ → Chart → Lasting → Actor
 actor_of me chart k = record { o = me; chart = chart; room = k.list.entries.capacity }
 
 -- the entry that a step works on; a start has none
-abbrev pub entry_in : Option Entry → Option model.Entry
+abbrev pub entry_in : Option HeldEntry → Option model.Entry
 entry_in None = None
 entry_in (Some e) = Some (entry_of e)
 

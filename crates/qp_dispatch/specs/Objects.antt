@@ -6,7 +6,7 @@ use Rattle.qp_model.specs.declared.systems.System.{System}
 use Rattle.qp_model.specs.declared.systems.ObjectDef.{ObjectDef}
 use Rattle.qp_model.specs.Course.{chart_at, first_config}
 use Rattle.qp_model.specs.Sites.{object_at}
-use Rattle.qp_calls.specs.declared.tokens.Entry.{Entry}
+use Rattle.qp_calls.specs.declared.tokens.HeldEntry.{HeldEntry}
 use Rattle.qp_calls.specs.LaneView.{LaneView}
 use Rattle.qp_calls.specs.Deferring.{StandAll, kept_in}
 use Rattle.qp_chart_compiled.specs.Compiled.{IsCompiled}
@@ -17,7 +17,7 @@ use Rattle.qp_dispatch.specs.declared.steps.Step.{Step}
 use Rattle.qp_dispatch.specs.declared.steps.Step.TheVariants as step
 use Rattle.qp_dispatch.specs.Lasts.{config_of}
 use Rattle.qp_dispatch.specs.Runs.{Setting}
-use Rattle.qp_dispatch.specs.Resume.{IsLaneOf, IsReady, IsUnderWay, Resumes}
+use Rattle.qp_dispatch.specs.Resume.{IsLaneOf, CanTakeSteps, IsUnderWay, Resumes}
 use Rattle.qp_dispatch.specs.Starting.{StartsTo}
 
 abbrev pub home_of : System → Chart → Object → Setting
@@ -31,7 +31,7 @@ works_for o v = record v { by = o }
 pub record IsObject (sys : System) (ceiling : ℕ) (x : Object) (v : LaneView) : Type 0 where
   pub chart : Chart
   pub is : chart_at sys x.chart ≡ Some chart
-  pub ready : IsReady sys x.me chart
+  pub ready : CanTakeSteps sys x.me chart
   pub compiled : IsCompiled chart x.compiled
   pub lane : IsLaneOf (home_of sys chart x) ceiling v
 
@@ -47,15 +47,15 @@ pub record MayResume (sys : System) (ceiling : ℕ) (x : Object) (v : LaneView) 
   pub at : IsObject sys ceiling x v
   pub under_way : IsUnderWay (home_of sys at.chart x) x.lasting x.stage v
 
-abbrev pub is_done : Step → Bool
-is_done step.Done = true
-is_done _ = false
+abbrev pub is_step_over : Step → Bool
+is_step_over step.Done = true
+is_step_over _ = false
 
 -- the start of an object with this chart
 abbrev pub StartsAs : Option Chart → System → ℕ → Object → Object → LaneView → LaneView → Step → Type 0
 StartsAs None sys later x y v w answer = ⊥
 StartsAs (Some chart) sys later x y v w answer =
-    (y ≡ record x { lasting = y.lasting; started = is_done answer }) × StartsTo (home_of sys chart x) later x.lasting y.lasting v w answer
+    (y ≡ record x { lasting = y.lasting; started = is_step_over answer }) × StartsTo (home_of sys chart x) later x.lasting y.lasting v w answer
 
 -- the same, while the lane works for the object, and then again for whom it did before
 abbrev pub ObjectStarts : System → ℕ → Object → Object → LaneView → LaneView → Step → Type 0
@@ -74,7 +74,7 @@ ObjectResumes sys ceiling later x y v w answer =
     (mid : LaneView) × ResumesAs (chart_at sys x.chart) sys ceiling later x y (works_for x.me v) mid answer × (w ≡ works_for v.by mid)
 
 -- an entry is taken up
-abbrev pub BeginsStep : Entry → Object → Object → Type 0
+abbrev pub BeginsStep : HeldEntry → Object → Object → Type 0
 BeginsStep e x y = y ≡ record x { stage = stage.Taken e; taken = x.taken + 1 }
 
 abbrev pub leaf_shown : Object → Option ℕ

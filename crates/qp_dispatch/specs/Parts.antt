@@ -12,8 +12,8 @@ use Rattle.qp_model.specs.Parts.{members}
 use Rattle.qp_model.specs.Pieces.{Piece, Point, tell}
 use Rattle.qp_model.specs.Acts.{Config, Moment}
 use Rattle.qp_model.specs.Step.{Publishing, Remainder, DoesLeft, tasks_left, publishing_left}
-use Rattle.qp_model.specs.Standing.{Reaches}
-use Rattle.qp_calls.specs.declared.tokens.Entry.{Entry}
+use Rattle.qp_model.specs.Standing.{AgendaReaches}
+use Rattle.qp_calls.specs.declared.tokens.HeldEntry.{HeldEntry}
 use Rattle.qp_calls.specs.LaneView.{LaneView, Grows, ceiling_in}
 use Rattle.qp_calls.specs.Notes.{last_code, spills_told}
 use Rattle.qp_calls.specs.Clauses.{IsFault, entry_of}
@@ -24,7 +24,7 @@ use Rattle.qp_dispatch.specs.declared.part.Part.{Part}
 use Rattle.qp_dispatch.specs.declared.part.Part.TheVariants as part
 use Rattle.qp_dispatch.specs.declared.part.Under.{Under}
 use Rattle.qp_dispatch.specs.Lasts.{config_of, actor_of}
-use Rattle.qp_dispatch.specs.Acting.{Keeps}
+use Rattle.qp_dispatch.specs.Acting.{ActionKeeps}
 
 -- a publication under way, as the definition has it
 abbrev pub publishing_of : Under → Publishing
@@ -36,12 +36,12 @@ abbrev pub left_by : Option Under → List Task → ℕ → Remainder
 left_by None ts leaf = tasks_left ts leaf
 left_by (Some u) ts leaf = publishing_left (publishing_of u) (members u.publication.left) ts leaf
 
-abbrev pub entries_under : Option Under → List Entry
+abbrev pub entries_under : Option Under → List HeldEntry
 entries_under None = []
 entries_under (Some u) = u.publication.entry ∷ []
 
 -- the entries that the object keeps beside that of its step
-abbrev pub held_by : Lasting → Option Under → List Entry
+abbrev pub held_by : Lasting → Option Under → List HeldEntry
 held_by k u = k.list.entries.items ++ entries_under u
 
 -- a publication under way names objects alone, and restores the ceiling that it found
@@ -51,7 +51,7 @@ IsPublishing (Some u) v = AreObjects v.sys u.publication.left × (u.ceiling ≡ 
 
 -- what stood beside the object's entries still does
 abbrev pub StandWith : Lasting → Option Under → Lasting → Option Under → LaneView → LaneView → Type 0
-StandWith k u m y v w = (others : List Entry) → StandAll (held_by k u ++ others) v → StandAll (held_by m y ++ others) w
+StandWith k u m y v w = (others : List HeldEntry) → StandAll (held_by k u ++ others) v → StandAll (held_by m y ++ others) w
 
 -- These tasks were done, or a part of a publication. `ceiling` was that of the lane, and `later` is.
 pub record Goes (me : ℕ) (at : Moment) (pre : List Task) (points : List Piece) (ceiling later : ℕ)
@@ -59,10 +59,10 @@ pub record Goes (me : ℕ) (at : Moment) (pre : List Task) (points : List Piece)
   pub g : List Told
   pub grows : Grows g v w
   pub reaches : (chart : Chart) (ts : List Task) (leaf : ℕ)
-      → Reaches v.sys (actor_of me chart k) at (left_by u (pre ++ ts) leaf) (config_of k) (tell g ++ points) (left_by y ts leaf) (config_of m)
+      → AgendaReaches v.sys (actor_of me chart k) at (left_by u (pre ++ ts) leaf) (config_of k) (tell g ++ points) (left_by y ts leaf) (config_of m)
   pub lane : ceiling ≡ ceiling_in 0 v.told → later ≡ ceiling_in 0 w.told
   pub spills : spills_told v.told ≡ false → spills_told w.told ≡ false
-  pub keeps : Keeps k m
+  pub keeps : ActionKeeps k m
   pub hands : ChangeAlike (map entry_of (held_by k u)) (map entry_of (held_by m y)) v w
   pub stand : StandWith k u m y v w
   pub publishing : IsPublishing y w
@@ -84,7 +84,7 @@ pub record GoesFurther (me : ℕ) (at : Moment) (pre : List Task) (k : Lasting) 
   pub after : Config
   pub few : length after.kept ≤ k.list.entries.capacity
   pub reaches : (chart : Chart) (ts : List Task) (leaf : ℕ)
-      → Reaches v.sys (actor_of me chart k) at (left_by u (pre ++ ts) leaf) (config_of k) (tell (g ++ rest) ++ Point ∷ []) (tasks_left ts leaf) after
+      → AgendaReaches v.sys (actor_of me chart k) at (left_by u (pre ++ ts) leaf) (config_of k) (tell (g ++ rest) ++ Point ∷ []) (tasks_left ts leaf) after
 
 -- `room` refused: nothing was done, or a front of the part
 pub record CutShort (me : ℕ) (at : Moment) (pre : List Task)

@@ -12,14 +12,14 @@ use Rattle.qp_model.specs.declared.bodies.Entry as model
 use Rattle.qp_model.specs.declared.bodies.Body.TheVariants as item
 use Rattle.qp_model.specs.Record.{entry}
 use Rattle.qp_model.specs.Told.{Told, Event, plain}
-use Rattle.qp_model.specs.Pieces.{Piece, Point, bare, tell}
+use Rattle.qp_model.specs.Pieces.{Piece, Point, records_in, tell}
 use Rattle.qp_model.specs.Acts.{Config, Actor}
-use Rattle.qp_model.specs.Step.{Remainder, GoesOn, moment, whole_step}
+use Rattle.qp_model.specs.Step.{Remainder, StepGoesOn, moment, whole_step}
 use Rattle.qp_model.specs.Course.{at_start}
-use Rattle.qp_model.specs.Standing.{Advances, Reaches}
+use Rattle.qp_model.specs.Standing.{Advances, AgendaReaches}
 use Rattle.qp_model.specs.Able.{chart_able, task_able}
-use Rattle.qp_calls.specs.declared.tokens.Entry.{Entry}
-use Rattle.qp_calls.specs.declared.tokens.Entry.TheVariants as token
+use Rattle.qp_calls.specs.declared.tokens.HeldEntry.{HeldEntry}
+use Rattle.qp_calls.specs.declared.tokens.HeldEntry.TheVariants as token
 use Rattle.qp_calls.specs.LaneView.{LaneView, Grows, GrowsOf, ceiling_in}
 use Rattle.qp_calls.specs.Notes.{last_code, spills_told}
 use Rattle.qp_calls.specs.Halting.{HaltsDry, HaltsFull}
@@ -40,16 +40,16 @@ use Rattle.qp_dispatch.specs.SoundFor.{IsHome, MayTask}
 use Rattle.qp_dispatch.specs.Runs.{Setting, hand_of, tasks_in}
 
 -- the event of an entry, as the lane gives it; a static event has its signal alone
-abbrev pub event_at : Entry → LaneView → Event
-event_at (token.Static sig) v = record { sig = sig; pars = [] }
-event_at (token.Pool h) v = v.event (entry h.pool h.block h.name)
+abbrev pub event_in_hand : HeldEntry → LaneView → Event
+event_in_hand (token.Static sig) v = record { sig = sig; pars = [] }
+event_in_hand (token.Pool h) v = v.event (entry h.pool h.block h.name)
 
 -- the object and its chart: what its agendas name the system has, and each of them can be done to its end
-pub record IsReady (sys : System) (me : ℕ) (chart : Chart) : Type 0 where
+pub record CanTakeSteps (sys : System) (me : ℕ) (chart : Chart) : Type 0 where
   pub home : IsHome sys me chart
   pub able : chart_able sys chart ≡ true
   pub start : AllByRecursion (MayTask sys me None) (start_plan chart).tasks
-  pub steps : (hand : Entry) (leaf : ℕ) (names : Names) (sig : ℕ) → AllByRecursion (MayTask sys me (Some hand)) (step_plan chart leaf names sig).tasks
+  pub steps : (hand : HeldEntry) (leaf : ℕ) (names : Names) (sig : ℕ) → AllByRecursion (MayTask sys me (Some hand)) (step_plan chart leaf names sig).tasks
 
 -- the lane works for the object and serves it, has this ceiling, and no `spill`
 pub record IsLaneOf (home : Setting) (ceiling : ℕ) (v : LaneView) : Type 0 where
@@ -61,7 +61,7 @@ pub record IsLaneOf (home : Setting) (ceiling : ℕ) (v : LaneView) : Type 0 whe
 
 -- what is left of a step may be done
 pub record IsGoing (home : Setting) (k : Lasting) (g : Going) (v : LaneView) : Type 0 where
-  pub hand : Entry
+  pub hand : HeldEntry
   pub is : g.work.entry ≡ Some hand
   pub may : AllByRecursion (MayTask home.sys home.me (Some hand)) (tasks_in home g.left)
   pub able : list_all (task_able home.sys true) (tasks_in home g.left) ≡ true
@@ -70,7 +70,7 @@ pub record IsGoing (home : Setting) (k : Lasting) (g : Going) (v : LaneView) : T
   pub few : length (kept_in k.list) ≤ k.list.entries.capacity
 
 -- a step was taken up: its entry may be handed in
-pub record IsTaken (k : Lasting) (e : Entry) (v : LaneView) : Type 0 where
+pub record IsTaken (k : Lasting) (e : HeldEntry) (v : LaneView) : Type 0 where
   pub stand : StandAll (k.list.entries.items ++ e ∷ []) v
   pub few : length (kept_in k.list) ≤ k.list.entries.capacity
 
@@ -82,10 +82,10 @@ IsUnderWay home k (stage.Within g) v = IsGoing home k g v
 -- the event and the entry of the step, and what is left of it
 abbrev pub event_in : Position → LaneView → Event
 event_in stage.Between v = at_start.event
-event_in (stage.Taken e) v = event_at e v
+event_in (stage.Taken e) v = event_in_hand e v
 event_in (stage.Within g) v = event_of g.work.ev
 
-abbrev pub entry_here : Option Entry → model.Entry
+abbrev pub entry_here : Option HeldEntry → model.Entry
 entry_here None = entry 0 0 0
 entry_here (Some e) = entry_of e
 
@@ -96,23 +96,23 @@ step_entry (stage.Within g) = entry_here g.work.entry
 
 abbrev pub left_of : Setting → Lasting → Position → LaneView → Remainder
 left_of home k stage.Between v = left_by None [] k.leaf
-left_of home k (stage.Taken e) v = whole_step (actor_of home.me home.chart k) (config_of k) (event_at e v)
+left_of home k (stage.Taken e) v = whole_step (actor_of home.me home.chart k) (config_of k) (event_in_hand e v)
 left_of home k (stage.Within g) v = left_by g.left.under (tasks_in home g.left) g.leaf
 
 -- the entries that the object keeps: the deferred ones, those of a publication under way, and the step's own
-abbrev pub step_entries : Position → List Entry
+abbrev pub step_entries : Position → List HeldEntry
 step_entries stage.Between = []
 step_entries (stage.Taken e) = e ∷ []
 step_entries (stage.Within g) = hand_of g.work.entry
 
-abbrev pub held_in : Lasting → Position → List Entry
+abbrev pub held_in : Lasting → Position → List HeldEntry
 held_in k stage.Between = k.list.entries.items ++ []
 held_in k (stage.Taken e) = k.list.entries.items ++ e ∷ []
 held_in k (stage.Within g) = held_by k g.left.under ++ hand_of g.work.entry
 
 -- records that begin something with which the step goes on; they aren't the whole of a step that asserts
 abbrev pub BeginsOn : System → Actor → Event → model.Entry → Remainder → Config → List Told → Type 0
-BeginsOn sys a ev e left c g = (more : List Piece) × (end : Option Config) × GoesOn sys a ev e left c (tell g ++ more) end × (end ≡ None → bare more ≡ [] → ⊥)
+BeginsOn sys a ev e left c g = (more : List Piece) × (end : Option Config) × StepGoesOn sys a ev e left c (tell g ++ more) end × (end ≡ None → records_in more ≡ [] → ⊥)
 
 -- the step went up to its next scheduling point
 pub record ToPoint (home : Setting) (ceiling later : ℕ) (k : Lasting) (s : Position) (m : Lasting) (z : Position) (v w : LaneView) : Type 0 where
@@ -125,7 +125,7 @@ pub record ToPoint (home : Setting) (ceiling later : ℕ) (k : Lasting) (s : Pos
   pub stands : z ≡ stage.Within going
   pub done : List Task
   pub split : (left_of home k s v).tasks ≡ done ++ (left_of home m z w).tasks
-  pub reaches : Reaches v.sys (actor_of home.me home.chart k) (moment (event_in s v) (step_entry s)) (left_of home k s v) (config_of k)
+  pub reaches : AgendaReaches v.sys (actor_of home.me home.chart k) (moment (event_in s v) (step_entry s)) (left_of home k s v) (config_of k)
       (tell g ++ Point ∷ []) (left_of home m z w) (config_of m)
   pub same_event : event_in z w ≡ event_in s v
   pub same_entry : step_entry z ≡ step_entry s
@@ -138,7 +138,7 @@ pub record ToPoint (home : Setting) (ceiling later : ℕ) (k : Lasting) (s : Pos
 pub record ToEnd (home : Setting) (ceiling later : ℕ) (k : Lasting) (s : Position) (m : Lasting) (v w : LaneView) : Type 0 where
   pub g : List Told
   pub grows : Grows g v w
-  pub goes : GoesOn v.sys (actor_of home.me home.chart k) (event_in s v) (step_entry s) (left_of home k s v) (config_of k) (tell g) (Some (config_of m))
+  pub goes : StepGoesOn v.sys (actor_of home.me home.chart k) (event_in s v) (step_entry s) (left_of home k s v) (config_of k) (tell g) (Some (config_of m))
   pub room : m.list.entries.capacity ≡ k.list.entries.capacity
   pub lane : IsLaneOf home later w
   pub few : length (kept_in m.list) ≤ m.list.entries.capacity
@@ -151,7 +151,7 @@ pub record EndsAsserted (home : Setting) (k : Lasting) (s : Position) (m : Lasti
   pub mid : LaneView
   pub code : ℕ
   pub grows : Grows g v mid
-  pub goes : GoesOn v.sys (actor_of home.me home.chart k) (event_in s v) (step_entry s) (left_of home k s v) (config_of k) (tell g) None
+  pub goes : StepGoesOn v.sys (actor_of home.me home.chart k) (event_in s v) (step_entry s) (left_of home k s v) (config_of k) (tell g) None
   pub some : 0 < code
   pub last : last_code mid.told ≡ code
   pub stops : Stops code mid w
@@ -185,16 +185,16 @@ Resumes home ceiling later k s m z v w step.Stopped = EndsAsserted home k s m z 
 Resumes home ceiling later k s m z v w step.Memory = EndsExhausted home k s m z v w
 
 -- a full lane told its `spill`, and one without memory did not; either has stopped
-abbrev pub Halts : LaneView → LaneView → Step → Type 0
-Halts v w step.Stopped = HaltsFull v w
-Halts v w step.Memory = HaltsDry v w
-Halts v w _ = ⊥
+abbrev pub StepHalts : LaneView → LaneView → Step → Type 0
+StepHalts v w step.Stopped = HaltsFull v w
+StepHalts v w step.Memory = HaltsDry v w
+StepHalts v w _ = ⊥
 
 -- the entry of a step was released
-abbrev pub ReleasesEntry : Option Entry → LaneView → LaneView → Type 0
+abbrev pub ReleasesEntry : Option HeldEntry → LaneView → LaneView → Type 0
 ReleasesEntry None v w = w ≡ v
 ReleasesEntry (Some e) v w = Released (entry_of e) v w
 
-abbrev pub Releases : Option Entry → LaneView → LaneView → Result (Unit {0}) RoomFault → Type 0
+abbrev pub Releases : Option HeldEntry → LaneView → LaneView → Result (Unit {0}) RoomFault → Type 0
 Releases hand v w (Ok u) = ReleasesEntry hand v w
 Releases hand v w (Err fault) = Refused fault v w

@@ -6,12 +6,12 @@ use Rattle.qp_chart.specs.declared.checked.Chart.{Chart}
 use Rattle.qp_chart.specs.Task.{Task}
 use Rattle.qp_model.specs.declared.systems.System.{System}
 use Rattle.qp_model.specs.Parts.{members}
-use Rattle.qp_model.specs.Pieces.{Piece, Point, bare, tell}
+use Rattle.qp_model.specs.Pieces.{Piece, Point, records_in, tell}
 use Rattle.qp_model.specs.Acts.{Config, Moment}
 use Rattle.qp_model.specs.Step.{DoesLeft}
-use Rattle.qp_model.specs.Standing.{Reaches}
+use Rattle.qp_model.specs.Standing.{AgendaReaches}
 use Rattle.qp_model.specs.Able.{task_able}
-use Rattle.qp_calls.specs.declared.tokens.Entry.{Entry}
+use Rattle.qp_calls.specs.declared.tokens.HeldEntry.{HeldEntry}
 use Rattle.qp_calls.specs.LaneView.{LaneView, Grows, ceiling_in}
 use Rattle.qp_calls.specs.Notes.{last_code, spills_told}
 use Rattle.qp_calls.specs.Clauses.{IsFault, entry_of}
@@ -27,7 +27,7 @@ use Rattle.qp_dispatch.specs.declared.runs.Ran.{Ran}
 use Rattle.qp_dispatch.specs.declared.runs.Ran.TheVariants as ran
 use Rattle.qp_dispatch.specs.declared.work.Work.{Work}
 use Rattle.qp_dispatch.specs.Lasts.{config_of, actor_of, moment_of}
-use Rattle.qp_dispatch.specs.Acting.{Keeps}
+use Rattle.qp_dispatch.specs.Acting.{ActionKeeps}
 use Rattle.qp_dispatch.specs.Parts.{Parts, IsPublishing, StandWith, held_by, left_by}
 use Rattle.qp_dispatch.specs.SoundFor.{MayTask}
 
@@ -46,12 +46,12 @@ abbrev pub tasks_in : Setting → Left → List Task
 tasks_in home left = left_in home.chart home.compiled left.agenda
 
 -- the entry that a step works on
-abbrev pub hand_of : Option Entry → List Entry
+abbrev pub hand_of : Option HeldEntry → List HeldEntry
 hand_of None = []
 hand_of (Some e) = e ∷ []
 
 -- What a run may rest on: its lane works for the object and serves it, and what is left names what the system has.
-pub record MayRun (home : Setting) (hand : Option Entry) (k : Lasting) (u : Option Under) (ts : List Task) (ceiling : ℕ) (v : LaneView) : Type 0 where
+pub record MayRun (home : Setting) (hand : Option HeldEntry) (k : Lasting) (u : Option Under) (ts : List Task) (ceiling : ℕ) (v : LaneView) : Type 0 where
   pub of : v.sys ≡ home.sys
   pub mine : v.by ≡ home.me
   pub some : 0 < home.me
@@ -95,14 +95,14 @@ PartOf home work ceiling later k left m after v w (Some part) =
 pub record Runs (stops : Bool) (home : Setting) (at : Moment) (ends : List Piece) (ceiling later : ℕ) (k : Lasting) (u : Option Under) (ts : List Task)
     (m : Lasting) (y : Option Under) (rest : List Task) (v w : LaneView) : Type 0 where
   pub ps : List Piece
-  pub grows : Grows (bare ps) v w
-  pub plain : stops ≡ true → ps ≡ tell (bare ps)
-  pub reaches : (leaf : ℕ) → Reaches v.sys (actor_of home.me home.chart k) at (left_by u ts leaf) (config_of k) (ps ++ ends) (left_by y rest leaf) (config_of m)
+  pub grows : Grows (records_in ps) v w
+  pub plain : stops ≡ true → ps ≡ tell (records_in ps)
+  pub reaches : (leaf : ℕ) → AgendaReaches v.sys (actor_of home.me home.chart k) at (left_by u ts leaf) (config_of k) (ps ++ ends) (left_by y rest leaf) (config_of m)
   pub done : List Task
   pub split : ts ≡ done ++ rest
   pub lane : ceiling ≡ ceiling_in 0 v.told → later ≡ ceiling_in 0 w.told
   pub spills : spills_told v.told ≡ false → spills_told w.told ≡ false
-  pub keeps : Keeps k m
+  pub keeps : ActionKeeps k m
   pub hands : ChangeAlike (map entry_of (held_by k u)) (map entry_of (held_by m y)) v w
   pub stand : StandWith k u m y v w
   pub publishing : IsPublishing y w
@@ -111,8 +111,8 @@ pub record Runs (stops : Bool) (home : Setting) (at : Moment) (ends : List Piece
 pub record RunAsserts (stops : Bool) (home : Setting) (at : Moment) (code : ℕ) (k : Lasting) (u : Option Under) (ts : List Task)
     (m : Lasting) (y : Option Under) (v w : LaneView) : Type 0 where
   pub ps : List Piece
-  pub grows : Grows (bare ps) v w
-  pub plain : stops ≡ true → ps ≡ tell (bare ps)
+  pub grows : Grows (records_in ps) v w
+  pub plain : stops ≡ true → ps ≡ tell (records_in ps)
   pub does : (leaf : ℕ) → DoesLeft v.sys (actor_of home.me home.chart k) at (left_by u ts leaf).publishing (left_by u ts leaf).posts
       (left_by u ts leaf).tasks (config_of k) ps None
   pub some : 0 < code
@@ -123,11 +123,11 @@ pub record RunAsserts (stops : Bool) (home : Setting) (at : Moment) (code : ℕ)
 pub record RunCut (stops : Bool) (home : Setting) (at : Moment) (k : Lasting) (u : Option Under) (ts : List Task)
     (m : Lasting) (y : Option Under) (v w : LaneView) : Type 0 where
   pub ps : List Piece
-  pub grows : Grows (bare ps) v w
-  pub plain : stops ≡ true → ps ≡ tell (bare ps)
+  pub grows : Grows (records_in ps) v w
+  pub plain : stops ≡ true → ps ≡ tell (records_in ps)
   pub begins : (leaf : ℕ) → (more : List Piece) × (end : Option Config)
       × DoesLeft v.sys (actor_of home.me home.chart k) at (left_by u ts leaf).publishing (left_by u ts leaf).posts
-      (left_by u ts leaf).tasks (config_of k) (ps ++ more) end × (end ≡ None → bare more ≡ [] → ⊥)
+      (left_by u ts leaf).tasks (config_of k) (ps ++ more) end × (end ≡ None → records_in more ≡ [] → ⊥)
   pub spills : spills_told v.told ≡ false → spills_told w.told ≡ false
   pub stand : StandWith k u m y v w
 

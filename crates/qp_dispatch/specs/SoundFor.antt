@@ -10,7 +10,7 @@ use Rattle.qp_model.specs.Parts.{timer_number}
 use Rattle.qp_model.specs.Sound.{IsSound}
 use Rattle.qp_model.specs.SoundChart.{IsSoundPlain}
 use Rattle.qp_model.specs.WordLaw.{is_object}
-use Rattle.qp_calls.specs.declared.tokens.Entry.{Entry}
+use Rattle.qp_calls.specs.declared.tokens.HeldEntry.{HeldEntry}
 
 -- the timer at this place of the object's chart is one of the system, and the object's
 pub record HasTimer (sys : System) (me place : ℕ) : Type 0 where
@@ -33,7 +33,7 @@ IsSoundTask sys chart inside (Do p) = IsSoundPlain sys chart inside p
 IsSoundTask sys chart inside _ = ⊤
 
 -- an action of the object's chart; `forward` and `defer` have an entry at hand
-pub record MayAct (sys : System) (me : ℕ) (hand : Option Entry) (p : Plain) : Type 0 where
+pub record MayAct (sys : System) (me : ℕ) (hand : Option HeldEntry) (p : Plain) : Type 0 where
   pub chart : Chart
   pub inside : Option ℕ
   pub home : IsHome sys me chart
@@ -41,6 +41,6 @@ pub record MayAct (sys : System) (me : ℕ) (hand : Option Entry) (p : Plain) : 
   pub at_hand : IsSome inside → IsSome hand
 
 -- the same of a task
-abbrev pub MayTask : System → ℕ → Option Entry → Task → Type 0
+abbrev pub MayTask : System → ℕ → Option HeldEntry → Task → Type 0
 MayTask sys me hand (Do p) = MayAct sys me hand p
 MayTask sys me hand _ = ⊤

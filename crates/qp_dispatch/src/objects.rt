@@ -11,7 +11,7 @@ use crate::runs::Home;
 use crate::starts::start_on;
 use crate::steps::{Position, Step, step_on};
 use qp_base::{Memory, Steps};
-use qp_calls::{Deferred, Entry, Ops};
+use qp_calls::{Deferred, HeldEntry, Ops};
 use qp_chart::Chart;
 use qp_chart_compiled::Compiled;
 use qp_model::{ObjectDef, System, Values};
@@ -113,7 +113,7 @@ impl Object {
     }
 
     /// Takes up an entry that was taken for this object. It adds no record.
-    pub fn begin(&mut self, e: Entry)
+    pub fn begin(&mut self, e: HeldEntry)
         requires between { self.old.stage ≡ standing.Between }
         requires started { self.old.started ≡ true }
         requires few { self.old.taken < 1000000 }

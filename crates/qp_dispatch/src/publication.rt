@@ -16,7 +16,7 @@ use crate::values::{event, surroundings};
 use crate::work::Work;
 use qp_base::Steps;
 use qp_calls::{Begun, Did, Ops, Publication, publish_begin, publish_end, publish_post};
-use qp_chart::Bounds;
+use qp_chart::BoundExprs;
 use qp_model::System;
 use std::sync::ledger::Ledger;
 
@@ -29,7 +29,7 @@ pub(crate) fn publish<O: Ops, L: Ledger>(
     under: &mut Option<Under>,
     work: &Work,
     sig: u16,
-    pars: &Bounds,
+    pars: &BoundExprs,
     reserve: Option<u8>,
     ceiling: &mut u8,
     steps: &mut Steps<L>,

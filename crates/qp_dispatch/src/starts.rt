@@ -4,7 +4,7 @@ ghost use Rattle.std.specs.Prelude.{◌≤◌, length};
 ghost use Rattle.qp_calls.specs.Deferring.{StandAll, kept_in};
 ghost use Rattle.qp_chart_compiled.specs.Compiled.{IsCompiled};
 ghost use Rattle.qp_dispatch.specs.Runs.{setting_of};
-ghost use Rattle.qp_dispatch.specs.Resume.{IsLaneOf, IsReady};
+ghost use Rattle.qp_dispatch.specs.Resume.{IsLaneOf, CanTakeSteps};
 ghost use Rattle.qp_dispatch.specs.Starting.{StartsTo};
 
 use crate::lasting::Lasting;
@@ -25,7 +25,7 @@ pub(crate) fn start_on<O: Ops, L: Ledger>(
     steps: &mut Steps<L>,
 ) -> Step
     requires lane { IsLaneOf (setting_of home.now) ceiling.old (O.lane ops.old) }
-    requires ready { IsReady home.now.sys.now home.now.me home.now.chart.now }
+    requires ready { CanTakeSteps home.now.sys.now home.now.me home.now.chart.now }
     requires compiled { IsCompiled home.now.chart.now home.now.compiled.now }
     requires few { length (kept_in lasting.old.list) ≤ lasting.old.list.entries.capacity }
     requires stand { StandAll lasting.old.list.entries.items (O.lane ops.old) }

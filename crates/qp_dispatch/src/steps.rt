@@ -4,14 +4,14 @@ ghost use Rattle.std.specs.Prelude.{◌≡◌, Some, None, false};
 ghost use Rattle.qp_model.specs.Step.{whole_step};
 ghost use Rattle.qp_model.specs.Sound.{IsSound};
 ghost use Rattle.qp_calls.specs.Notes.{spills_told};
-ghost use Rattle.qp_calls.specs.Clauses.{IsFault, Stands, event_of, params_of};
-ghost use Rattle.qp_calls.specs.declared.tokens.Entry.TheVariants as token;
+ghost use Rattle.qp_calls.specs.Clauses.{IsFault, EntryStands, event_of, params_of};
+ghost use Rattle.qp_calls.specs.declared.tokens.HeldEntry.TheVariants as token;
 ghost use Rattle.qp_chart_compiled.specs.Compiled.{IsCompiled};
 ghost use Rattle.qp_dispatch.specs.Lasts.{actor_of, config_of};
 ghost use Rattle.qp_dispatch.specs.Parts.{left_by};
 ghost use Rattle.qp_dispatch.specs.Runs.{setting_of, tasks_in};
 ghost use Rattle.qp_dispatch.specs.CallsDone.{StandsIn};
-ghost use Rattle.qp_dispatch.specs.Resume.{Halts, IsGoing, IsLaneOf, IsReady, IsTaken, IsUnderWay, Releases, Resumes, event_at};
+ghost use Rattle.qp_dispatch.specs.Resume.{StepHalts, IsGoing, IsLaneOf, CanTakeSteps, IsTaken, IsUnderWay, Releases, Resumes, event_in_hand};
 ghost use Rattle.qp_dispatch.specs.declared.steps.Position.TheVariants as standing;
 
 use crate::lasting::Lasting;
@@ -20,7 +20,7 @@ use crate::values::surroundings;
 use crate::work::Work;
 use arrayvec::ArrayVec;
 use qp_base::{Ev, Steps};
-use qp_calls::{Entry, Halted, Hold, Ops, RoomFault, end_step, halt};
+use qp_calls::{Halted, HeldEntry, Hold, Ops, RoomFault, end_step, halt};
 use qp_model::System;
 use std::sync::ledger::Ledger;
 
@@ -50,7 +50,7 @@ pub(crate) struct Going {
 pub(crate) enum Position {
     Between,
     /// An entry was taken up, and nothing done yet.
-    Taken(Entry),
+    Taken(HeldEntry),
     Within(Going),
 }
 
@@ -68,8 +68,8 @@ fn params(sys: &System, sig: u16) -> usize
 fn read_block<O: Ops>(ops: &mut O, sys: &System, h: &Hold) -> Ev
     requires of { (O.lane ops.old).sys ≡ sys.now }
     requires sound { IsSound sys.now }
-    requires stands { Stands (token.Pool h.now) (O.lane ops.old) }
-    ensures event { event_of result ≡ event_at (token.Pool h.now) (O.lane ops.old) }
+    requires stands { EntryStands (token.Pool h.now) (O.lane ops.old) }
+    ensures event { event_of result ≡ event_in_hand (token.Pool h.now) (O.lane ops.old) }
     ensures stays { O.lane ops.new ≡ O.lane ops.old }
 {
     let sig = ops.sig(h);
@@ -82,32 +82,32 @@ fn read_block<O: Ops>(ops: &mut O, sys: &System, h: &Hold) -> Ev
 }
 
 /// The event of an entry.
-fn read<O: Ops>(ops: &mut O, sys: &System, e: &Entry) -> Ev
+fn read<O: Ops>(ops: &mut O, sys: &System, e: &HeldEntry) -> Ev
     requires of { (O.lane ops.old).sys ≡ sys.now }
     requires sound { IsSound sys.now }
-    requires stands { Stands e.now (O.lane ops.old) }
-    ensures event { event_of result ≡ event_at e.now (O.lane ops.old) }
+    requires stands { EntryStands e.now (O.lane ops.old) }
+    ensures event { event_of result ≡ event_in_hand e.now (O.lane ops.old) }
     ensures stays { O.lane ops.new ≡ O.lane ops.old }
 {
     match e {
-        Entry::Static(sig) => Ev {
+        HeldEntry::Static(sig) => Ev {
             sig: *sig,
             pars: ArrayVec::new(),
         },
-        Entry::Pool(h) => read_block(ops, sys, h),
+        HeldEntry::Pool(h) => read_block(ops, sys, h),
     }
 }
 
 /// Takes up a step: its event is read, and its agenda chosen.
-fn take_up<O: Ops>(ops: &mut O, home: &Home<'_>, lasting: &Lasting, e: Entry) -> Going
+fn take_up<O: Ops>(ops: &mut O, home: &Home<'_>, lasting: &Lasting, e: HeldEntry) -> Going
     requires of { (O.lane ops.old).sys ≡ home.now.sys.now }
-    requires ready { IsReady home.now.sys.now home.now.me home.now.chart.now }
+    requires ready { CanTakeSteps home.now.sys.now home.now.me home.now.chart.now }
     requires compiled { IsCompiled home.now.chart.now home.now.compiled.now }
     requires taken { IsTaken lasting.now e (O.lane ops.old) }
     ensures going { IsGoing (setting_of home.now) lasting.now result (O.lane ops.old) }
     ensures left { left_by result.left.under (tasks_in (setting_of home.now) result.left) result.leaf
-        ≡ whole_step (actor_of home.now.me home.now.chart.now lasting.now) (config_of lasting.now) (event_at e (O.lane ops.old)) }
-    ensures event { event_of result.work.ev ≡ event_at e (O.lane ops.old) }
+        ≡ whole_step (actor_of home.now.me home.now.chart.now lasting.now) (config_of lasting.now) (event_in_hand e (O.lane ops.old)) }
+    ensures event { event_of result.work.ev ≡ event_in_hand e (O.lane ops.old) }
     ensures entry { result.work.entry ≡ Some e }
     ensures none { result.left.under ≡ None }
     ensures stays { O.lane ops.new ≡ O.lane ops.old }
@@ -135,7 +135,7 @@ fn take_up<O: Ops>(ops: &mut O, home: &Home<'_>, lasting: &Lasting, e: Entry) ->
 pub(crate) fn give_up<O: Ops>(ops: &mut O, fault: RoomFault) -> Step
     requires fault { IsFault (O.lane ops.old) fault }
     requires spills { spills_told (O.lane ops.old).told ≡ false }
-    ensures { Halts (O.lane ops.old) (O.lane ops.new) result }
+    ensures { StepHalts (O.lane ops.old) (O.lane ops.new) result }
 {
     match halt(ops, fault) {
         Halted::Full => Step::Stopped,
@@ -154,7 +154,7 @@ fn go<O: Ops, L: Ledger>(
     steps: &mut Steps<L>,
 ) -> Step
     requires lane { IsLaneOf (setting_of home.now) ceiling.old (O.lane ops.old) }
-    requires ready { IsReady home.now.sys.now home.now.me home.now.chart.now }
+    requires ready { CanTakeSteps home.now.sys.now home.now.me home.now.chart.now }
     requires going { IsGoing (setting_of home.now) lasting.old going (O.lane ops.old) }
     requires between { stage.old ≡ standing.Between }
     ensures { Resumes (setting_of home.now) ceiling.old ceiling.new lasting.old (standing.Within going) lasting.new stage.new
@@ -213,7 +213,7 @@ pub(crate) fn step_on<O: Ops, L: Ledger>(
     steps: &mut Steps<L>,
 ) -> Step
     requires lane { IsLaneOf (setting_of home.now) ceiling.old (O.lane ops.old) }
-    requires ready { IsReady home.now.sys.now home.now.me home.now.chart.now }
+    requires ready { CanTakeSteps home.now.sys.now home.now.me home.now.chart.now }
     requires compiled { IsCompiled home.now.chart.now home.now.compiled.now }
     requires under_way { IsUnderWay (setting_of home.now) lasting.old stage.old (O.lane ops.old) }
     ensures { Resumes (setting_of home.now) ceiling.old ceiling.new lasting.old stage.old lasting.new stage.new

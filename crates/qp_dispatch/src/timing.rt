@@ -3,7 +3,7 @@
 ghost use Rattle.std.specs.Prelude.{◌≡◌, ◌<◌, ◌≤◌, None, false, [], ◌∷◌};
 ghost use Rattle.qp_model.specs.Told.{plain};
 ghost use Rattle.qp_model.specs.declared.bodies.Body.TheVariants.{BadTicks};
-ghost use Rattle.qp_calls.specs.LaneView.{Adds};
+ghost use Rattle.qp_calls.specs.LaneView.{AddsTold};
 ghost use Rattle.qp_model.specs.Calls as call;
 ghost use Rattle.qp_model.specs.Parts.{timer_number};
 ghost use Rattle.qp_model.specs.Shapes.{ticks_fit};
@@ -28,7 +28,7 @@ fn refuse<O: Ops>(ops: &mut O, me: u8, t: u8, ticks: u64, interval: u64)
     requires mine { (O.lane ops.old).by ≡ me }
     requires room { 8 ≤ (O.lane ops.old).spare }
     requires values { ticks_fit ticks interval ≡ false }
-    ensures { Adds (plain (BadTicks t ticks interval) ∷ []) (O.lane ops.old) (O.lane ops.new) }
+    ensures { AddsTold (plain (BadTicks t ticks interval) ∷ []) (O.lane ops.old) (O.lane ops.new) }
 {
     ops.note(Rec::bad_ticks(me, t, ticks, interval));
 }

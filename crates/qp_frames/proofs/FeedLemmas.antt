@@ -7,7 +7,7 @@ use Rattle.qp_frames.specs.Bytes.{are_bytes}
 use Rattle.qp_frames.specs.declared.faults.FrameFault.{FrameFault}
 use Rattle.qp_frames.specs.declared.faults.FrameFault.TheVariants.{Memory, At}
 use Rattle.qp_frames.specs.declared.stream.Stream.{Stream}
-use Rattle.qp_frames.specs.Faults.{Becomes, Stands}
+use Rattle.qp_frames.specs.Faults.{Becomes, IsDecoderOf}
 use Rattle.qp_frames.specs.Stream.{before_all, fed, take_byte}
 
 -- bytes in two pieces
@@ -45,7 +45,7 @@ bytes-fit (b ∷ piece) fit = and_from (nat_lt b 256) (are_bytes piece) (lt-ltb 
 
 -- what a decoder was fed, with one piece more
 module _ (piece before : List ℕ) (fits : are_bytes piece ≡ true) where
-  pub stands-next : (old new : Result Stream FrameFault) → Goes (fed old piece) new → Stands old before → Stands new (before ++ piece)
+  pub stands-next : (old new : Result Stream FrameFault) → Goes (fed old piece) new → IsDecoderOf old before → IsDecoderOf new (before ++ piece)
   stands-next old (Err Memory) goes led = _
   stands-next (Ok p) (Ok q) goes led = (bytes-append before piece led.0 fits, fed-behind (Ok p) before piece led.1 ∙ goes)
   stands-next (Ok p) (Err (At offset code want got)) goes led = (bytes-append before piece led.0 fits, fed-behind (Ok p) before piece led.1 ∙ goes)
@@ -56,6 +56,6 @@ module _ (piece before : List ℕ) (fits : are_bytes piece ≡ true) where
   stands-next (Err Memory) (Err (At offset code want got)) goes led = absurd cc
 
   -- after a fault nothing changes
-  pub stands-same : (old : Result Stream FrameFault) (fault : FrameFault) → old ≡ Err fault → Stands old before → Stands old (before ++ piece)
+  pub stands-same : (old : Result Stream FrameFault) (fault : FrameFault) → old ≡ Err fault → IsDecoderOf old before → IsDecoderOf old (before ++ piece)
   stands-same (Ok p) fault is led = absurd cc
   stands-same (Err f) fault is led = stands-next (Err f) (Err f) (goes-same f) led

@@ -9,7 +9,7 @@ use Rattle.std.proofs.lemmas.Nat.{from_le_bytes-to_le_bytes_8, le_bytes_8}
 use Rattle.qp_model.specs.OutputFrames.{number_bytes}
 use Rattle.qp_text.specs.TextLaw.{has_64_bits}
 use Rattle.qp_frames.specs.Bytes.{are_bytes}
-use Rattle.qp_frames.specs.Parts.{is_whole, numbers_from, with_number}
+use Rattle.qp_frames.specs.Parts.{are_numbers_whole, numbers_from, with_number}
 
 -- the numbers behind one that was read
 pub with_number-ok : (n : ℕ) (read : Result (List ℕ) ℕ) (nums : List ℕ) → with_number n read ≡ Ok nums → (more : List ℕ) × (read ≡ Ok more) × (n ∷ more ≡ nums)
@@ -53,7 +53,7 @@ module _ (form : ℕ) (fixed : (form == 2) ≡ false) where
   fixed-length [] = refl
   fixed-length (n ∷ nums) = rw fixed (omega (arith, fixed-length nums))
 
-  pub fixed-whole : (nums : List ℕ) → is_whole form (flat_map (number_bytes form) nums) ≡ true
+  pub fixed-whole : (nums : List ℕ) → are_numbers_whole form (flat_map (number_bytes form) nums) ≡ true
   fixed-whole nums = rw (fixed, fixed-length nums) refl
 
   -- eight bytes are those of their number

@@ -13,7 +13,7 @@ use Rattle.qp_model.specs.Vocabulary.{has_count}
 use Rattle.qp_text.specs.TextLaw.{has_64_bits}
 use Rattle.qp_text.proofs.LineText.{IsItem}
 use Rattle.qp_frames.specs.Bytes.{are_bytes}
-use Rattle.qp_frames.specs.Parts.{is_whole, numbers_from}
+use Rattle.qp_frames.specs.Parts.{are_numbers_whole, numbers_from}
 use Rattle.qp_frames.specs.Stream.{item_of_body, item_of_frame, item_of_summed, with_numbers}
 use Rattle.qp_frames.specs.declared.faults.FrameFault.{FrameFault}
 use Rattle.qp_frames.specs.declared.faults.FrameFault.TheVariants.{At}
@@ -59,7 +59,7 @@ summed-item form wanted sequence id numbers nums i sequence_is some known count 
       past-by last known = grind (arith, nat_tests)
 
 -- the item of a frame whose checksum is right
-summed-is : (start form wanted sequence id : ℕ) (numbers : List ℕ) (i : JournalItem) → is_whole form numbers ≡ true → are_bytes numbers ≡ true
+summed-is : (start form wanted sequence id : ℕ) (numbers : List ℕ) (i : JournalItem) → are_numbers_whole form numbers ≡ true → are_bytes numbers ≡ true
     → item_of_summed start form wanted sequence id numbers ≡ Ok i → (frame_bytes form wanted i ≡ sequence ∷ id ∷ numbers) × IsItem form i
 summed-is start form wanted sequence id numbers i whole all is =
     let known = no_error (not (sequence == wanted)) (At start 3 wanted sequence) _ i is in
@@ -75,10 +75,10 @@ body-is : (start form wanted found : ℕ) (body : List ℕ) (i : JournalItem) �
 body-is start form wanted found [] i all is = absurd cc
 body-is start form wanted found (sequence ∷ []) i all is = absurd cc
 body-is start form wanted found (sequence ∷ id ∷ numbers) i all is =
-    let whole = no_error (not (is_whole form numbers)) (At start 4 0 0) _ i is in
+    let whole = no_error (not (are_numbers_whole form numbers)) (At start 4 0 0) _ i is in
     let sum = no_error (not (found == checksum (sequence ∷ id ∷ numbers))) (At start 2 (checksum (sequence ∷ id ∷ numbers)) found) _ i whole.1 in
     let bytes = (and_parts (nat_lt id 256) (are_bytes numbers) (and_parts (nat_lt sequence 256) (are_bytes (id ∷ numbers)) all).1).1 in
-    let shown = summed-is start form wanted sequence id numbers i (not-false (is_whole form numbers) whole.0) bytes sum.1 in
+    let shown = summed-is start form wanted sequence id numbers i (not-false (are_numbers_whole form numbers) whole.0) bytes sum.1 in
     (shown.0, eqb-true found (checksum (sequence ∷ id ∷ numbers)) (not-false (found == checksum (sequence ∷ id ∷ numbers)) sum.0), shown.1)
 
 -- a frame's bytes with its checksum

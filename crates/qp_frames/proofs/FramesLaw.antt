@@ -9,7 +9,7 @@ use Rattle.qp_text.proofs.TextLaw.{ok-pair}
 use Rattle.qp_frames.specs.Bytes.{are_bytes}
 use Rattle.qp_frames.specs.declared.faults.FrameFault.{FrameFault}
 use Rattle.qp_frames.specs.declared.faults.FrameFault.TheVariants.{Memory, At}
-use Rattle.qp_frames.specs.Faults.{Finds, Stands}
+use Rattle.qp_frames.specs.Faults.{Finds, IsDecoderOf}
 use Rattle.qp_frames.specs.declared.stream.Stream.{Stream}
 use Rattle.qp_frames.specs.Stream.{before_all, decoded, ended, fed}
 use Rattle.qp_frames.specs.FramesLaw.{DecodingIsExact, FaultsStay, FindsFrames, FramesAreOneToOne, FramesHaveNoFault}
@@ -55,11 +55,11 @@ finds_frames (Err (At offset code want got)) bytes all finds = λ form j is same
     let read : decoded bytes ≡ Ok (form, j) = ap decoded (sym same) ∙ decoded-frames form j is in absurd cc
 
 -- and in which state it was
-pub fault_frames : (fault : FrameFault) (bytes : List ℕ) → Stands (Err fault) bytes → FindsFrames (Err fault) bytes
+pub fault_frames : (fault : FrameFault) (bytes : List ℕ) → IsDecoderOf (Err fault) bytes → FindsFrames (Err fault) bytes
 fault_frames Memory bytes led = _
 fault_frames (At offset code want got) bytes led = finds_frames (Err (At offset code want got)) bytes led.0 (ap ended led.1)
 
-pub ended_frames : (result : Result Found FrameFault) (p : Stream) (bytes : List ℕ) → Finds result (ended (Ok p)) → Stands (Ok p) bytes → FindsFrames result bytes
+pub ended_frames : (result : Result Found FrameFault) (p : Stream) (bytes : List ℕ) → Finds result (ended (Ok p)) → IsDecoderOf (Ok p) bytes → FindsFrames result bytes
 ended_frames result p bytes finds led = finds_frames result bytes led.0 (subst (Finds result) (sym (ap ended led.1)) finds)
 
 -- what is found has its form, and is in range

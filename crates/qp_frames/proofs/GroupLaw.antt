@@ -9,7 +9,7 @@ use Rattle.std.proofs.lemmas.Nat.{div-add-mod', div-mul-add, mod-mul-add}
 use Rattle.qp_model.specs.OutputFrames.{groups, number_bytes}
 use Rattle.qp_text.specs.TextLaw.{has_64_bits}
 use Rattle.qp_frames.specs.Bytes.{are_bytes}
-use Rattle.qp_frames.specs.Parts.{by_part, group_part, is_whole, numbers_from, with_number}
+use Rattle.qp_frames.specs.Parts.{by_part, group_part, are_numbers_whole, numbers_from, with_number}
 use Rattle.qp_frames.specs.declared.numbers.Part.{Part}
 use Rattle.qp_frames.specs.declared.numbers.Part.TheVariants.{More, Whole, Wrong}
 use Rattle.qp_frames.proofs.FixedLaw.{with_number-ok}
@@ -257,7 +257,7 @@ module _ (form : ℕ) (grouped : (form == 2) ≡ true) where
             let behind = groups-all (c ∷ bytes) nums_are.0 (later nums_are.0 0 0 (omega arith) (omega arith) nums_are.1) in
             groups-whole place value b (c ∷ bytes) nums_are.0 nums early low some fits nums_are.2 behind.0 behind.1
 
-  pub group-are : (bytes nums : List ℕ) → is_whole form bytes ≡ true → are_bytes bytes ≡ true → numbers_from form 0 0 bytes ≡ Ok nums
+  pub group-are : (bytes nums : List ℕ) → are_numbers_whole form bytes ≡ true → are_bytes bytes ≡ true → numbers_from form 0 0 bytes ≡ Ok nums
       → (flat_map (number_bytes form) nums ≡ bytes) × (has_64_bits nums ≡ true)
   group-are [] nums uncut all is = let none : [] ≡ nums = cc in rw (← none) (refl, refl)
   group-are (b ∷ bytes) nums uncut all is =
@@ -272,7 +272,7 @@ module _ (form : ℕ) (grouped : (form == 2) ≡ true) where
       ap (λ t. ends_low (t ++ rest)) (number-groups form grouped n)
       ∙ groups-end 9 0 n rest refl (omega (arith, ltb-true n (2 ^ 64) both.0)) (groups-low nums both.1)
 
-  pub group-whole : (nums : List ℕ) → has_64_bits nums ≡ true → is_whole form (flat_map (number_bytes form) nums) ≡ true
+  pub group-whole : (nums : List ℕ) → has_64_bits nums ≡ true → are_numbers_whole form (flat_map (number_bytes form) nums) ≡ true
   group-whole nums fits = let low = groups-low nums fits in by (flat_map (number_bytes form) nums) low where
-    by : (bytes : List ℕ) → ends_low bytes ≡ true → is_whole form bytes ≡ true
+    by : (bytes : List ℕ) → ends_low bytes ≡ true → are_numbers_whole form bytes ≡ true
     by bytes low = rw grouped low

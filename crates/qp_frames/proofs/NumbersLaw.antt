@@ -6,7 +6,7 @@ use Rattle.std.proofs.lemmas.Bool.{eqb-true}
 use Rattle.qp_model.specs.OutputFrames.{number_bytes}
 use Rattle.qp_text.specs.TextLaw.{has_64_bits}
 use Rattle.qp_frames.specs.Bytes.{are_bytes}
-use Rattle.qp_frames.specs.Parts.{is_whole, numbers_from}
+use Rattle.qp_frames.specs.Parts.{are_numbers_whole, numbers_from}
 use Rattle.qp_frames.proofs.FixedLaw.{fixed-are, fixed-numbers, fixed-whole}
 use Rattle.qp_frames.proofs.GroupLaw.{group-are, group-numbers, group-whole}
 
@@ -18,14 +18,14 @@ numbers-read form nums fits = go (form == 2) refl where
   go false other = fixed-numbers form other nums fits
 
 -- none of them is cut off
-pub numbers-whole : (form : ℕ) (nums : List ℕ) → has_64_bits nums ≡ true → is_whole form (flat_map (number_bytes form) nums) ≡ true
+pub numbers-whole : (form : ℕ) (nums : List ℕ) → has_64_bits nums ≡ true → are_numbers_whole form (flat_map (number_bytes form) nums) ≡ true
 numbers-whole form nums fits = go (form == 2) refl where
-  go : (is_2 : Bool) → (form == 2) ≡ is_2 → is_whole form (flat_map (number_bytes form) nums) ≡ true
+  go : (is_2 : Bool) → (form == 2) ≡ is_2 → are_numbers_whole form (flat_map (number_bytes form) nums) ≡ true
   go true two = group-whole form two nums fits
   go false other = fixed-whole form other nums
 
 -- bytes that are read as numbers are the numbers' bytes
-pub numbers-are : (form : ℕ) (bytes nums : List ℕ) → is_whole form bytes ≡ true → are_bytes bytes ≡ true → numbers_from form 0 0 bytes ≡ Ok nums
+pub numbers-are : (form : ℕ) (bytes nums : List ℕ) → are_numbers_whole form bytes ≡ true → are_bytes bytes ≡ true → numbers_from form 0 0 bytes ≡ Ok nums
     → (flat_map (number_bytes form) nums ≡ bytes) × (has_64_bits nums ≡ true)
 numbers-are form bytes nums whole all is = go (form == 2) refl where
   go : (is_2 : Bool) → (form == 2) ≡ is_2 → (flat_map (number_bytes form) nums ≡ bytes) × (has_64_bits nums ≡ true)

@@ -11,10 +11,10 @@ use Rattle.qp_frames.specs.declared.stream.Stream.{Stream}
 use Rattle.qp_frames.specs.Stream.{before_all, fed}
 
 -- the answer is the one that is wanted
-abbrev pub Answers : {T : Type 0} → Result T FrameFault → Result T FrameFault → Type 0
-Answers (Ok x) wanted = wanted ≡ Ok x
-Answers (Err Memory) wanted = ⊤
-Answers (Err (At offset code want got)) wanted = wanted ≡ Err (At offset code want got)
+abbrev pub FrameAnswers : {T : Type 0} → Result T FrameFault → Result T FrameFault → Type 0
+FrameAnswers (Ok x) wanted = wanted ≡ Ok x
+FrameAnswers (Err Memory) wanted = ⊤
+FrameAnswers (Err (At offset code want got)) wanted = wanted ≡ Err (At offset code want got)
 
 -- a value that a call changes became the one that is wanted
 abbrev pub Becomes : {U T : Type 0} → Result U FrameFault → T → Result T FrameFault → Type 0
@@ -29,9 +29,9 @@ Numbers (Err NoMemory) wanted = ⊤
 Numbers (Err (Wrong got)) wanted = wanted ≡ Err got
 
 -- the state of a decoder to which these bytes were fed
-abbrev pub Stands : Result Stream FrameFault → List ℕ → Type 0
-Stands (Err Memory) bytes = ⊤
-Stands state bytes = IsTrue (are_bytes bytes) × (fed (Ok before_all) bytes ≡ state)
+abbrev pub IsDecoderOf : Result Stream FrameFault → List ℕ → Type 0
+IsDecoderOf (Err Memory) bytes = ⊤
+IsDecoderOf state bytes = IsTrue (are_bytes bytes) × (fed (Ok before_all) bytes ≡ state)
 
 -- the answer of a decoder in this state: its fault, if there is one
 abbrev pub answer_of : Result Stream FrameFault → Result ⊤ FrameFault

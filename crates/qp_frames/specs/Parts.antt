@@ -30,10 +30,10 @@ abbrev pub IsPart : ℕ → ℕ → ℕ → Type 0
 IsPart form place value = (place ≤ last_place form) × (value < base form ^ place)
 
 -- a number that goes on does so within its places
-abbrev pub GoesOn : ℕ → ℕ → Part → Type 0
-GoesOn form place (More value) = IsPart form (place + 1) value
-GoesOn form place (Whole n) = ⊤
-GoesOn form place Wrong = ⊤
+abbrev pub PartGoesOn : ℕ → ℕ → Part → Type 0
+PartGoesOn form place (More value) = IsPart form (place + 1) value
+PartGoesOn form place (Whole n) = ⊤
+PartGoesOn form place Wrong = ⊤
 
 -- a number before those that follow it
 abbrev pub with_number : ℕ → Result (List ℕ) ℕ → Result (List ℕ) ℕ
@@ -53,5 +53,5 @@ numbers_from form place value (b ∷ bytes) =
     by_part b (part_of form place value b) (λ v. numbers_from form (place + 1) v bytes) (λ n. with_number n (numbers_from form 0 0 bytes))
 
 -- no number is cut off at its end
-abbrev pub is_whole : ℕ → List ℕ → Bool
-is_whole form bytes = if form == 2 then nat_lt (slice_index bytes (length bytes - 1)) 128 else length bytes % 8 == 0
+abbrev pub are_numbers_whole : ℕ → List ℕ → Bool
+are_numbers_whole form bytes = if form == 2 then nat_lt (slice_index bytes (length bytes - 1)) 128 else length bytes % 8 == 0

@@ -11,7 +11,7 @@ use Rattle.qp_frames.specs.Codes.{BAD_ESCAPE, CHECKSUM, SEQUENCE, LENGTH, ID, IT
 use Rattle.qp_frames.specs.declared.faults.FrameFault.{FrameFault}
 use Rattle.qp_frames.specs.declared.faults.FrameFault.TheVariants.{At}
 use Rattle.qp_frames.specs.declared.stream.Stream.{Stream}
-use Rattle.qp_frames.specs.Parts.{is_whole, numbers_from}
+use Rattle.qp_frames.specs.Parts.{are_numbers_whole, numbers_from}
 
 -- before the first byte
 abbrev pub before_all : Stream
@@ -51,7 +51,7 @@ item_of_summed start form wanted sequence id numbers =
 -- the item of a frame by the bytes before its checksum, and the checksum that it has
 abbrev pub item_of_body : ℕ → ℕ → ℕ → List ℕ → ℕ → Result JournalItem FrameFault
 item_of_body start form wanted (sequence ∷ id ∷ numbers) found =
-    if not (is_whole form numbers) then Err (At start LENGTH 0 0)
+    if not (are_numbers_whole form numbers) then Err (At start LENGTH 0 0)
     else (if not (found == checksum (sequence ∷ id ∷ numbers)) then Err (At start CHECKSUM (checksum (sequence ∷ id ∷ numbers)) found)
     else item_of_summed start form wanted sequence id numbers)
 item_of_body start form wanted _ found = Err (At start LENGTH 0 0)

@@ -1,7 +1,7 @@
 //! Journals read from frames, in whatever pieces they come.
 
 ghost use Rattle.std.specs.Prelude.{◌≡◌, ◌++◌, List, ℕ, [], Err};
-ghost use Rattle.qp_frames.specs.Faults.{Finds, Stands, answer_of};
+ghost use Rattle.qp_frames.specs.Faults.{Finds, IsDecoderOf, answer_of};
 ghost use Rattle.qp_frames.specs.FramesLaw.{FindsFrames};
 ghost use Rattle.qp_frames.specs.Stream.{decoded};
 
@@ -33,7 +33,7 @@ impl Model for Decoder {
 impl Decoder {
     /// A decoder that no byte was fed to.
     pub fn new(alloc: Global) -> Decoder
-        ensures { Stands result [] }
+        ensures { IsDecoderOf result [] }
     {
         Decoder {
             alloc,
@@ -45,7 +45,7 @@ impl Decoder {
     /// Feeds the next piece of the stream. The first fault is answered by the call whose piece has the byte that shows it,
     /// and by every call after it.
     pub fn feed(&mut self, piece: &[u8]) -> Result<(), FrameFault>
-        ensures stands { (before : List ℕ) → Stands self.old before → Stands self.new (before ++ piece.now) }
+        ensures stands { (before : List ℕ) → IsDecoderOf self.old before → IsDecoderOf self.new (before ++ piece.now) }
         ensures answer { result ≡ answer_of self.new }
         ensures fault { (fault : FrameFault) → self.old ≡ Err fault → self.new ≡ Err fault }
     {
@@ -63,10 +63,10 @@ impl Decoder {
 
     /// Ends the stream: the journal that all pieces together are, or the first fault.
     pub fn end(self) -> Result<Found, FrameFault>
-        ensures exact { (bytes : List ℕ) → Stands self bytes → Finds result (decoded bytes) }
+        ensures exact { (bytes : List ℕ) → IsDecoderOf self bytes → Finds result (decoded bytes) }
 
         // A journal is answered exactly where the stream is the frames of one in range, and it is this one in its form.
-        ensures frames { (bytes : List ℕ) → Stands self bytes → FindsFrames result bytes }
+        ensures frames { (bytes : List ℕ) → IsDecoderOf self bytes → FindsFrames result bytes }
     {
         match self.fault {
             Some(fault) => Err(fault),

@@ -2,7 +2,7 @@
 
 ghost use Rattle.std.specs.Prelude.{◌≡◌, ◌≤◌, length, IfOk, Ok};
 ghost use Rattle.qp_model.specs.Output.{last_id};
-ghost use Rattle.qp_frames.specs.Faults.{Answers};
+ghost use Rattle.qp_frames.specs.Faults.{FrameAnswers};
 ghost use Rattle.qp_frames.specs.declared.faults.FrameFault.TheVariants.{At};
 ghost use Rattle.qp_frames.specs.Stream.{form_of_bytes, item_of_body, item_of_frame, item_of_summed, with_numbers};
 
@@ -53,7 +53,7 @@ impl FrameStart {
 
     /// The item of a frame by its bytes, the last of which is its checksum.
     pub fn item_of_frame(self, alloc: Global, bytes: &[u8]) -> Result<FrameItem, FrameFault>
-        ensures exact { Answers result (item_of_frame self.start self.form self.wanted bytes.now) }
+        ensures exact { FrameAnswers result (item_of_frame self.start self.form self.wanted bytes.now) }
         ensures count { IfOk result (λ i. length i.nums ≤ 14) }
         ensures id { IfOk result (λ i. i.id ≤ 46) }
     {
@@ -66,7 +66,7 @@ impl FrameStart {
 
     /// The item of a frame by the bytes before its checksum, and the checksum that it has.
     fn item_of_body(self, alloc: Global, body: &[u8], found: u8) -> Result<FrameItem, FrameFault>
-        ensures exact { Answers result (item_of_body self.start self.form self.wanted body.now found) }
+        ensures exact { FrameAnswers result (item_of_body self.start self.form self.wanted body.now found) }
         ensures count { IfOk result (λ i. length i.nums ≤ 14) }
         ensures id { IfOk result (λ i. i.id ≤ 46) }
     {
@@ -91,7 +91,7 @@ impl FrameStart {
         id: u8,
         numbers: &[u8],
     ) -> Result<FrameItem, FrameFault>
-        ensures exact { Answers result (item_of_summed self.start self.form self.wanted sequence id numbers.now) }
+        ensures exact { FrameAnswers result (item_of_summed self.start self.form self.wanted sequence id numbers.now) }
         ensures count { IfOk result (λ i. length i.nums ≤ 14) }
         ensures id { IfOk result (λ i. i.id ≤ 46) }
     {
@@ -111,7 +111,7 @@ impl FrameStart {
     /// The item of this id with these numbers, if they are as many as it has.
     fn with_numbers(self, id: u8, nums: Numerals) -> Result<FrameItem, FrameFault>
         requires { id ≤ 46 }
-        ensures exact { Answers result (with_numbers self.start self.form id (Ok nums)) }
+        ensures exact { FrameAnswers result (with_numbers self.start self.form id (Ok nums)) }
         ensures count { IfOk result (λ i. length i.nums ≤ 14) }
         ensures id { IfOk result (λ i. i.id ≤ 46) }
     {

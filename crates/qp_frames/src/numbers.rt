@@ -2,7 +2,7 @@
 
 ghost use Rattle.std.specs.Prelude.{◌≡◌, ◌≤◌, ◌<◌, ◌^◌};
 ghost use Rattle.qp_frames.specs.Faults.{Numbers};
-ghost use Rattle.qp_frames.specs.Parts.{GoesOn, fixed_part, group_part, is_whole, numbers_from, part_of, IsPart};
+ghost use Rattle.qp_frames.specs.Parts.{PartGoesOn, fixed_part, group_part, are_numbers_whole, numbers_from, part_of, IsPart};
 
 use crate::faults::NumberFault;
 use std::alloc::Global;
@@ -32,7 +32,7 @@ pub(crate) enum Part {
 
 /// Whether no number is cut off at the end of these bytes.
 pub(crate) fn is_whole(form: u8, bytes: &[u8]) -> bool
-    ensures { result ≡ is_whole form bytes.now }
+    ensures { result ≡ are_numbers_whole form bytes.now }
 {
     if form == 2 {
         bytes.is_empty() || bytes[bytes.len() - 1] < 128
@@ -73,7 +73,7 @@ pub(crate) fn read_numbers(alloc: Global, form: u8, bytes: &[u8]) -> Result<Nume
 fn part_of(form: u8, place: u32, value: u64, b: u8) -> Part
     requires { IsPart form place value }
     ensures value { result ≡ part_of form place value b }
-    ensures goes_on { GoesOn form place result }
+    ensures goes_on { PartGoesOn form place result }
 {
     if form == 2 {
         group_part(place, value, b)
@@ -87,7 +87,7 @@ fn fixed_part(place: u32, value: u64, b: u8) -> Part
     requires places { place ≤ 7 }
     requires small { value < 256 ^ place }
     ensures value { result ≡ fixed_part place value b }
-    ensures goes_on { GoesOn 1 place result }
+    ensures goes_on { PartGoesOn 1 place result }
 {
     let value = value + u64::from(b) * 256u64.pow(place);
     if place == 7 {
@@ -102,7 +102,7 @@ fn group_part(place: u32, value: u64, b: u8) -> Part
     requires places { place ≤ 9 }
     requires small { value < 128 ^ place }
     ensures value { result ≡ group_part place value b }
-    ensures goes_on { GoesOn 2 place result }
+    ensures goes_on { PartGoesOn 2 place result }
 {
     if place == 9 {
         return last_group(value, b);

@@ -11,7 +11,7 @@ use Rattle.qp_model.specs.declared.bodies.Body.{Body}
 use Rattle.qp_model.specs.declared.bodies.Body.TheVariants as body
 use Rattle.qp_model.specs.Told.{Told, ToldItem, plain}
 use Rattle.qp_model.specs.Knowing.{told_alone}
-use Rattle.qp_model.specs.Pieces.{Tell, Point, bare}
+use Rattle.qp_model.specs.Pieces.{Tell, Point, records_in}
 use Rattle.qp_model.specs.Ends.{is_assert, is_turn_mark, is_end}
 use Rattle.qp_model.specs.KernelLane.{Setting, Reading, lane_next}
 use Rattle.qp_model.specs.Points.{is_look, begins_row}
@@ -25,25 +25,25 @@ use Rattle.qp_kernel.specs.LaneZero.{told_pieces_at, told_pieces}
 use Rattle.qp_kernel.specs.ZeroEnds.{own_told}
 
 module _ (o : ℕ) (t : ToldItem) (ts : List ToldItem) where
-  mark-cons : (b : Bool) → is_turn_mark t.told.body ≡ b → bare (cond b [] (Tell t.told ∷ [])) ++ dispatched (own_told o ts) ≡ dispatched (t.told ∷ own_told o ts)
-  unfolding bare
+  mark-cons : (b : Bool) → is_turn_mark t.told.body ≡ b → records_in (cond b [] (Tell t.told ∷ [])) ++ dispatched (own_told o ts) ≡ dispatched (t.told ∷ own_told o ts)
+  unfolding records_in
   mark-cons true e = rw e refl
   mark-cons false e = rw e refl
 
-  one : (a c : Bool) → bare (cond a (cond (is_turn_mark t.told.body) [] (Tell t.told ∷ [])) (cond c (Point ∷ []) [])) ++ dispatched (own_told o ts)
+  one : (a c : Bool) → records_in (cond a (cond (is_turn_mark t.told.body) [] (Tell t.told ∷ [])) (cond c (Point ∷ []) [])) ++ dispatched (own_told o ts)
       ≡ dispatched (told_alone (cond a (t ∷ filter (λ x. x.of == o) ts) (filter (λ x. x.of == o) ts)))
-  unfolding bare
+  unfolding records_in
   one true c = mark-cons (is_turn_mark t.told.body) refl
   one false true = refl
   one false false = refl
 
 -- without points and marks of turns, the pieces of an object are its records
-pub bare-told : (s : Setting) (o : ℕ) (k : Reading) (ts : List ToldItem) → bare (told_pieces s o k ts) ≡ dispatched (own_told o ts)
-unfolding bare told_pieces told_pieces_at
+pub bare-told : (s : Setting) (o : ℕ) (k : Reading) (ts : List ToldItem) → records_in (told_pieces s o k ts) ≡ dispatched (own_told o ts)
+unfolding records_in told_pieces told_pieces_at
 bare-told s o k [] = refl
 bare-told s o k (t ∷ ts) =
     bare-append (told_pieces_at o k t) (told_pieces s o (unwrap_or (lane_next s k (untold t)) k) ts)
-    ∙ ap (λ x. bare (told_pieces_at o k t) ++ x) (bare-told s o (unwrap_or (lane_next s k (untold t)) k) ts)
+    ∙ ap (λ x. records_in (told_pieces_at o k t) ++ x) (bare-told s o (unwrap_or (lane_next s k (untold t)) k) ts)
     ∙ one o t ts (t.of == o) (begins_row o k.place k.running (is_look t.told.body))
 
 -- no mark of a turn is among them

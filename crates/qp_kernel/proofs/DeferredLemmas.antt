@@ -11,7 +11,7 @@ use Rattle.qp_model.specs.Knowing.{told_lane, records_of}
 use Rattle.qp_model.specs.Kernels.{sim, qk, port, qv}
 use Rattle.qp_model.specs.KernelLane.{unread}
 use Rattle.qp_model.specs.Home.{lane_at, home_of, by_object}
-use Rattle.qp_model.specs.Pieces.{Piece, bare}
+use Rattle.qp_model.specs.Pieces.{Piece, records_in}
 use Rattle.qp_model.specs.Sites.{object_at}
 use Rattle.qp_model.specs.Deferral.{kept_after}
 use Rattle.qp_model.specs.Course.{actor, first_config, chart_at}
@@ -32,7 +32,7 @@ use Rattle.qp_kernel.proofs.KeptLemmas.{course-kept}
 use Rattle.qp_kernel.proofs.ZeroLawful.{IsFound, all-found, all-zip}
 
 pub resting-kept : (sys : System) (d : ObjectDef) (chart : Chart) (es : List Entry) (ps : List Piece) (s : Stage) (c : Config) → s ≡ stage.Resting c
-    → ComesTo sys (actor d chart) (first_config d) es ps s → kept_after d.defer [] (bare ps) ≡ Some c.kept
+    → ComesTo sys (actor d chart) (first_config d) es ps s → kept_after d.defer [] (records_in ps) ≡ Some c.kept
 unfolding ComesTo Leaves
 resting-kept sys d chart es ps s c is h =
     let k : ComesTo sys (actor d chart) (first_config d) es ps (stage.Resting c) = subst (ComesTo sys (actor d chart) (first_config d) es ps) is h in

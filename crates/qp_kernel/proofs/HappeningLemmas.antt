@@ -15,7 +15,7 @@ use Rattle.qp_model.specs.Record.{Item}
 use Rattle.qp_model.specs.Told.{Told, plain}
 use Rattle.qp_model.specs.Kernels.{sim}
 use Rattle.qp_model.specs.Sources.{SourceRuns, AllDone, EndsIn}
-use Rattle.qp_model.specs.OneOrder.{Placed, Turn, stim_of, is_stim, begun, acted_last, all_empty, may_act, left_after, turned, acts_next, enters, leaves}
+use Rattle.qp_model.specs.OneOrder.{Placed, Turn, stim_of, is_stim, begun, acted_last, all_empty, may_act, stimuli_after, turned, acts_next, enters, leaves}
 use Rattle.qp_calls.specs.LaneView.{Happening}
 use Rattle.qp_model_order.specs.RunOrder.{placed}
 use Rattle.qp_model_order.specs.Placing.{all_placed, AreBehind, look_item}
@@ -306,7 +306,7 @@ empty-more sys xs y idle = go sys.objects
 
 pub acts-more : (sys : System) (stimuli : List (List Stim)) (xs : List Placed) (y : Placed) (base : Bool) → IsIdleRecord y
     → acts_next sys stimuli (xs ++ y ∷ []) base ≡ acts_next sys stimuli xs base
-unfolding acts_next left_after begun
+unfolding acts_next stimuli_after begun
 acts-more sys stimuli xs y base idle =
     rw (acted-more 0 xs y idle.stim, empty-more sys xs y idle, left-same (begun (xs ++ y ∷ [])) (begun xs) same (enumerate_from 1 stimuli))
     (turn-same (begun (xs ++ y ∷ [])) (begun xs) same

@@ -9,7 +9,7 @@ use Rattle.qp_model.specs.declared.bodies.Body.{Body}
 use Rattle.qp_model.specs.declared.bodies.Body.TheVariants as item
 use Rattle.qp_model.specs.Line.{is_front}
 use Rattle.qp_model.specs.Told.{Told}
-use Rattle.qp_model.specs.Pieces.{Piece, bare}
+use Rattle.qp_model.specs.Pieces.{Piece, records_in}
 use Rattle.qp_model.specs.Acts.{Config, Actor}
 use Rattle.qp_model.specs.Deferral.{keep, kept_after}
 use Rattle.qp_model.specs.Course.{Course}
@@ -50,9 +50,9 @@ kept-within room old new (t ∷ g) is few = by (keep room old t.body) refl is (�
     by (Some mid) k is go = go mid k is
 
 -- a course leaves the list that its records give
-pub course-kept : (sys : System) (a : Actor) (first d : Config) (es : List Entry) (ps : List Piece) → Course sys a first es ps (Some d) → kept_after a.room first.kept (bare ps) ≡ Some d.kept
+pub course-kept : (sys : System) (a : Actor) (first d : Config) (es : List Entry) (ps : List Piece) → Course sys a first es ps (Some d) → kept_after a.room first.kept (records_in ps) ≡ Some d.kept
 unfolding Kept
 course-kept sys a first d es ps h = course-keeps sys a first es ps (Some d) h
 
 pub course-within : (sys : System) (a : Actor) (first d : Config) (es : List Entry) (ps : List Piece) → length first.kept ≤ a.room → Course sys a first es ps (Some d) → length d.kept ≤ a.room
-course-within sys a first d es ps few h = kept-within a.room first.kept d.kept (bare ps) (course-kept sys a first d es ps h) few
+course-within sys a first d es ps few h = kept-within a.room first.kept d.kept (records_in ps) (course-kept sys a first d es ps h) few

@@ -16,7 +16,7 @@ use Rattle.qp_model.specs.Sites.{object_at}
 use Rattle.qp_model.specs.Ends.{is_end, may_cut}
 use Rattle.qp_model.specs.Course.{actor, first_config, chart_at, Starts}
 use Rattle.qp_model.specs.Standing.{Advances}
-use Rattle.qp_model.specs.Step.{Remainder, GoesOn}
+use Rattle.qp_model.specs.Step.{Remainder, StepGoesOn}
 use Rattle.qp_model.specs.Acts.{Config}
 use Rattle.qp_model.proofs.StepLemmas.{goes_on-completes}
 use Rattle.qp_model.proofs.KernelRowLemmas.{IsWithin}
@@ -57,14 +57,14 @@ module _ (sys : System) (kernel budget : ℕ) (told : List ToldItem) (now : ℕ 
   turn-point outer g ev e left later c d at within goes ready =
       let rest = goes_on-completes sys (actor o chart) ev e later d ready.able ready.room in
       let inside = point-inner sys (actor o chart) ev e left c (left-closes ev e left c within) g rest.0 rest.1
-      (subst (λ x. GoesOn sys (actor o chart) ev e left c x rest.1) (append_assoc (tell g) (Point ∷ []) rest.0) (goes rest.0 rest.1 rest.2)) in
+      (subst (λ x. StepGoesOn sys (actor o chart) ev e left c x rest.1) (append_assoc (tell g) (Point ∷ []) rest.0) (goes rest.0 rest.1 rest.2)) in
       zero-point sys kernel budget told now upto k stages entries old numbered p some outer g ev e left later c d at (inner-own g inside) (inner-calm g inside) within
       (λ f other same there its.
       only sys p o f chart other (λ x y. Advances sys (actor x y) ev e left c (tell g ++ Point ∷ []) later d × IsReady sys (actor x y) later d) is same there its (goes, ready))
 
   -- `resume` answers Done.
   pub turn-done : (outer : List ℕ) (g : List Told) (ev : Event) (e : Entry) (left : Remainder) (c d : Config) → IsWithin k p outer → IsWithinStep (stages p) ev e left c
-      → GoesOn sys (actor o chart) ev e left c (tell g) (Some d)
+      → StepGoesOn sys (actor o chart) ev e left c (tell g) (Some d)
       → (level : ℕ) × LaneZero sys kernel budget (told ++ map (for_object p) g) now upto (record k { ceiling = level; running = outer; place = Ended p }) 0
       (moved stages p (stage.Resting d)) (having entries p (entries p))
   turn-done outer g ev e left c d at within goes =
@@ -74,8 +74,8 @@ module _ (sys : System) (kernel budget : ℕ) (told : List ToldItem) (now : ℕ 
             (sym form.whole)
             (zero-done sys kernel budget told now upto k stages entries old numbered p some outer form.front form.rel ev e left c d at form.own form.drops form.calm within
             (λ f other same there its.
-            only sys p o f chart other (λ x y. GoesOn sys (actor x y) ev e left c (tell (form.front ++ plain body.Done ∷ form.rel)) (Some d)) is same there its
-            (subst (λ x. GoesOn sys (actor o chart) ev e left c (tell x) (Some d)) form.whole goes))),
+            only sys p o f chart other (λ x y. StepGoesOn sys (actor x y) ev e left c (tell (form.front ++ plain body.Done ∷ form.rel)) (Some d)) is same there its
+            (subst (λ x. StepGoesOn sys (actor o chart) ev e left c (tell x) (Some d)) form.whole goes))),
       )
 
   -- `start` answers Done.
@@ -98,11 +98,11 @@ module _ (sys : System) (kernel budget : ℕ) (told : List ToldItem) (now : ℕ 
       (wait : (d : ObjectDef) → object_at sys d.priority ≡ Some d → (p == d.priority) ≡ false → may_wait (stages d.priority) ≡ true) where
     -- `resume` answers Stopped by an assertion.
     pub turn-failed : (outer : List ℕ) (g : List Told) (ev : Event) (e : Entry) (left : Remainder) (c : Config) → IsWithin k p outer → IsWithinStep (stages p) ev e left c
-        → GoesOn sys (actor o chart) ev e left c (tell g) None → ZeroEnds sys kernel budget end (most_rows kernel k.idle) (told ++ map (for_object p) g) has
+        → StepGoesOn sys (actor o chart) ev e left c (tell g) None → ZeroEnds sys kernel budget end (most_rows kernel k.idle) (told ++ map (for_object p) g) has
     turn-failed outer g ev e left c at within goes =
         let form = failed-form sys (actor o chart) ev e left c (left-closes ev e left c within) p g goes in
         zero-failed sys kernel budget told now has upto k 0 stages entries old agree end p outer g ev e left c early refl at form.own form.ends within numbered able
-        (λ f other same there its. only sys p o f chart other (λ x y. GoesOn sys (actor x y) ev e left c (tell g) None) is same there its goes) wait
+        (λ f other same there its. only sys p o f chart other (λ x y. StepGoesOn sys (actor x y) ev e left c (tell g) None) is same there its goes) wait
 
     -- `start` answers Stopped by an assertion.
     pub turn-failed_start : (others : List ℕ) (g : List Told) → k.unstarted ≡ p ∷ others → stages p ≡ stage.Unstarted
@@ -116,14 +116,14 @@ module _ (sys : System) (kernel budget : ℕ) (told : List ToldItem) (now : ℕ 
     pub turn-spilled : (outer : List ℕ) (g : List Told) (n : ℕ) (ev : Event) (e : Entry) (left : Remainder) (c : Config) (qs : List Piece) (last : Option Config) → IsWithin k p outer → IsWithinStep (stages p) ev e left c
         → list_any (λ t. is_end t.body) g ≡ false → n ≡ length told + length g → 999992 < n
         → spill_cuts p (map untold (told ++ (map (for_object p) g ++ for_object 0 (plain (body.Spill n)) ∷ []))) ≡ true
-        → GoesOn sys (actor o chart) ev e left c (tell g ++ qs) last
+        → StepGoesOn sys (actor o chart) ev e left c (tell g ++ qs) last
         → ZeroEnds sys kernel budget end (most_rows kernel k.idle) (told ++ (map (for_object p) g ++ for_object 0 (plain (body.Spill n)) ∷ [])) has
     turn-spilled outer g n ev e left c qs last at within calm count many cuts goes =
         by (cut-form sys (actor o chart) ev e left c (left-closes ev e left c within) g qs last calm goes)
       where
-        all : (h : List Told) → GoesOn sys (actor o chart) ev e left c (tell h ++ qs) last → (f : ObjectDef) (other : Chart) → f.priority ≡ p → object_at sys f.priority ≡ Some f → chart_at sys f.chart ≡ Some other
-            → (zs : List Piece) × (mid : Option Config) × GoesOn sys (actor f other) ev e left c (tell h ++ zs) mid
-        all h on f other same there its = only sys p o f chart other (λ x y. (zs : List Piece) × (mid : Option Config) × GoesOn sys (actor x y) ev e left c (tell h ++ zs) mid) is same there its (qs, last, on)
+        all : (h : List Told) → StepGoesOn sys (actor o chart) ev e left c (tell h ++ qs) last → (f : ObjectDef) (other : Chart) → f.priority ≡ p → object_at sys f.priority ≡ Some f → chart_at sys f.chart ≡ Some other
+            → (zs : List Piece) × (mid : Option Config) × StepGoesOn sys (actor f other) ev e left c (tell h ++ zs) mid
+        all h on f other same there its = only sys p o f chart other (λ x y. (zs : List Piece) × (mid : Option Config) × StepGoesOn sys (actor x y) ev e left c (tell h ++ zs) mid) is same there its (qs, last, on)
 
         by : CutForm g → ZeroEnds sys kernel budget end (most_rows kernel k.idle) (told ++ (map (for_object p) g ++ for_object 0 (plain (body.Spill n)) ∷ [])) has
         by (WithinIt own) =
@@ -133,7 +133,7 @@ module _ (sys : System) (kernel budget : ℕ) (told : List ToldItem) (now : ℕ 
             (zero-spilled_done sys kernel budget told now has upto k 0 stages entries old agree end n p outer front rel ev e left c early refl at own drops
             (subst (λ x. list_any (λ t. is_end t.body) x ≡ false) whole calm) (subst (λ x. n ≡ length told + length x) whole count) many
             (subst (λ x. spill_cuts p (map untold (told ++ (map (for_object p) x ++ for_object 0 (plain (body.Spill n)) ∷ []))) ≡ true) whole cuts) within numbered able
-            (all (front ++ plain body.Done ∷ rel) (subst (λ x. GoesOn sys (actor o chart) ev e left c (tell x ++ qs) last) whole goes)) wait)
+            (all (front ++ plain body.Done ∷ rel) (subst (λ x. StepGoesOn sys (actor o chart) ev e left c (tell x ++ qs) last) whole goes)) wait)
 
     -- `start` answers Stopped by a `spill`.
     pub turn-spilled_start : (others : List ℕ) (g : List Told) (n : ℕ) (qs : List Piece) (last : Option Config) → k.unstarted ≡ p ∷ others → stages p ≡ stage.Unstarted

@@ -21,7 +21,7 @@ use Rattle.qp_model.specs.OneOrder.{looks_right, IsOneOrder}
 use Rattle.qp_model.specs.Places.{in_order}
 use Rattle.qp_model.specs.Lawful.{facts_of, lanes_before, KernelHolds, SourceLanes, SpillStands, SpillsStand, one_thread, OrderHolds, SourcesHold, EndHolds, Lawful}
 use Rattle.qp_model.proofs.TakenLemmas.{drop-head}
-use Rattle.qp_model_order.specs.RunOrder.{items_of}
+use Rattle.qp_model_order.specs.RunOrder.{items_ordered}
 use Rattle.qp_model_order.specs.SourceRun.{untold, cut_at, SourceEnds}
 use Rattle.qp_kernel.specs.Run.{SourcesEnd, IsRun}
 use Rattle.qp_kernel.proofs.AlikeKernels.{one-order_kernel, one-order_no-port, runs-alike}
@@ -116,8 +116,8 @@ module _ (sys : System) (stimuli : List (List Stim)) (j : Journal) (run : IsRun 
       record {
         placed = run.order.stand;
         turns = ap (looks_right (one_thread sys stimuli j run.cuts) []) merged ∙ run.order.turns;
-        numbers = ap (λ xs. in_order [] (items_of xs)) merged ∙ run.numbers;
-        ends = ap (λ xs. ends_last (items_of xs)) merged ∙ run.order.ends;
+        numbers = ap (λ xs. in_order [] (items_ordered xs)) merged ∙ run.numbers;
+        ends = ap (λ xs. ends_last (items_ordered xs)) merged ∙ run.order.ends;
         free = run.order.free;
       }
 

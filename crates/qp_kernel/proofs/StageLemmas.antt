@@ -3,11 +3,11 @@ use Rattle.std.proofs.Common.{◌≡◌, ℕ, ◌≤◌, true, List, [], ◌∷�
 use Rattle.std.specs.List.{list_all}
 use Rattle.qp_model.specs.declared.systems.System.{System}
 use Rattle.qp_model.specs.declared.bodies.Entry.{Entry}
-use Rattle.qp_model.specs.Told.{Told, Event, taken}
+use Rattle.qp_model.specs.Told.{Told, Event, told_took}
 use Rattle.qp_model.specs.Pieces.{Piece, Tell, Point, tell}
 use Rattle.qp_model.specs.Acts.{Actor, Config}
 use Rattle.qp_model.specs.Able.{task_able, chart_able}
-use Rattle.qp_model.specs.Step.{Remainder, GoesOn, whole_step}
+use Rattle.qp_model.specs.Step.{Remainder, StepGoesOn, whole_step}
 use Rattle.qp_model.specs.Course.{Starts}
 use Rattle.qp_model.specs.Standing.{Between, Within, Leaves, Advances}
 use Rattle.qp_model.proofs.CourseLemmas.{leaves-on, leaves-took, leaves-done, course-start}
@@ -26,10 +26,10 @@ module _ (sys : System) (a : Actor) (first : Config) (es : List Entry) (ps : Lis
 
   -- it takes an entry up
   pub comes-took : (c : Config) (f l m : ℕ) (e : Entry) (ev : Event) (left : Remainder) → left ≡ whole_step a c ev → chart_able sys a.chart ≡ true
-      → ComesTo sys a first es ps (stage.Resting c) → ComesTo sys a first (es ++ e ∷ []) (ps ++ Tell (taken f l m e ev) ∷ []) (stage.Begun ev e left c)
+      → ComesTo sys a first es ps (stage.Resting c) → ComesTo sys a first (es ++ e ∷ []) (ps ++ Tell (told_took f l m e ev) ∷ []) (stage.Begun ev e left c)
   unfolding ComesTo
   comes-took c f l m e ev left plan able h = (
-    subst (λ x. Leaves sys a first (es ++ e ∷ []) (ps ++ Tell (taken f l m e ev) ∷ []) (Within ev e x c)) (sym plan) (leaves-took sys a first es ps c f l m e ev h.0),
+    subst (λ x. Leaves sys a first (es ++ e ∷ []) (ps ++ Tell (told_took f l m e ev) ∷ []) (Within ev e x c)) (sym plan) (leaves-took sys a first es ps c f l m e ev h.0),
     record {
       able = subst (λ x. list_all (task_able sys true) x.tasks ≡ true) (sym plan) (whole-ready sys a c ev able).0;
       closing = subst (λ x. closes x.tasks ≡ true) (sym plan) (whole-ready sys a c ev able).1;
@@ -51,7 +51,7 @@ module _ (sys : System) (a : Actor) (first : Config) (es : List Entry) (ps : Lis
 
   -- its step runs to completion
   pub comes-done : (s : Stage) (ev : Event) (e : Entry) (left : Remainder) (c d : Config) (g : List Told) → IsWithinStep s ev e left c
-      → GoesOn sys a ev e left c (tell g) (Some d) → length first.kept ≤ a.room
+      → StepGoesOn sys a ev e left c (tell g) (Some d) → length first.kept ≤ a.room
       → ComesTo sys a first es ps s → ComesTo sys a first es (ps ++ (tell g ++ [])) (stage.Resting d)
   unfolding ComesTo
   comes-done s ev e left c d g within goes room h =

@@ -14,9 +14,9 @@ use Rattle.qp_model.specs.Told.{Told, Event, plain, for_object}
 use Rattle.qp_model.specs.Calls.{Granted, AtQueue}
 use Rattle.qp_model.specs.Sites.{ring_of}
 use Rattle.qp_model.specs.Shapes.{Drops, Releases, releases_by, MakesAgain, again_by, Posts, PostsOne, PublishesLast, restoring}
-use Rattle.qp_model.specs.Pieces.{Piece, Tell, Point, bare, tell}
+use Rattle.qp_model.specs.Pieces.{Piece, Tell, Point, records_in, tell}
 use Rattle.qp_model.specs.Acts.{Config, Actor, Moment, Does}
-use Rattle.qp_model.specs.Step.{Publishing, GoesOnPublishing, Remainder, DoesLeft, GoesOn, Closes, at_leaf, moment}
+use Rattle.qp_model.specs.Step.{Publishing, GoesOnPublishing, Remainder, DoesLeft, StepGoesOn, Closes, at_leaf, moment}
 use Rattle.qp_model.specs.Course.{Starts, at_start}
 use Rattle.qp_model.specs.KernelLane.{role_of}
 use Rattle.qp_model.specs.Ends.{is_turn_mark, is_end, is_assert, ends_last}
@@ -147,10 +147,10 @@ tell-front (t ∷ g) (r ∷ rel) qs e =
 
 -- the front of what a step leaves is of its inside, or it has the step's last record, and the front of the release
 pub FrontForm : List Told → List Piece → Told → List Told → Type 0
-FrontForm g front t rel = AreInner (tell g) ⊎ ((done more : List Told) × (g ≡ bare front ++ t ∷ done) × (rel ≡ done ++ more))
+FrontForm g front t rel = AreInner (tell g) ⊎ ((done more : List Told) × (g ≡ records_in front ++ t ∷ done) × (rel ≡ done ++ more))
 
 pub front-form : (g : List Told) (front : List Piece) (t : Told) (rel : List Told) (qs : List Piece) → tell g ++ qs ≡ front ++ Tell t ∷ tell rel → AreInner front → FrontForm g front t rel
-unfolding FrontForm bare
+unfolding FrontForm records_in
 front-form [] front t rel qs e inside = inl tt
 front-form (x ∷ g) [] t rel qs e inside =
     let head : x ≡ t = cc in
@@ -165,7 +165,7 @@ front-form (x ∷ g) (f ∷ front) t rel qs e inside =
   where
     by : f ≡ Tell x → IsInner x.body → FrontForm g front t rel → FrontForm (x ∷ g) (f ∷ front) t rel
     by head own (inl i) = inl (own, i)
-    by head own (inr k) = inr (k.0, k.1, ap (λ y. x ∷ y) k.2 ∙ ap (λ y. bare (y ∷ front) ++ t ∷ k.0) (sym head), k.3)
+    by head own (inr k) = inr (k.0, k.1, ap (λ y. x ∷ y) k.2 ∙ ap (λ y. records_in (y ∷ front) ++ t ∷ k.0) (sym head), k.3)
 
 -- nothing stands behind a list that is all
 no-more : (ps qs : List Piece) → ps ++ qs ≡ ps → qs ≡ []
@@ -201,8 +201,8 @@ pub inner-unstim : (g : List Told) → AreInner (tell g) → list_any (λ t. is_
 inner-unstim [] h = refl
 inner-unstim (t ∷ ts) h = rw (h.0.unstim, inner-unstim ts h.1) refl
 
-inner-bare : (ps : List Piece) → AreInner ps → AreInner (tell (bare ps))
-unfolding bare
+inner-bare : (ps : List Piece) → AreInner ps → AreInner (tell (records_in ps))
+unfolding records_in
 inner-bare [] h = tt
 inner-bare (Tell t ∷ ps) h = (h.0, inner-bare ps h.1)
 inner-bare (Point ∷ ps) h = inner-bare ps h
@@ -269,14 +269,14 @@ failed-by p g front t whole asserts inside =
     subst (FailedForm p) (sym whole)
     (record { own = own-last front t (inner-own front inside) is.0 is.1; ends = last-ends p front t (inner-calm front inside); asserts = last-asserts p front t asserts })
 
-bare-form : (g rel : List Told) (front : List Piece) (t : Told) → tell g ≡ front ++ Tell t ∷ tell rel → g ≡ bare front ++ t ∷ rel
-unfolding bare
-bare-form g rel front t e = sym (bare-tell g) ∙ ap bare e ∙ bare-append front (Tell t ∷ tell rel) ∙ ap (λ x. bare front ++ t ∷ x) (bare-tell rel)
+bare-form : (g rel : List Told) (front : List Piece) (t : Told) → tell g ≡ front ++ Tell t ∷ tell rel → g ≡ records_in front ++ t ∷ rel
+unfolding records_in
+bare-form g rel front t e = sym (bare-tell g) ∙ ap records_in e ∙ bare-append front (Tell t ∷ tell rel) ∙ ap (λ x. records_in front ++ t ∷ x) (bare-tell rel)
 
-bare-whole : (g rel : List Told) (front : List Piece) (t : Told) (qs : List Piece) → tell g ++ qs ≡ front ++ Tell t ∷ tell rel → g ++ bare qs ≡ bare front ++ t ∷ rel
-unfolding bare
+bare-whole : (g rel : List Told) (front : List Piece) (t : Told) (qs : List Piece) → tell g ++ qs ≡ front ++ Tell t ∷ tell rel → g ++ records_in qs ≡ records_in front ++ t ∷ rel
+unfolding records_in
 bare-whole g rel front t qs e =
-    ap (λ x. x ++ bare qs) (sym (bare-tell g)) ∙ sym (bare-append (tell g) qs) ∙ ap bare e ∙ bare-append front (Tell t ∷ tell rel) ∙ ap (λ x. bare front ++ t ∷ x) (bare-tell rel)
+    ap (λ x. x ++ records_in qs) (sym (bare-tell g)) ∙ sym (bare-append (tell g) qs) ∙ ap records_in e ∙ bare-append front (Tell t ∷ tell rel) ∙ ap (λ x. records_in front ++ t ∷ x) (bare-tell rel)
 
 no-told : (xs ys : List Told) → xs ++ ys ≡ xs → ys ≡ []
 no-told [] ys e = e
@@ -306,18 +306,18 @@ some-leaf leaf d e = absurd (cc)
 module _ (sys : System) (a : Actor) where
   module _ (ev : Event) (e : Entry) (left : Remainder) (c : Config) (closing : closes left.tasks ≡ true) where
     -- up to a scheduling point
-    pub point-inner : (g : List Told) (qs : List Piece) (end : Option Config) → GoesOn sys a ev e left c (tell g ++ Point ∷ qs) end → AreInner (tell g)
-    unfolding GoesOn
+    pub point-inner : (g : List Told) (qs : List Piece) (end : Option Config) → StepGoesOn sys a ev e left c (tell g ++ Point ∷ qs) end → AreInner (tell g)
+    unfolding StepGoesOn
     point-inner g qs end h =
         let form = left-form sys a (moment ev e) left.publishing left.posts left.tasks c h.0 h.2 closing h.3 in
         cut-inner g form.front form.last h.1 qs (h.5 ∙ ap (λ x. x ++ tell h.1) form.whole ∙ append_assoc form.front (Tell form.last ∷ []) (tell h.1)) form.inner
 
     -- up to where it is cut
-    pub cut-form : (g : List Told) (qs : List Piece) (end : Option Config) → list_any (λ t. is_end t.body) g ≡ false → GoesOn sys a ev e left c (tell g ++ qs) end → CutForm g
-    unfolding GoesOn Closes FrontForm
+    pub cut-form : (g : List Told) (qs : List Piece) (end : Option Config) → list_any (λ t. is_end t.body) g ≡ false → StepGoesOn sys a ev e left c (tell g ++ qs) end → CutForm g
+    unfolding StepGoesOn Closes FrontForm
     cut-form g qs end calm h =
         let form = left-form sys a (moment ev e) left.publishing left.posts left.tasks c h.0 h.2 closing h.3 in
-        by (bare form.front) form.last h.2 h.4 form.which (inner-bare form.front form.inner)
+        by (records_in form.front) form.last h.2 h.4 form.which (inner-bare form.front form.inner)
         (front-form g form.front form.last h.1 qs (h.5 ∙ ap (λ x. x ++ tell h.1) form.whole ∙ append_assoc form.front (Tell form.last ∷ []) (tell h.1)) form.inner)
       where
         by : (front : List Told) (last : Told) (mid : Option Config) → Closes e mid h.1
@@ -333,16 +333,16 @@ module _ (sys : System) (a : Actor) where
             BehindIt front k.0 (k.2 ∙ ap (λ x. front ++ x ∷ k.0) is.0) (inner-own front inside) (drops-front k.0 k.1 (subst AreDrops k.3 (drops-are e h.1 closed).0))
 
     -- what is cut before the whole of a step that asserts has no end of a lane
-    pub cut-calm : (g : List Told) (qs : List Piece) (end : Option Config) → (end ≡ None → bare qs ≡ [] → ⊥) → GoesOn sys a ev e left c (tell g ++ qs) end → list_any (λ t. is_end t.body) g ≡ false
-    unfolding GoesOn Closes FrontForm
+    pub cut-calm : (g : List Told) (qs : List Piece) (end : Option Config) → (end ≡ None → records_in qs ≡ [] → ⊥) → StepGoesOn sys a ev e left c (tell g ++ qs) end → list_any (λ t. is_end t.body) g ≡ false
+    unfolding StepGoesOn Closes FrontForm
     cut-calm g qs end more h =
         let form = left-form sys a (moment ev e) left.publishing left.posts left.tasks c h.0 h.2 closing h.3 in
         let whole : tell g ++ qs ≡ form.front ++ Tell form.last ∷ tell h.1 = h.5 ∙ ap (λ x. x ++ tell h.1) form.whole ∙ append_assoc form.front (Tell form.last ∷ []) (tell h.1) in
-        by (bare form.front) form.last h.2 h.4 h.6 form.which (inner-bare form.front form.inner) (bare-whole g h.1 form.front form.last qs whole) (front-form g form.front form.last h.1 qs whole form.inner)
+        by (records_in form.front) form.last h.2 h.4 h.6 form.which (inner-bare form.front form.inner) (bare-whole g h.1 form.front form.last qs whole) (front-form g form.front form.last h.1 qs whole form.inner)
       where
         by : (front : List Told) (last : Told) (mid : Option Config) → Closes e mid h.1 → end ≡ at_leaf left.leaf mid
             → ((last ≡ plain item.Done) × ((f : Config) × (mid ≡ Some f))) ⊎ ((is_assert last.body ≡ true) × (mid ≡ None)) → AreInner (tell front)
-            → g ++ bare qs ≡ front ++ last ∷ h.1
+            → g ++ records_in qs ≡ front ++ last ∷ h.1
             → (AreInner (tell g)) ⊎ ((done more : List Told) × (g ≡ front ++ last ∷ done) × (h.1 ≡ done ++ more)) → list_any (λ t. is_end t.body) g ≡ false
         by front last mid closed ends which inside all (inl i) = inner-calm g i
         by front last None closed ends (inl is) inside all (inr k) = let no : None ≡ Some is.1.0 = is.1.1 in absurd (cc)
@@ -350,18 +350,18 @@ module _ (sys : System) (a : Actor) where
         by front last None closed ends (inr is) inside all (inr k) =
             let short : k.0 ≡ [] = nil-front k.0 k.1 (sym k.3 ∙ closed) in
             let same : g ≡ front ++ last ∷ [] = k.2 ∙ ap (λ x. front ++ last ∷ x) short in
-            let rest : bare qs ≡ [] = no-told g (bare qs) (all ∙ ap (λ x. front ++ last ∷ x) closed ∙ sym same) in
+            let rest : records_in qs ≡ [] = no-told g (records_in qs) (all ∙ ap (λ x. front ++ last ∷ x) closed ∙ sym same) in
             absurd (more ends rest)
         by front last (Some f) closed ends (inl is) inside all (inr k) =
             subst (λ x. list_any (λ t. is_end t.body) x ≡ false) (sym (k.2 ∙ ap (λ x. front ++ x ∷ k.0) is.0))
             (done-calm front k.0 (inner-calm front inside) (drops-calm k.0 (drops-front k.0 k.1 (subst AreDrops k.3 (drops-are e h.1 closed).0))))
 
     -- to its end
-    pub done-form : (g : List Told) (d : Config) → GoesOn sys a ev e left c (tell g) (Some d) → DoneForm g
-    unfolding GoesOn Closes
+    pub done-form : (g : List Told) (d : Config) → StepGoesOn sys a ev e left c (tell g) (Some d) → DoneForm g
+    unfolding StepGoesOn Closes
     done-form g d h =
         let form = left-form sys a (moment ev e) left.publishing left.posts left.tasks c h.0 h.2 closing h.3 in
-        by (bare form.front) form.last h.2 h.4 h.6 form.which (bare-form g h.1 form.front form.last (h.5 ∙ ap (λ x. x ++ tell h.1) form.whole ∙ append_assoc form.front (Tell form.last ∷ []) (tell h.1))) (inner-bare form.front form.inner)
+        by (records_in form.front) form.last h.2 h.4 h.6 form.which (bare-form g h.1 form.front form.last (h.5 ∙ ap (λ x. x ++ tell h.1) form.whole ∙ append_assoc form.front (Tell form.last ∷ []) (tell h.1))) (inner-bare form.front form.inner)
       where
         by : (front : List Told) (last : Told) (mid : Option Config) → Closes e mid h.1 → Some d ≡ at_leaf left.leaf mid
             → ((last ≡ plain item.Done) × ((f : Config) × (mid ≡ Some f))) ⊎ ((is_assert last.body ≡ true) × (mid ≡ None))
@@ -379,11 +379,11 @@ module _ (sys : System) (a : Actor) where
         }
 
     -- to its assertion
-    pub failed-form : (p : ℕ) (g : List Told) → GoesOn sys a ev e left c (tell g) None → FailedForm p g
-    unfolding GoesOn Closes
+    pub failed-form : (p : ℕ) (g : List Told) → StepGoesOn sys a ev e left c (tell g) None → FailedForm p g
+    unfolding StepGoesOn Closes
     failed-form p g h =
         let form = left-form sys a (moment ev e) left.publishing left.posts left.tasks c h.0 h.2 closing h.3 in
-        by (bare form.front) form.last h.2 h.4 h.6 form.which (bare-form g h.1 form.front form.last (h.5 ∙ ap (λ x. x ++ tell h.1) form.whole ∙ append_assoc form.front (Tell form.last ∷ []) (tell h.1))) (inner-bare form.front form.inner)
+        by (records_in form.front) form.last h.2 h.4 h.6 form.which (bare-form g h.1 form.front form.last (h.5 ∙ ap (λ x. x ++ tell h.1) form.whole ∙ append_assoc form.front (Tell form.last ∷ []) (tell h.1))) (inner-bare form.front form.inner)
       where
         by : (front : List Told) (last : Told) (mid : Option Config) → Closes e mid h.1 → None ≡ at_leaf left.leaf mid
             → ((last ≡ plain item.Done) × ((f : Config) × (mid ≡ Some f))) ⊎ ((is_assert last.body ≡ true) × (mid ≡ None))
@@ -394,11 +394,11 @@ module _ (sys : System) (a : Actor) where
 
   -- a start to its end
   pub start-form : (first : Config) (g : List Told) (d : Config) → Starts sys a first (tell g) (Some d) → StartForm g
-  unfolding Starts bare
+  unfolding Starts records_in
   start-form first g d h =
       let form = does-form sys a at_start (start_plan a.chart).tasks first h.0 h.1 (start-closes a.chart) h.2 in
-      let whole : g ≡ bare form.front ++ form.last ∷ [] = sym (bare-tell g) ∙ ap bare h.3 ∙ bare-tell (bare h.0) ∙ ap bare form.whole ∙ bare-append form.front (Tell form.last ∷ []) in
-      by (bare form.front) form.last h.1 h.4 form.which whole (inner-bare form.front form.inner)
+      let whole : g ≡ records_in form.front ++ form.last ∷ [] = sym (bare-tell g) ∙ ap records_in h.3 ∙ bare-tell (records_in h.0) ∙ ap records_in form.whole ∙ bare-append form.front (Tell form.last ∷ []) in
+      by (records_in form.front) form.last h.1 h.4 form.which whole (inner-bare form.front form.inner)
     where
       by : (front : List Told) (last : Told) (mid : Option Config) → Some d ≡ at_leaf (start_plan a.chart).leaf mid
           → ((last ≡ plain item.Done) × ((f : Config) × (mid ≡ Some f))) ⊎ ((is_assert last.body ≡ true) × (mid ≡ None))
@@ -415,11 +415,11 @@ module _ (sys : System) (a : Actor) where
 
   -- a start to its assertion
   pub start-failed : (p : ℕ) (first : Config) (g : List Told) → Starts sys a first (tell g) None → FailedForm p g
-  unfolding Starts bare
+  unfolding Starts records_in
   start-failed p first g h =
       let form = does-form sys a at_start (start_plan a.chart).tasks first h.0 h.1 (start-closes a.chart) h.2 in
-      let whole : g ≡ bare form.front ++ form.last ∷ [] = sym (bare-tell g) ∙ ap bare h.3 ∙ bare-tell (bare h.0) ∙ ap bare form.whole ∙ bare-append form.front (Tell form.last ∷ []) in
-      by (bare form.front) form.last h.1 h.4 form.which whole (inner-bare form.front form.inner)
+      let whole : g ≡ records_in form.front ++ form.last ∷ [] = sym (bare-tell g) ∙ ap records_in h.3 ∙ bare-tell (records_in h.0) ∙ ap records_in form.whole ∙ bare-append form.front (Tell form.last ∷ []) in
+      by (records_in form.front) form.last h.1 h.4 form.which whole (inner-bare form.front form.inner)
     where
       by : (front : List Told) (last : Told) (mid : Option Config) → None ≡ at_leaf (start_plan a.chart).leaf mid
           → ((last ≡ plain item.Done) × ((f : Config) × (mid ≡ Some f))) ⊎ ((is_assert last.body ≡ true) × (mid ≡ None))
@@ -430,19 +430,19 @@ module _ (sys : System) (a : Actor) where
 
   -- a start up to where it is cut, with something left
   pub start-cut : (first : Config) (g : List Told) (qs : List Piece) (end : Option Config) → qs ≢ [] → list_any (λ t. is_end t.body) g ≡ false → Starts sys a first (tell g ++ qs) end → AreOwn g
-  unfolding Starts bare FrontForm
+  unfolding Starts records_in FrontForm
   start-cut first g qs end some calm h =
       let form = does-form sys a at_start (start_plan a.chart).tasks first h.0 h.1 (start-closes a.chart) h.2 in
       let inside = inner-bare form.front form.inner in
-      let whole : tell g ++ qs ≡ tell (bare form.front) ++ Tell form.last ∷ tell [] =
-      h.3 ∙ ap tell (ap bare form.whole ∙ bare-append form.front (Tell form.last ∷ [])) ∙ tell-append (bare form.front) (form.last ∷ []) in
-      by form.front form.last whole (front-form g (tell (bare form.front)) form.last [] qs whole inside)
+      let whole : tell g ++ qs ≡ tell (records_in form.front) ++ Tell form.last ∷ tell [] =
+      h.3 ∙ ap tell (ap records_in form.whole ∙ bare-append form.front (Tell form.last ∷ [])) ∙ tell-append (records_in form.front) (form.last ∷ []) in
+      by form.front form.last whole (front-form g (tell (records_in form.front)) form.last [] qs whole inside)
     where
-      by : (front : List Piece) (last : Told) → tell g ++ qs ≡ tell (bare front) ++ Tell last ∷ []
-          → (AreInner (tell g)) ⊎ ((done more : List Told) × (g ≡ bare (tell (bare front)) ++ last ∷ done) × ([] ≡ done ++ more)) → AreOwn g
+      by : (front : List Piece) (last : Told) → tell g ++ qs ≡ tell (records_in front) ++ Tell last ∷ []
+          → (AreInner (tell g)) ⊎ ((done more : List Told) × (g ≡ records_in (tell (records_in front)) ++ last ∷ done) × ([] ≡ done ++ more)) → AreOwn g
       by front last whole (inl i) = inner-own g i
       by front last whole (inr k) =
           let none : k.0 ≡ [] = nil-front k.0 k.1 (sym k.3) in
-          let same : g ≡ bare front ++ last ∷ [] = k.2 ∙ ap (λ x. x ++ last ∷ k.0) (bare-tell (bare front)) ∙ ap (λ x. bare front ++ last ∷ x) none in
-          let pieces : tell g ++ qs ≡ tell g = whole ∙ sym (ap tell same ∙ tell-append (bare front) (last ∷ [])) in
+          let same : g ≡ records_in front ++ last ∷ [] = k.2 ∙ ap (λ x. x ++ last ∷ k.0) (bare-tell (records_in front)) ∙ ap (λ x. records_in front ++ last ∷ x) none in
+          let pieces : tell g ++ qs ≡ tell g = whole ∙ sym (ap tell same ∙ tell-append (records_in front) (last ∷ [])) in
           absurd (some (no-more (tell g) qs pieces))

@@ -8,7 +8,7 @@ use Rattle.qp_model.specs.Told.{Event}
 use Rattle.qp_model.specs.Pieces.{Piece, Point}
 use Rattle.qp_model.specs.Acts.{Config}
 use Rattle.qp_model.specs.Able.{chart_able}
-use Rattle.qp_model.specs.Step.{Remainder, GoesOn}
+use Rattle.qp_model.specs.Step.{Remainder, StepGoesOn}
 use Rattle.qp_model.specs.Course.{Starts, Course, Whole, Stopped, Anywhere, FollowsTo, actor, first_config, chart_at}
 use Rattle.qp_model.specs.Standing.{Within, Leaves}
 use Rattle.qp_model.proofs.AbleLemmas.{start-able}
@@ -59,7 +59,7 @@ module _ (sys : System) (d : ObjectDef) (chart : Chart) (is : chart_at sys d.cha
 
   -- one whose step ends in an assertion
   pub follows-failed : (es : List Entry) (ps : List Piece) (s : Stage) (ev : Event) (e : Entry) (left : Remainder) (c : Config) (g : List Piece) → IsWithinStep s ev e left c
-      → ComesTo sys (actor d chart) (first_config d) es ps s → GoesOn sys (actor d chart) ev e left c g None → FollowsTo sys d Stopped (ps ++ g)
+      → ComesTo sys (actor d chart) (first_config d) es ps s → StepGoesOn sys (actor d chart) ev e left c g None → FollowsTo sys d Stopped (ps ++ g)
   unfolding Leaves
   follows-failed es ps s ev e left c g within h goes =
       follows-stopped sys d chart is es (ps ++ g) None ((comes-within sys (actor d chart) (first_config d) es ps s ev e left c within h).0 g None goes)
@@ -72,7 +72,7 @@ module _ (sys : System) (d : ObjectDef) (chart : Chart) (is : chart_at sys d.cha
 
   -- one whose step is cut
   pub follows-cut : (es : List Entry) (ps : List Piece) (s : Stage) (ev : Event) (e : Entry) (left : Remainder) (c : Config) (g qs : List Piece) (end : Option Config) → IsWithinStep s ev e left c
-      → ComesTo sys (actor d chart) (first_config d) es ps s → GoesOn sys (actor d chart) ev e left c (g ++ qs) end → FollowsTo sys d Anywhere (ps ++ g)
+      → ComesTo sys (actor d chart) (first_config d) es ps s → StepGoesOn sys (actor d chart) ev e left c (g ++ qs) end → FollowsTo sys d Anywhere (ps ++ g)
   unfolding Leaves
   follows-cut es ps s ev e left c g qs end within h goes =
       let whole = (comes-within sys (actor d chart) (first_config d) es ps s ev e left c within h).0 (g ++ qs) end goes in

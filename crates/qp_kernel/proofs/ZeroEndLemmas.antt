@@ -21,7 +21,7 @@ use Rattle.qp_model.specs.End.{took_count, takes_of, spents_follow, spills_state
 use Rattle.qp_model.specs.Kernels.{qk}
 use Rattle.qp_model.specs.Sites.{object_at}
 use Rattle.qp_model.specs.Course.{actor, first_config, chart_at, Starts, Whole, Stopped, Anywhere, FollowsTo}
-use Rattle.qp_model.specs.Step.{Remainder, GoesOn}
+use Rattle.qp_model.specs.Step.{Remainder, StepGoesOn}
 use Rattle.qp_model.specs.Acts.{Config}
 use Rattle.qp_model.specs.Lawful.{spill_cuts}
 use Rattle.qp_model.proofs.KernelRowLemmas.{lane_on-then, spent-next, IsOwnRole, IsWithin, seen-entry, no-row}
@@ -377,7 +377,7 @@ module _ (sys : System) (kernel budget : ℕ) (told : List ToldItem) (now has : 
   -- A step ends in its assertion, which is the lane's last record.
   pub zero-failed : (end p : ℕ) (outer : List ℕ) (g : List Told) (ev : Event) (e : Entry) (left : Remainder) (c : Config) → may_cut end ≡ true → owed ≡ 0 → IsWithin k p outer → AreOwn g
       → ends_last (map untold (map (for_object p) g)) ≡ true → IsWithinStep (stages p) ev e left c → AreNumbered sys → AreAble sys
-      → ((d : ObjectDef) (chart : Chart) → d.priority ≡ p → object_at sys d.priority ≡ Some d → chart_at sys d.chart ≡ Some chart → GoesOn sys (actor d chart) ev e left c (tell g) None)
+      → ((d : ObjectDef) (chart : Chart) → d.priority ≡ p → object_at sys d.priority ≡ Some d → chart_at sys d.chart ≡ Some chart → StepGoesOn sys (actor d chart) ev e left c (tell g) None)
       → ((d : ObjectDef) → object_at sys d.priority ≡ Some d → (p == d.priority) ≡ false → may_wait (stages d.priority) ≡ true)
       → ZeroEnds sys kernel budget end (most_rows kernel k.idle) (told ++ map (for_object p) g) has
   unfolding told_pieces
@@ -468,7 +468,7 @@ module _ (sys : System) (kernel budget : ℕ) (told : List ToldItem) (now has : 
       → list_any (λ t. is_end t.body) g ≡ false → n ≡ length told + length g → 999992 < n → spill_cuts p (map untold (told ++ (map (for_object p) g ++ spilled n))) ≡ true
       → IsWithinStep (stages p) ev e left c → AreNumbered sys → AreAble sys
       → ((d : ObjectDef) (chart : Chart) → d.priority ≡ p → object_at sys d.priority ≡ Some d → chart_at sys d.chart ≡ Some chart
-      → (qs : List Piece) × (last : Option Config) × GoesOn sys (actor d chart) ev e left c (tell g ++ qs) last)
+      → (qs : List Piece) × (last : Option Config) × StepGoesOn sys (actor d chart) ev e left c (tell g ++ qs) last)
       → ((d : ObjectDef) → object_at sys d.priority ≡ Some d → (p == d.priority) ≡ false → may_wait (stages d.priority) ≡ true)
       → ZeroEnds sys kernel budget end (most_rows kernel k.idle) (told ++ (map (for_object p) g ++ spilled n)) has
   spilled-by end n p g m ev e left c early unowed read idle mild taken are calm count many cuts within numbered able goes wait =
@@ -485,7 +485,7 @@ module _ (sys : System) (kernel budget : ℕ) (told : List ToldItem) (now has : 
       → list_any (λ t. is_end t.body) g ≡ false → n ≡ length told + length g → 999992 < n → spill_cuts p (map untold (told ++ (map (for_object p) g ++ spilled n))) ≡ true
       → IsWithinStep (stages p) ev e left c → AreNumbered sys → AreAble sys
       → ((d : ObjectDef) (chart : Chart) → d.priority ≡ p → object_at sys d.priority ≡ Some d → chart_at sys d.chart ≡ Some chart
-      → (qs : List Piece) × (last : Option Config) × GoesOn sys (actor d chart) ev e left c (tell g ++ qs) last)
+      → (qs : List Piece) × (last : Option Config) × StepGoesOn sys (actor d chart) ev e left c (tell g ++ qs) last)
       → ((d : ObjectDef) → object_at sys d.priority ≡ Some d → (p == d.priority) ≡ false → may_wait (stages d.priority) ≡ true)
       → ZeroEnds sys kernel budget end (most_rows kernel k.idle) (told ++ (map (for_object p) g ++ spilled n)) has
   zero-spilled end n p outer g ev e left c early unowed at own =
@@ -511,7 +511,7 @@ module _ (sys : System) (kernel budget : ℕ) (told : List ToldItem) (now has : 
       → spill_cuts p (map untold (told ++ (map (for_object p) (g ++ plain body.Done ∷ rel) ++ spilled n))) ≡ true
       → IsWithinStep (stages p) ev e left c → AreNumbered sys → AreAble sys
       → ((d : ObjectDef) (chart : Chart) → d.priority ≡ p → object_at sys d.priority ≡ Some d → chart_at sys d.chart ≡ Some chart
-      → (qs : List Piece) × (last : Option Config) × GoesOn sys (actor d chart) ev e left c (tell (g ++ plain body.Done ∷ rel) ++ qs) last)
+      → (qs : List Piece) × (last : Option Config) × StepGoesOn sys (actor d chart) ev e left c (tell (g ++ plain body.Done ∷ rel) ++ qs) last)
       → ((d : ObjectDef) → object_at sys d.priority ≡ Some d → (p == d.priority) ≡ false → may_wait (stages d.priority) ≡ true)
       → ZeroEnds sys kernel budget end (most_rows kernel k.idle) (told ++ (map (for_object p) (g ++ plain body.Done ∷ rel) ++ spilled n)) has
   zero-spilled_done end n p outer g rel ev e left c early unowed at own drops =

@@ -20,7 +20,7 @@ use Rattle.qp_model.specs.Laws.{Ascend}
 use Rattle.qp_model.specs.Sound.{IsSound, IsSoundObject}
 use Rattle.qp_model.specs.Kernels.{sim, qk, port, qv}
 use Rattle.qp_model.specs.Home.{lane_at, home_of, by_object, home_records}
-use Rattle.qp_model.specs.Pieces.{bare}
+use Rattle.qp_model.specs.Pieces.{records_in}
 use Rattle.qp_model.specs.Sites.{object_at}
 use Rattle.qp_model.specs.KernelLane.{Setting, Reading, lane_on, lane_read, unread}
 use Rattle.qp_model.specs.Points.{lane_pieces}
@@ -156,7 +156,7 @@ module _ (sys : System) (j : Journal) (most : ℕ) (sound : IsSound sys) (no_por
         (subst (λ c. HasShape sys d.priority (j.kernel == port) c (own_told d.priority told0)) (sym (cut-is d.priority))
         (subst (λ b. HasShape sys d.priority b (cut_in j.end d.priority (map untold told0)) (own_told d.priority told0)) (sym no_port) (zero.shapes d chart at is)))
 
-    bare-is : bare (told_pieces here d.priority (unread sys) told0) ≡ dispatched (by_object w j d.priority)
+    bare-is : records_in (told_pieces here d.priority (unread sys) told0) ≡ dispatched (by_object w j d.priority)
     bare-is = bare-told here d.priority (unread sys) told0 ∙ ap dispatched (sym (own-is d.priority))
 
     deferral : deferral_holds sys j d ≡ true

@@ -10,7 +10,7 @@ use Rattle.qp_model.specs.declared.systems.ObjectDef.{ObjectDef}
 use Rattle.qp_model.specs.declared.bodies.Entry.{Entry}
 use Rattle.qp_model.specs.declared.bodies.Body.{Body}
 use Rattle.qp_model.specs.declared.bodies.Body.TheVariants as body
-use Rattle.qp_model.specs.Told.{Told, ToldItem, Event, for_object, plain, taken}
+use Rattle.qp_model.specs.Told.{Told, ToldItem, Event, for_object, plain, told_took}
 use Rattle.qp_model.specs.Pieces.{Piece, Point, tell}
 use Rattle.qp_model.specs.KernelLane.{Setting, Reading, Inside, Looking, Chosen, Ended, Resting, floor_in, above, base_ended, looking_at, lane_next, lane_on, unread, role_of, Drops}
 use Rattle.qp_model.specs.Points.{is_look}
@@ -19,7 +19,7 @@ use Rattle.qp_model.specs.End.{took_count, takes_of}
 use Rattle.qp_model.specs.Sites.{object_at}
 use Rattle.qp_model.specs.Course.{actor, first_config, chart_at, Starts}
 use Rattle.qp_model.specs.Standing.{Advances}
-use Rattle.qp_model.specs.Step.{Remainder, GoesOn, whole_step}
+use Rattle.qp_model.specs.Step.{Remainder, StepGoesOn, whole_step}
 use Rattle.qp_model.specs.Acts.{Config}
 use Rattle.qp_model.proofs.KernelRowLemmas.{lane_on-then, look-next, seen-empty, seen-entry, rest-next, took-next, done-next, release-next, started-next, MayLook, IsOwnRole, IsWithin}
 use Rattle.qp_kernel.specs.Stages as stage
@@ -296,11 +296,11 @@ module _ (sys : System) (kernel budget : ℕ) (told : List ToldItem) (now : ℕ 
   pub zero-took : (f l m : ℕ) (e : Entry) (ev : Event) (c : Config) (left : Remainder) → k.unstarted ≡ [] → k.place ≡ Chosen p → stages p ≡ stage.Resting c → length (entries p) < budget
       → AreAble sys
       → ((d : ObjectDef) (chart : Chart) → d.priority ≡ p → object_at sys d.priority ≡ Some d → chart_at sys d.chart ≡ Some chart → left ≡ whole_step (actor d chart) c ev)
-      → LaneZero sys kernel budget (told ++ for_object p (taken f l m e ev) ∷ []) now upto (record k { running = p ∷ k.running; place = Inside; stepped = true }) 0
+      → LaneZero sys kernel budget (told ++ for_object p (told_took f l m e ev) ∷ []) now upto (record k { running = p ∷ k.running; place = Inside; stepped = true }) 0
       (moved stages p (stage.Begun ev e left c)) (having entries p (entries p ++ e ∷ []))
   unfolding lane_on took_count
   zero-took f l m e ev c left started at rests few able plan =
-      zero-moves (taken f l m e ev ∷ []) false (record k { running = p ∷ k.running; place = Inside; stepped = true }) (stage.Begun ev e left c) (entries p ++ e ∷ [])
+      zero-moves (told_took f l m e ev ∷ []) false (record k { running = p ∷ k.running; place = Inside; stepped = true }) (stage.Begun ev e left c) (entries p ++ e ∷ [])
       (λ has agree. rw (took-next (setting sys kernel has) k p f l m e started at) refl)
       (refl, refl, tt)
       (λ d chart same at is ps h.
@@ -337,7 +337,7 @@ module _ (sys : System) (kernel budget : ℕ) (told : List ToldItem) (now : ℕ 
   pub zero-done : (outer : List ℕ) (g rel : List Told) (ev : Event) (e : Entry) (left : Remainder) (c d : Config) → IsWithin k p outer → AreOwn g → AreDrops rel
       → list_any (λ t. is_end t.body) g ≡ false → IsWithinStep (stages p) ev e left c
       → ((o : ObjectDef) (chart : Chart) → o.priority ≡ p → object_at sys o.priority ≡ Some o → chart_at sys o.chart ≡ Some chart
-      → GoesOn sys (actor o chart) ev e left c (tell (g ++ plain body.Done ∷ rel)) (Some d))
+      → StepGoesOn sys (actor o chart) ev e left c (tell (g ++ plain body.Done ∷ rel)) (Some d))
       → LaneZero sys kernel budget (told ++ map (for_object p) (g ++ plain body.Done ∷ rel)) now upto
       (record k { ceiling = ceiling_through k.ceiling g; running = outer; place = Ended p }) 0 (moved stages p (stage.Resting d)) (having entries p (entries p))
   zero-done outer g rel ev e left c d at own drops calm within goes =

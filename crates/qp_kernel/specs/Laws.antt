@@ -9,10 +9,10 @@ use Rattle.qp_model.specs.declared.systems.ObjectDef.{ObjectDef}
 use Rattle.qp_model.specs.declared.journals.Journal.{Journal}
 use Rattle.qp_model.specs.declared.bodies.Entry.{Entry}
 use Rattle.qp_model.specs.declared.bodies.Body.TheVariants as body
-use Rattle.qp_model.specs.Told.{Told, Event, for_object, plain, taken}
+use Rattle.qp_model.specs.Told.{Told, Event, for_object, plain, told_took}
 use Rattle.qp_model.specs.Pieces.{Piece, Point, tell}
 use Rattle.qp_model.specs.Acts.{Config}
-use Rattle.qp_model.specs.Step.{Remainder, GoesOn, whole_step}
+use Rattle.qp_model.specs.Step.{Remainder, StepGoesOn, whole_step}
 use Rattle.qp_model.specs.Standing.{Advances}
 use Rattle.qp_model.specs.Course.{actor, first_config, Starts}
 use Rattle.qp_model.specs.KernelLane.{Reading, Inside, Looking, Chosen, Ended, Resting, Over, floor_in, above, base_ended, looking_at, unread}
@@ -102,7 +102,7 @@ StepBegins =
     → s.reading.unstarted ≡ [] → s.reading.place ≡ Chosen p → s.stages p ≡ stage.Resting c
     → length (s.entries p) < terms.budget
     → Stands sys terms (record s {
-      told = s.told ++ for_object p (taken f l m e ev) ∷ [];
+      told = s.told ++ for_object p (told_took f l m e ev) ∷ [];
       reading = record (s.reading) { running = p ∷ s.reading.running; place = Inside; stepped = true };
       stages = moved s.stages p (stage.Begun ev e (whole_step (actor d chart) c ev) c);
       entries = having s.entries p (s.entries p ++ e ∷ []);
@@ -132,7 +132,7 @@ StepEnds =
     (ev : Event) (e : Entry) (left : Remainder) (c after : Config)
     → AreNumbered sys → IsObject sys p d chart → 0 < p → Stands sys terms s → s.owed ≡ 0
     → IsInStep s.reading p outer → IsWithinStep (s.stages p) ev e left c
-    → GoesOn sys (actor d chart) ev e left c (tell g) (Some after)
+    → StepGoesOn sys (actor d chart) ev e left c (tell g) (Some after)
     → (level : ℕ) × Stands sys terms (record s {
       told = s.told ++ map (for_object p) g;
       reading = record (s.reading) { ceiling = level; running = outer; place = Ended p };
@@ -181,7 +181,7 @@ AssertionEndsStep =
     → AreNumbered sys → AreAble sys → IsObject sys p d chart → 0 < p → Stands sys terms s → Agree s.upto has s.now
     → may_cut end ≡ true → s.owed ≡ 0
     → IsInStep s.reading p outer → IsWithinStep (s.stages p) ev e left c
-    → GoesOn sys (actor d chart) ev e left c (tell g) None → OthersWait sys s p
+    → StepGoesOn sys (actor d chart) ev e left c (tell g) None → OthersWait sys s p
     → ZeroEnds sys (kernel_in terms) terms.budget end (most_rows (kernel_in terms) s.reading.idle) (s.told ++ map (for_object p) g) has
 
 -- a start ends in its assertion
@@ -208,7 +208,7 @@ SpillEndsStep =
     → AreNumbered sys → AreAble sys → IsObject sys p d chart → 0 < p → Stands sys terms s → Agree s.upto has s.now
     → may_cut end ≡ true → s.owed ≡ 0
     → IsInStep s.reading p outer → IsWithinStep (s.stages p) ev e left c → list_any (λ t. is_end t.body) g ≡ false
-    → GoesOn sys (actor d chart) ev e left c (tell g ++ qs) last → OthersWait sys s p → SpillFills s p g n
+    → StepGoesOn sys (actor d chart) ev e left c (tell g ++ qs) last → OthersWait sys s p → SpillFills s p g n
     → ZeroEnds sys (kernel_in terms) terms.budget end (most_rows (kernel_in terms) s.reading.idle) (s.told ++ (map (for_object p) g ++ spill_told n ∷ [])) has
 
 -- a `spill` cuts a start, of which something is left

@@ -12,7 +12,7 @@ use Rattle.qp_model.specs.Ends.{is_assert, is_spent, may_cut, spills_cut, ends_l
 use Rattle.qp_model.specs.End.{took_count, spents_follow, spills_state}
 use Rattle.qp_model.specs.Sites.{object_at}
 use Rattle.qp_model.specs.Kernels.{qk}
-use Rattle.qp_model.specs.KernelLane.{Reading, lane_on, unread, is_whole}
+use Rattle.qp_model.specs.KernelLane.{Reading, lane_on, unread, is_whole_reading}
 use Rattle.qp_model.specs.Course.{Cut, Whole, Stopped, Anywhere, FollowsTo, chart_at}
 use Rattle.qp_model.specs.Lawful.{spill_cuts}
 use Rattle.qp_model_order.specs.SourceRun.{untold}
@@ -25,7 +25,7 @@ cut_in end o lane = if may_cut end then (if spill_cuts o lane then Anywhere else
 -- a lane that stopped early has started all objects, unless an assertion ended it; another one is whole
 abbrev pub may_stand : ℕ → ℕ → Reading → List Item → Bool
 may_stand kernel end last lane =
-    if may_cut end then (length last.unstarted == 0) || list_any (λ i. is_assert i.body) lane else is_whole kernel last
+    if may_cut end then (length last.unstarted == 0) || list_any (λ i. is_assert i.body) lane else is_whole_reading kernel last
 
 -- a `spent` stands where its object took just its budget
 abbrev pub is_spent_right : ℕ → List Item → Item → Bool

@@ -4,7 +4,7 @@ ghost use Rattle.std.specs.Prelude.{◌≡◌, false};
 
 use crate::world::{Irq, World};
 use qp_base::{Ev, Steps};
-use qp_calls::{Arm, Claim, Counts, Dec, Entry, Fresh, Give, Hold, Ops, RoomFault, Take, Tick};
+use qp_calls::{Arm, Claim, Counts, Dec, Fresh, Give, HeldEntry, Hold, Ops, RoomFault, Take, Tick};
 use qp_model::{Rec, System};
 use std::sync::Wait;
 use std::sync::ledger::Ledger;
@@ -99,14 +99,14 @@ impl<O: Ops> Ops for Alone<O> {
     fn claim<L: Ledger>(
         &mut self,
         to: u8,
-        e: Entry,
+        e: HeldEntry,
         margin: Option<u8>,
         steps: &mut Steps<L>,
     ) -> Claim {
         self.lane.claim(to, e, margin, steps)
     }
 
-    fn lifo<L: Ledger>(&mut self, e: Entry, steps: &mut Steps<L>) -> Claim {
+    fn lifo<L: Ledger>(&mut self, e: HeldEntry, steps: &mut Steps<L>) -> Claim {
         self.lane.lifo(e, steps)
     }
 
@@ -158,7 +158,7 @@ impl<O: Ops> Ops for Alone<O> {
         self.lane.stopped()
     }
 
-    fn leave(&mut self, e: Entry) {
+    fn leave(&mut self, e: HeldEntry) {
         self.lane.leave(e);
     }
 

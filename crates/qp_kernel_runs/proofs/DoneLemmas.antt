@@ -6,7 +6,7 @@ use Rattle.qp_model.specs.declared.stimulus.Stim.{Stim}
 use Rattle.qp_model.specs.declared.stimulus.Stim.TheVariants as stim
 use Rattle.qp_model.specs.declared.systems.System.{System}
 use Rattle.qp_model.specs.declared.bodies.Body.TheVariants as body
-use Rattle.qp_model.specs.OneOrder.{Placed, begun, acted_last, all_empty, may_act, left_after, turned, acts_next}
+use Rattle.qp_model.specs.OneOrder.{Placed, begun, acted_last, all_empty, may_act, stimuli_after, turned, acts_next}
 
 -- nothing is left behind as many as were done
 pub take-all : {A : Type 0} (n : ℕ) (xs : List A) → drop (length (take n xs)) xs ≡ [] → take n xs ≡ xs
@@ -53,8 +53,8 @@ LeftNone before n [] = Unit {0}
 LeftNone before n (ss ∷ more) = (drop (begun before n) ss ≡ []) × LeftNone before (n + 1) more
 
 pub none-left : (sys : System) (stimuli : List (List Stim)) (before : List Placed) → all_empty sys before ≡ true → acts_next sys stimuli before true ≡ None → LeftNone before 1 stimuli
-unfolding acts_next left_after
-none-left sys stimuli before empty none = each 1 stimuli (turned-none may (acted_last 0 before) (left_after before stimuli) (mapped (λ (x : ℕ × List Stim). record { source = x.0; place = begun before x.0 + 1 }) none))
+unfolding acts_next stimuli_after
+none-left sys stimuli before empty none = each 1 stimuli (turned-none may (acted_last 0 before) (stimuli_after before stimuli) (mapped (λ (x : ℕ × List Stim). record { source = x.0; place = begun before x.0 + 1 }) none))
   where
     may : (ℕ × List Stim) → Bool
     may x = may_act (true && all_empty sys before) x.1

@@ -6,9 +6,9 @@ use Rattle.qp_model.specs.declared.stimulus.Stim.{Stim}
 use Rattle.qp_model.specs.declared.systems.System.{System}
 use Rattle.qp_model.specs.OneOrder.{Placed, enters, leaves}
 use Rattle.qp_plain_sound.proofs.EntryCounts.{entered-counts, left-counts}
-use Rattle.qp_kernel_sim.specs.declared.world.SimWorld.{SimWorld}
-use Rattle.qp_kernel_sim.specs.SimView.{sim_view}
-use Rattle.qp_kernel_sim.specs.SimEnded.{IsSimEnded}
+use Rattle.qp_kernel_runs.specs.declared.world.SimWorld.{SimWorld}
+use Rattle.qp_kernel_runs.specs.SimView.{sim_view}
+use Rattle.qp_kernel_runs.specs.SimEnded.{IsSimEnded}
 use Rattle.qp_kernel_runs.specs.Left.{IsLeft}
 
 left-by : (w : SimWorld) (lanes : List (List Rec)) → IsSimEnded w lanes → IsLeft (sim_view w).sys (sim_view w).plan lanes (sim_view w)

@@ -17,9 +17,9 @@ use Rattle.qp_kernel_end.proofs.OutcomeLemmas.{its-end}
 use Rattle.qp_plain.specs.declared.world.PlainWorld.{PlainWorld}
 use Rattle.qp_plain.specs.NewWorld.{IsNewWorld}
 use Rattle.qp_plain_sound.specs.View.{view_of}
-use Rattle.qp_kernel_sim.specs.declared.world.SimWorld.{SimWorld}
-use Rattle.qp_kernel_sim.specs.NewSim.{IsSim}
-use Rattle.qp_kernel_sim.specs.SimView.{sim_view}
+use Rattle.qp_kernel_runs.specs.declared.world.SimWorld.{SimWorld}
+use Rattle.qp_kernel_runs.specs.NewSim.{IsSim}
+use Rattle.qp_kernel_runs.specs.SimView.{sim_view}
 use Rattle.qp_kernel_turns.specs.declared.objects.Objects.{Objects}
 use Rattle.qp_kernel_turns.specs.Objects.{AreMade}
 use Rattle.qp_kernel_runs.specs.Running.{IsClosed, MayRun}

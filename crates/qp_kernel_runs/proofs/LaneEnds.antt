@@ -6,7 +6,7 @@ use Rattle.std.proofs.lemmas.Option.{unwrap_or-slice_get}
 use Rattle.qp_model.specs.declared.record.Rec.{Rec}
 use Rattle.qp_model.specs.declared.stimulus.Stim.{Stim}
 use Rattle.qp_model.specs.declared.systems.System.{System}
-use Rattle.qp_model.specs.Ends.{asserted, ends_last}
+use Rattle.qp_model.specs.Ends.{end_asserted, ends_last}
 use Rattle.qp_model.specs.History.{lane_items}
 use Rattle.qp_model.specs.Knowing.{told_lane}
 use Rattle.qp_model.specs.Told.{ToldItem}
@@ -18,7 +18,7 @@ use Rattle.qp_plain_sound.specs.Sound.{facts_in}
 use Rattle.qp_kernel.specs.Happenings.{SourcesHalt}
 use Rattle.qp_kernel.specs.Turning.{Terms}
 use Rattle.qp_model_order.proofs.SourceLanes.{untold-lane}
-use Rattle.qp_kernel_runs.specs.Left.{IsLeft, IsStopped}
+use Rattle.qp_kernel_runs.specs.Left.{IsLeft, HasStoppedEarly}
 
 module _ (sys : System) (stimuli : List (List Stim)) (lanes : List (List Rec)) (v : LaneView) (left : IsLeft sys stimuli lanes v) where
   -- what ends with nothing behind it ends so as a lane that was told
@@ -32,7 +32,7 @@ module _ (sys : System) (stimuli : List (List Stim)) (lanes : List (List Rec)) (
 
   -- the lanes of the sources from number n on
   sources-last : (cuts : Bool) (n : ℕ) (ss : List (List Stim)) (ls : List (List Rec)) → 0 < n → drop n lanes ≡ ls → length ls ≡ length ss → n + length ls ≡ length lanes
-      → SourcesHalt sys asserted cuts n ss v.happened → list_all (λ lane. ends_last (lane_items lane)) ls ≡ true
+      → SourcesHalt sys end_asserted cuts n ss v.happened → list_all (λ lane. ends_last (lane_items lane)) ls ≡ true
   unfolding SourcesHalt
   sources-last cuts n [] [] some is same all h = refl
   sources-last cuts n [] (l ∷ ls) some is same all h = absurd (omega (arith, same))
@@ -44,16 +44,16 @@ module _ (sys : System) (stimuli : List (List Stim)) (lanes : List (List Rec)) (
       let more = sources-last cuts (n + 1) ss ls (omega arith) behind.1 (omega (arith, same)) (omega (arith, all)) h.1 in
       rw (one, more) refl
 
-  pub stopped-last : (terms : Terms) → IsStopped sys terms v → list_all (λ lane. ends_last (lane_items lane)) lanes ≡ true
+  pub stopped-last : (terms : Terms) → HasStoppedEarly sys terms v → list_all (λ lane. ends_last (lane_items lane)) lanes ≡ true
   stopped-last terms stop = by lanes refl
     where
       by : (ls : List (List Rec)) → lanes ≡ ls → list_all (λ lane. ends_last (lane_items lane)) ls ≡ true
       by [] is = refl
       by (l ∷ ls) is =
-          let order = stop.in_order asserted refl in
+          let order = stop.in_order end_asserted refl in
           let long : length lanes ≡ suc (length ls) = ap length is in
           let count = left.count in
-          let zero = lane-last 0 v.told l (ap (λ (x : List (List Rec)). lane_of x 0) is) left.zero (stop.zero asserted refl).ends in
-          let halt = subst (λ p. SourcesHalt sys asserted order.cuts 1 p v.happened) left.plan order.sources in
+          let zero = lane-last 0 v.told l (ap (λ (x : List (List Rec)). lane_of x 0) is) left.zero (stop.zero end_asserted refl).ends in
+          let halt = subst (λ p. SourcesHalt sys end_asserted order.cuts 1 p v.happened) left.plan order.sources in
           let more = sources-last order.cuts 1 stimuli ls (omega arith) (ap (drop 1) is) (omega (arith, long, count)) (omega (arith, long)) halt in
           rw (zero, more) refl

@@ -8,3 +8,16 @@ pub mod Ran
 pub mod Ends
 pub mod Cooperating
 pub mod RestLemmas
+pub mod Seated
+pub mod OrderLemmas
+pub mod Holding
+pub mod Kept
+pub mod Worlds
+pub mod Beginning
+pub mod Finishing
+pub mod Beside
+pub mod Visited
+pub mod ChoiceLemmas
+pub mod Acted
+pub mod Interrupted
+pub mod Walks

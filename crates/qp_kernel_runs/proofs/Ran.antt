@@ -18,12 +18,12 @@ use Rattle.qp_kernel_turns.specs.Objects.{AreMade}
 use Rattle.qp_dispatch.specs.declared.objects.Turn.{Turn}
 use Rattle.qp_dispatch.specs.declared.objects.Turn.TheVariants as turn
 use Rattle.qp_kernel_turns.specs.Ordering.{IdlesInOrder, StopsInOrder, TurnsInOrder}
-use Rattle.qp_kernel_turns.specs.Starting.{AllStarted, IsFresh, StartStopped}
+use Rattle.qp_kernel_turns.specs.Starting.{AllStarted, IsFreshLane, StartStopped}
 use Rattle.qp_kernel_turns.specs.Turning.{Idled, Stand, TurnStopped, TurnsTo, idle_in}
 use Rattle.qp_kernel_turns.specs.Knowing.{HandsFollow}
 use Rattle.qp_kernel_turns.proofs.Keeping.{rests-kept}
 use Rattle.qp_kernel_turns.proofs.Places.{follow-then}
-use Rattle.qp_kernel_runs.specs.Left.{IsIdle, IsStopped}
+use Rattle.qp_kernel_runs.specs.Left.{IsIdle, HasStoppedEarly}
 use Rattle.qp_kernel_runs.specs.Running.{RunsOn, RunsTo}
 use Rattle.qp_kernel.specs.Turning.{Terms, kernel_in}
 use Rattle.qp_kernel.specs.ZeroEnds.{ZeroEnds}
@@ -51,7 +51,7 @@ one-row_stop : (sys : System) (terms : Terms) → terms.threaded ≡ false → (
 one-row_stop sys terms single v w stop end cut =
     subst (λ most. ZeroEnds sys (kernel_in terms) terms.budget end most w.told (has_stim (lanes_of w))) (one-row terms (idle_in sys terms w.told (has_stim (lanes_of w))) single) (stop.zero end cut)
 
-module _ (sys : System) (terms : Terms) (single : terms.threaded ≡ false) (sound : IsSound sys) (xs : Objects) (v : LaneView) (made : AreMade sys xs) (fresh : IsFresh sys v) where
+module _ (sys : System) (terms : Terms) (single : terms.threaded ≡ false) (sound : IsSound sys) (xs : Objects) (v : LaneView) (made : AreMade sys xs) (fresh : IsFreshLane sys v) where
   module _ (ys : Objects) (u : LaneView) (started : AllStarted sys xs ys v u) (a b : Stand) (from : a.lane ≡ u) (those : a.objects ≡ ys) where
     pub idle-is : Idled sys terms a b → IdlesInOrder true sys b → IsIdle sys terms b.lane
     idle-is idled order =
@@ -89,7 +89,7 @@ module _ (sys : System) (terms : Terms) (single : terms.threaded ≡ false) (sou
       plan = idled.onward.plan ∙ ap (λ (l : LaneView). l.plan) from ∙ started.grows.gains.plan;
     }
 
-    pub stop-is : (w : LaneView) → TurnStopped sys terms u w → StopsInOrder true sys u w → IsStopped sys terms w
+    pub stop-is : (w : LaneView) → TurnStopped sys terms u w → StopsInOrder true sys u w → HasStoppedEarly sys terms w
     stop-is w stop order = record { single = single; zero = one-row_stop sys terms single u w stop; in_order = order.order refl }
 
     pub stop-on : (w : LaneView) → StopsInOrder true sys u w → RunsOn v w
@@ -101,7 +101,7 @@ module _ (sys : System) (terms : Terms) (single : terms.threaded ≡ false) (sou
     turned turn.Stopped goes order = (stop-on b.lane (subst (λ l. StopsInOrder true sys l b.lane) from order), stop-is b.lane (subst (λ l. TurnStopped sys terms l b.lane) from goes) (subst (λ l. StopsInOrder true sys l b.lane) from order))
     turned turn.Memory goes order = tt
 
-  pub start-stop_is : (w : LaneView) → StartStopped sys v w → IsStopped sys terms w
+  pub start-stop_is : (w : LaneView) → StartStopped sys v w → HasStoppedEarly sys terms w
   start-stop_is w stop = record { single = single; zero = one-row_stop sys terms single v w (stop.turn terms); in_order = stop.order }
 
   pub start-stop_on : (w : LaneView) → StartStopped sys v w → RunsOn v w

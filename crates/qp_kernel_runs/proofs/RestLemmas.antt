@@ -32,7 +32,7 @@ use Rattle.qp_kernel_turns.specs.Objects.{leaf_there, vars_there}
 use Rattle.qp_kernel_turns.specs.Turning.{Idled, Stand, TurnsTo}
 use Rattle.qp_kernel_turns.proofs.Resting.{rests-still}
 use Rattle.qp_kernel_runs.specs.Left.{IsLeft}
-use Rattle.qp_kernel_runs.specs.Resting.{AreShown, IsShown, RestsAfter}
+use Rattle.qp_kernel_runs.specs.Resting.{ObjectsShow, IsShown, RestsAfter}
 use Rattle.qp_kernel_runs.proofs.LeftLemmas.{zero-told}
 use Rattle.qp_model.proofs.AbleLemmas.{some-same}
 
@@ -58,11 +58,11 @@ module _ (sys : System) (sound : IsSound sys) (s : Stand) (rest : OthersRest sys
         },
       )
 
-  all-shown : (d : ObjectDef) → object_at sys d.priority ≡ Some d → (xs : List Rest) → AreShown s.objects s.stack xs → AllByRecursion (IsRestOf sys d (own_told d.priority s.lane.told)) xs
+  all-shown : (d : ObjectDef) → object_at sys d.priority ≡ Some d → (xs : List Rest) → ObjectsShow s.objects s.stack xs → AllByRecursion (IsRestOf sys d (own_told d.priority s.lane.told)) xs
   all-shown d found [] h = tt
   all-shown d found (x ∷ xs) h = (shown-rest d found x h.0, all-shown d found xs h.1)
 
-  pub shown-rests : (xs : List Rest) → AreShown s.objects s.stack xs → AreRests sys (λ o. own_told o s.lane.told) xs
+  pub shown-rests : (xs : List Rest) → ObjectsShow s.objects s.stack xs → AreRests sys (λ o. own_told o s.lane.told) xs
   unfolding object_at
   shown-rests xs shown = go sys.objects (all-found sys.objects sound.ascend)
     where
@@ -74,7 +74,7 @@ module _ (sys : System) (sound : IsSound sys) (s : Stand) (rest : OthersRest sys
 idled-rest : (sys : System) (sound : IsSound sys) (terms : Terms) (a b : Stand) → Idled sys terms a b → OthersRest sys b
 idled-rest sys sound terms a b idled = rests-still sys sound terms b.looks b.stack b.objects b.lane idled.knows.knows [] idled.knows.at.stack b.looks b.lane refl
 
-pub rests-after : (sys : System) (sound : IsSound sys) (terms : Terms) (a b : Stand) (t : Turn) (xs : List Rest) → TurnsTo sys terms a b t → StopsAtRest sys b t → AreShown b.objects b.stack xs → RestsAfter sys b.lane.told t xs
+pub rests-after : (sys : System) (sound : IsSound sys) (terms : Terms) (a b : Stand) (t : Turn) (xs : List Rest) → TurnsTo sys terms a b t → StopsAtRest sys b t → ObjectsShow b.objects b.stack xs → RestsAfter sys b.lane.told t xs
 rests-after sys sound terms a b turn.Idle xs goes stops shown = shown-rests sys sound b (idled-rest sys sound terms a b goes) xs shown
 rests-after sys sound terms a b turn.Stopped xs goes stops shown = shown-rests sys sound b stops xs shown
 rests-after sys sound terms a b turn.Memory xs goes stops shown = tt

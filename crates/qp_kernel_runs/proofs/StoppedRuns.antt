@@ -17,14 +17,14 @@ use Rattle.qp_model.specs.Sound.{IsSound}
 use Rattle.qp_model.specs.Ends.{may_cut, quiet}
 use Rattle.qp_model.specs.End.{end_of, has_room}
 use Rattle.qp_calls.specs.LaneView.{LaneView}
-use Rattle.qp_model_order.specs.RunOrder.{items_of, has_stim, EndsInOrder}
+use Rattle.qp_model_order.specs.RunOrder.{items_ordered, has_stim, EndsInOrder}
 use Rattle.qp_model_order.specs.SourceRun.{SourceEnds, untold_all}
 use Rattle.qp_plain_sound.proofs.LawLemmas.{log-numbered, by-the_book}
 use Rattle.qp_kernel.specs.ZeroEnds.{ZeroEnds}
 use Rattle.qp_kernel.specs.Run.{SourcesEnd, IsRun}
 use Rattle.qp_kernel.specs.Happenings.{SourcesHalt, lanes_of, order_of}
 use Rattle.qp_kernel.proofs.LawfulLemmas.{lawful}
-use Rattle.qp_kernel_runs.specs.Left.{IsLeft, IsStopped}
+use Rattle.qp_kernel_runs.specs.Left.{IsLeft, HasStoppedEarly}
 use Rattle.qp_kernel.proofs.AlikeKernels.{one-order}
 use Rattle.qp_kernel_runs.proofs.LeftLemmas.{zero-told, zero-items, source-told, sources-are}
 use Rattle.qp_kernel.specs.Turning.{Terms, kernel_in}
@@ -34,8 +34,8 @@ module _ (sys : System) (stimuli : List (List Stim)) (lanes : List (List Rec)) (
   pub words-hold : Words sys j.lanes
   words-hold = subst (Words sys) (sym at) (by-the_book sys lanes left.order 0 0 0 [] [] [] left.world).words
 
-  pub numbers-are : in_order [] (items_of (order_of v)) ≡ true
-  numbers-are = subst (λ log. in_order [] (items_of log) ≡ true) left.log (log-numbered sys lanes left.order left.world)
+  pub numbers-are : in_order [] (items_ordered (order_of v)) ≡ true
+  numbers-are = subst (λ log. in_order [] (items_ordered log) ≡ true) left.log (log-numbered sys lanes left.order left.world)
 
   pub lanes-roomy : list_all (λ lane. has_room (lane_items lane)) j.lanes ≡ true
   lanes-roomy = subst (λ (ls : List (List Rec)). list_all (λ lane. has_room (lane_items lane)) ls ≡ true) (sym at) left.room
@@ -52,7 +52,7 @@ module _ (sys : System) (stimuli : List (List Stim)) (lanes : List (List Rec)) (
         halted end cuts (n + 1) more (omega arith) (omega (arith, all)) is h.1,
       )
 
-  pub stopped-is_run : (terms : Terms) → IsSound sys → j.kernel ≡ kernel_in terms → j.budget ≡ terms.budget → may_cut j.end ≡ true → (j.end == end_of (all_items lanes)) ≡ true → IsStopped sys terms v → IsRun sys stimuli j
+  pub stopped-is_run : (terms : Terms) → IsSound sys → j.kernel ≡ kernel_in terms → j.budget ≡ terms.budget → may_cut j.end ≡ true → (j.end == end_of (all_items lanes)) ≡ true → HasStoppedEarly sys terms v → IsRun sys stimuli j
   stopped-is_run terms sound kernel same cut stated stop =
       let order = stop.in_order j.end cut in
       let sources = sources-are sys stimuli lanes v left j at (no-port terms j.kernel kernel) in
@@ -82,5 +82,5 @@ module _ (sys : System) (stimuli : List (List Stim)) (lanes : List (List Rec)) (
         blocks = loud _;
       }
 
-  pub stopped-lawful : (terms : Terms) → IsSound sys → j.kernel ≡ kernel_in terms → j.budget ≡ terms.budget → may_cut j.end ≡ true → (j.end == end_of (all_items lanes)) ≡ true → IsStopped sys terms v → Lawful sys stimuli j
+  pub stopped-lawful : (terms : Terms) → IsSound sys → j.kernel ≡ kernel_in terms → j.budget ≡ terms.budget → may_cut j.end ≡ true → (j.end == end_of (all_items lanes)) ≡ true → HasStoppedEarly sys terms v → Lawful sys stimuli j
   stopped-lawful terms sound kernel same cut stated stop = lawful sys stimuli j (stopped-is_run terms sound kernel same cut stated stop)

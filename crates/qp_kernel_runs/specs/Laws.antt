@@ -11,13 +11,13 @@ use Rattle.qp_model.specs.Sound.{IsSound}
 use Rattle.qp_model.specs.Lawful.{Lawful}
 use Rattle.qp_calls.specs.LaneView.{LaneView}
 use Rattle.qp_kernel.specs.Turning.{AreAble, Terms, kernel_in}
-use Rattle.qp_kernel_runs.specs.Left.{IsLeft, IsIdle, IsStopped}
+use Rattle.qp_kernel_runs.specs.Left.{IsLeft, IsIdle, HasStoppedEarly}
 
 -- A run that stopped early leaves a lawful journal, with the end that its records state.
 abbrev pub StoppedRunsAreLawful : Type 0
 StoppedRunsAreLawful =
     (sys : System) (stimuli : List (List Stim)) (lanes : List (List Rec)) (v : LaneView) (j : Journal) (terms : Terms) → IsSound sys
-    → IsLeft sys stimuli lanes v → IsStopped sys terms v → j.lanes ≡ lanes → j.kernel ≡ kernel_in terms → j.budget ≡ terms.budget → may_cut j.end ≡ true
+    → IsLeft sys stimuli lanes v → HasStoppedEarly sys terms v → j.lanes ≡ lanes → j.kernel ≡ kernel_in terms → j.budget ≡ terms.budget → may_cut j.end ≡ true
     → (j.end == end_of (all_items lanes)) ≡ true → Lawful sys stimuli j
 
 -- So does a run that comes to its end by itself.

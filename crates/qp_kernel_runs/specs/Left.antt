@@ -72,7 +72,7 @@ pub record IsIdle (sys : System) (terms : Terms) (v : LaneView) : Type 0 where
   pub empties : (d : ObjectDef) → object_at sys d.priority ≡ Some d → (f l m : ℕ) × (v.shown (word.Queue d.priority) ≡ Counts f l m) × (f + l ≡ m)
 
 -- The run stopped early, however it stated its end.
-pub record IsStopped (sys : System) (terms : Terms) (v : LaneView) : Type 0 where
+pub record HasStoppedEarly (sys : System) (terms : Terms) (v : LaneView) : Type 0 where
   pub single : terms.threaded ≡ false
   pub zero : (end : ℕ) → may_cut end ≡ true → ZeroEnds sys (kernel_in terms) terms.budget end 1 v.told (has_stim (lanes_of v))
   pub in_order : (end : ℕ) → may_cut end ≡ true → IsOrderEnded sys end v

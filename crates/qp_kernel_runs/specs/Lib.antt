@@ -3,3 +3,13 @@ pub mod Left
 pub mod Resting
 pub mod Running
 pub mod Laws
+pub mod Seating
+pub mod SimHolds
+pub mod Choosing
+pub mod Visiting
+pub mod Newest
+pub mod SimView
+pub mod SimLaws
+pub mod Acting
+pub mod NewSim
+pub mod SimEnded

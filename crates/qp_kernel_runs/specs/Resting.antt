@@ -18,8 +18,8 @@ pub record IsShown (xs : Objects) (stack : List ℕ) (x : Rest) : Type 0 where
   pub leaf : leaf_in xs.slots.items x.priority ≡ Some x.leaf
   pub vars : x.vars.items ≡ vars_in xs.slots.items x.priority
 
-abbrev pub AreShown : Objects → List ℕ → List Rest → Type 0
-AreShown xs stack rests = AllByRecursion (IsShown xs stack) rests
+abbrev pub ObjectsShow : Objects → List ℕ → List Rest → Type 0
+ObjectsShow xs stack rests = AllByRecursion (IsShown xs stack) rests
 
 -- the rests behind a turn, by the records of its lane
 abbrev pub RestsAfter : System → List ToldItem → Turn → List Rest → Type 0

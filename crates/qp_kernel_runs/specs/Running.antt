@@ -11,14 +11,14 @@ use Rattle.qp_dispatch.specs.declared.objects.Turn.{Turn}
 use Rattle.qp_dispatch.specs.declared.objects.Turn.TheVariants as turn
 use Rattle.qp_kernel_turns.specs.declared.objects.Objects.{Objects}
 use Rattle.qp_kernel_turns.specs.Objects.{AreMade}
-use Rattle.qp_kernel_turns.specs.Starting.{IsFresh}
-use Rattle.qp_kernel_runs.specs.Left.{IsIdle, IsStopped}
+use Rattle.qp_kernel_turns.specs.Starting.{IsFreshLane}
+use Rattle.qp_kernel_runs.specs.Left.{IsIdle, HasStoppedEarly}
 use Rattle.qp_kernel.specs.Turning.{Terms, kernel_in}
 
 -- the lane and the objects of a run that begins
 pub record MayRun (sys : System) (xs : Objects) (v : LaneView) : Type 0 where
   pub made : AreMade sys xs
-  pub fresh : IsFresh sys v
+  pub fresh : IsFreshLane sys v
   pub fit : StimuliFit sys v.plan
 
 -- the run came to its end, or stopped early; the system and the stimuli are as they were
@@ -28,7 +28,7 @@ pub record RunsOn (v w : LaneView) : Type 0 where
 
 abbrev pub RunsTo : System → Terms → LaneView → LaneView → Turn → Type 0
 RunsTo sys terms v w turn.Idle = RunsOn v w × IsIdle sys terms w
-RunsTo sys terms v w turn.Stopped = RunsOn v w × IsStopped sys terms w
+RunsTo sys terms v w turn.Stopped = RunsOn v w × HasStoppedEarly sys terms w
 RunsTo sys terms v w turn.Memory = Unit {0}
 
 -- the journal of these lanes, with the end that their records state

@@ -2,7 +2,7 @@
 
 ghost use Rattle.std.specs.Prelude.{◌≡◌, IfOk, IfSome};
 ghost use Rattle.qp_chart.specs.StateTree.{has};
-ghost use Rattle.qp_kernel_runs.specs.Resting.{AreShown, IsShown};
+ghost use Rattle.qp_kernel_runs.specs.Resting.{ObjectsShow, IsShown};
 
 use qp_kernel_end::Rest;
 use qp_kernel_turns::Objects;
@@ -55,7 +55,7 @@ pub(crate) fn rests(
     objects: &Objects,
     under_way: &[u8],
 ) -> Result<Vec<Rest>, AllocError>
-    ensures { IfOk result (λ rests. AreShown objects.now under_way.now rests.items) }
+    ensures { IfOk result (λ rests. ObjectsShow objects.now under_way.now rests.items) }
 {
     let mut rests = Vec::new(alloc);
     for d in &sys.objects.items {

@@ -8,18 +8,18 @@ ghost use Rattle.qp_model.specs.History.{all_items, lane_items};
 ghost use Rattle.qp_model.specs.Sound.{IsSound};
 ghost use Rattle.qp_stim.specs.Rules.{StimuliFit};
 ghost use Rattle.qp_kernel.specs.Turning.{kernel_in, under};
-ghost use Rattle.qp_kernel_sim.specs.SimView.{sim_view};
+ghost use Rattle.qp_kernel_runs.specs.SimView.{sim_view};
 ghost use Rattle.qp_kernel_end.specs.Rests.{AreRestsIn};
-ghost use Rattle.qp_kernel_runs.specs.Resting.{AreShown, RestsAfter};
+ghost use Rattle.qp_kernel_runs.specs.Resting.{ObjectsShow, RestsAfter};
 ghost use Rattle.qp_kernel_runs.specs.Running.{IsClosed, MayRun, RunsTo};
 ghost use Rattle.qp_kernel_runs.specs.SimRun.{IsQvRun, IsRunOf, IsSimRun};
 
 use crate::rests::rests;
+use crate::world::SimWorld;
 use qp_base::{Memory, NoGate};
 use qp_dispatch::{Step, Turn};
 use qp_kernel::Kernel;
 use qp_kernel_end::{Outcome, Rest, outcome_of};
-use qp_kernel_sim::SimWorld;
 use qp_kernel_turns::{Bounds, Objects, kernel_turn};
 use qp_model::{Journal, Lanes, Stimuli, System, kernels};
 use qp_plain::PlainWorld;
@@ -62,7 +62,7 @@ fn end_of_turn(
     turn: Turn,
 ) -> Ended
     ensures turn { result.turn ≡ turn }
-    ensures rests { AreShown objects.now under_way.now result.rests.items }
+    ensures rests { ObjectsShow objects.now under_way.now result.rests.items }
 {
     let rests = match rests(alloc, sys, objects, under_way) {
         Ok(rests) => rests,

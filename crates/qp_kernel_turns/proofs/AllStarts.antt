@@ -17,7 +17,7 @@ use Rattle.qp_dispatch.specs.declared.steps.Step.TheVariants as step
 use Rattle.qp_kernel.specs.Happenings.{IsInOrder, has_no_stim}
 use Rattle.qp_kernel_turns.specs.declared.objects.Objects.{Objects}
 use Rattle.qp_kernel_turns.specs.Objects.{MayStartAt, StartsAt}
-use Rattle.qp_kernel_turns.specs.Knowing.{IsNamed, KnowsAt}
+use Rattle.qp_kernel_turns.specs.Knowing.{IsObjectWithChart, KnowsAt}
 use Rattle.qp_kernel_turns.specs.Starting.{AllStarted, GrowsAlong, GrowsAndStops, HasBegun, HaveBegun, StartStopped, StartsAll, StartsOne, left_from}
 use Rattle.qp_kernel_turns.proofs.Places.{follow-none, follow-then}
 use Rattle.qp_kernel_turns.proofs.SoundObjects.{named}
@@ -51,8 +51,8 @@ next-is P (x ∷ xs) (suc n) d at all ascend = let next = next-is P xs n d at al
 
 -- The object at a place, which is the first that has not started.
 module _ (sys : System) (sound : IsSound sys) (place : ℕ) (d : ObjectDef) (at : slice_get sys.objects place ≡ Some d) (xs : Objects) (v : LaneView) (b : HaveBegun sys (left_from sys place) xs v) where
-  next : IsNext (λ x. IsNamed sys x.priority) sys.objects place d
-  next = next-is (λ x. IsNamed sys x.priority) sys.objects place d at (named sys sound) sound.ascend
+  next : IsNext (λ x. IsObjectWithChart sys x.priority) sys.objects place d
+  next = next-is (λ x. IsObjectWithChart sys x.priority) sys.objects place d at (named sys sound) sound.ascend
 
   abbrev others : List ℕ
   others = left_from sys (place + 1)

@@ -18,7 +18,7 @@ use Rattle.qp_kernel.specs.Turning.{KernelState, Stands, Terms, kernel_in}
 use Rattle.qp_kernel_turns.specs.declared.halting.Halt.{Halt}
 use Rattle.qp_kernel_turns.specs.declared.halting.Halt.TheVariants as halt
 use Rattle.qp_kernel_turns.specs.BaseRows.{SameRow, reading_in}
-use Rattle.qp_kernel_turns.specs.Knowing.{IsNamed}
+use Rattle.qp_kernel_turns.specs.Knowing.{IsObjectWithChart}
 use Rattle.qp_kernel_turns.specs.TurnRows.{FewRows, bare_row, idle_rows}
 use Rattle.qp_kernel_turns.proofs.SoundObjects.{named, numbered}
 
@@ -121,7 +121,7 @@ looks-again s k [] single came = by k.running
 
 -- The first look of a row, at an object where there is one.
 
-filtered : (sys : System) → IsSound sys → (ds : List ObjectDef) → AllByRecursion (λ d. IsNamed sys d.priority) ds → length (filter (λ d. nat_lt 0 d.priority) ds) ≡ length ds
+filtered : (sys : System) → IsSound sys → (ds : List ObjectDef) → AllByRecursion (λ d. IsObjectWithChart sys d.priority) ds → length (filter (λ d. nat_lt 0 d.priority) ds) ≡ length ds
 filtered sys sound [] all = refl
 filtered sys sound (d ∷ ds) all = by (nat_lt 0 d.priority) refl (filtered sys sound ds all.1)
   where

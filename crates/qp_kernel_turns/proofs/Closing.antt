@@ -12,7 +12,7 @@ use Rattle.qp_model.specs.Shapes.{Posts, PostsOne, PublishesLast, restoring}
 use Rattle.qp_model.specs.Pieces.{Piece, Tell, Point, tell}
 use Rattle.qp_model.specs.Acts.{Actor, Config, Does, Moment}
 use Rattle.qp_model.specs.Step.{DoesLeft, GoesOnPublishing, Publishing, Remainder}
-use Rattle.qp_model.specs.Standing.{Reaches}
+use Rattle.qp_model.specs.Standing.{AgendaReaches}
 use Rattle.qp_model.proofs.Completes.{again_any, release, release_drops}
 use Rattle.qp_kernel.specs.Stages.{closes, is_done}
 use Rattle.qp_kernel.proofs.TurnLemmas.{left-form}
@@ -43,8 +43,8 @@ publishing-done sys a c p (to ∷ others) at =
     room ring = lt-ltb 0 (ring + 1 - 0) (omega arith)
 
 -- so something is left
-some-left : (sys : System) (a : Actor) (at : Moment) (left later : Remainder) (c d : Config) (g : List Told) → closes left.tasks ≡ true → later.tasks ≡ [] → Reaches sys a at left c (tell g ++ Point ∷ []) later d → ⊥
-unfolding Reaches DoesLeft Does
+some-left : (sys : System) (a : Actor) (at : Moment) (left later : Remainder) (c d : Config) (g : List Told) → closes left.tasks ≡ true → later.tasks ≡ [] → AgendaReaches sys a at left c (tell g ++ Point ∷ []) later d → ⊥
+unfolding AgendaReaches DoesLeft Does
 some-left sys a at left later c d g closing none reaches = by later.publishing refl
   where
     never : (ps : List Piece) (mid : Option Config) → DoesLeft sys a at left.publishing left.posts left.tasks c (ps ++ Point ∷ []) mid → ⊥
@@ -67,6 +67,6 @@ closes-behind (t ∷ []) (u ∷ us) some h = (and_parts (not (is_done t)) (close
 closes-behind (t ∷ u ∷ us) rest some h = closes-behind (u ∷ us) rest some (and_parts (not (is_done t)) (closes ((u ∷ us) ++ rest)) h).1
 
 pub closes-left : (sys : System) (a : Actor) (at : Moment) (left later : Remainder) (c d : Config) (g : List Told) (done : List Task) → closes left.tasks ≡ true → left.tasks ≡ done ++ later.tasks
-    → Reaches sys a at left c (tell g ++ Point ∷ []) later d → closes later.tasks ≡ true
+    → AgendaReaches sys a at left c (tell g ++ Point ∷ []) later d → closes later.tasks ≡ true
 closes-left sys a at left later c d g done closing split reaches =
     closes-behind done later.tasks (λ none. some-left sys a at left later c d g closing none reaches) (subst (λ ts. closes ts ≡ true) split closing)

@@ -2,7 +2,7 @@
 use Rattle.std.proofs.Common.{◌≡◌, ℕ, zero, suc, ◌+◌, ◌-◌, ◌<◌, ◌≤◌, List, [], ◌∷◌, length, ◌∙◌, ap, Option, Some, None, arith}
 use Rattle.std.specs.Prelude.{slice_get, slice_set}
 use Rattle.qp_model.specs.declared.systems.System.{System}
-use Rattle.qp_calls.specs.declared.tokens.Entry.{Entry}
+use Rattle.qp_calls.specs.declared.tokens.HeldEntry.{HeldEntry}
 use Rattle.qp_calls.specs.LaneView.{LaneView}
 use Rattle.qp_chart.specs.declared.checked.Chart.{Chart}
 use Rattle.qp_model.specs.Course.{chart_at}
@@ -24,7 +24,7 @@ taken-put (None ∷ xs) (suc p) n slot later h more = taken-put xs p n slot late
 taken-put (Some x ∷ xs) (suc p) n slot later h more = let rest = taken-put xs p n slot later h more in omega (arith, rest)
 
 -- one more with each step that begins
-pub taken-begins : (p : ℕ) (e : Entry) (xs ys : Objects) → BeginsAt p e xs ys → taken_by_all ys.slots.items ≡ taken_by_all xs.slots.items + 1
+pub taken-begins : (p : ℕ) (e : HeldEntry) (xs ys : Objects) → BeginsAt p e xs ys → taken_by_all ys.slots.items ≡ taken_by_all xs.slots.items + 1
 taken-begins p e xs ys b = ap taken_by_all b.put.slots ∙ taken-put xs.slots.items p 1 b.slot b.later b.there (ap (λ x. x.taken) b.begins)
 
 -- none with a step that goes on

@@ -29,7 +29,7 @@ use Rattle.qp_kernel_turns.specs.declared.objects.Objects.{Objects}
 use Rattle.qp_kernel_turns.specs.declared.objects.Slot.{Slot}
 use Rattle.qp_kernel_turns.specs.Objects.{AreMade, IsPlace}
 use Rattle.qp_kernel_turns.specs.Knowing.{KnowsAt, KnowsObject, MayLook, kept_count, own_count}
-use Rattle.qp_kernel_turns.specs.Starting.{HasBegun, HaveBegun, IsFresh, left_from}
+use Rattle.qp_kernel_turns.specs.Starting.{HasBegun, HaveBegun, IsFreshLane, left_from}
 use Rattle.qp_kernel_turns.proofs.SoundObjects.{numbered, sound-object}
 use Rattle.qp_kernel.specs.Turning.{Terms}
 use Rattle.qp_model.proofs.AbleLemmas.{some-same}
@@ -115,7 +115,7 @@ made-object sys xs v d chart sound made found its = by there.0 there.1 (made.eac
         }
 
 -- before the first start
-pub begun : (sys : System) (xs : Objects) (v : LaneView) → IsSound sys → AreMade sys xs → IsFresh sys v → HaveBegun sys (left_from sys 0) xs v
+pub begun : (sys : System) (xs : Objects) (v : LaneView) → IsSound sys → AreMade sys xs → IsFreshLane sys v → HaveBegun sys (left_from sys 0) xs v
 unfolding unread object_at ceiling_in
 begun sys xs v sound made fresh = record { knows = knows; order = order-begins sys v fresh.new; no_stim = rw (fresh.new.told) refl }
   where

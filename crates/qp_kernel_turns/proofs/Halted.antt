@@ -2,7 +2,7 @@
 use Rattle.std.proofs.Common.{◌≡◌, ℕ, ◌<◌, Bool, true, List, [], ◌∷◌, ◌++◌, length, refl, sym, ◌∙◌, ap, subst, inl, inr, arith}
 use Rattle.std.proofs.lemmas.Bool.Decides.{nat_tests}
 use Rattle.qp_model.specs.declared.systems.System.{System}
-use Rattle.qp_model.specs.Ends.{asserted, may_cut}
+use Rattle.qp_model.specs.Ends.{end_asserted, may_cut}
 use Rattle.qp_model.specs.Sound.{IsSound}
 use Rattle.qp_model.specs.Told.{Told, ToldItem, for_object}
 use Rattle.qp_model_order.specs.RunOrder.{has_stim}
@@ -16,7 +16,7 @@ use Rattle.qp_kernel.specs.Turning.{KernelState, Stands, spill_told, Terms}
 use Rattle.qp_kernel.proofs.KernelLaws.{full_lane_ends, run_stops_elsewhere}
 use Rattle.qp_kernel_turns.specs.declared.halting.Halt.{Halt}
 use Rattle.qp_kernel_turns.specs.declared.halting.Halt.TheVariants as halt
-use Rattle.qp_kernel_turns.specs.Halting.{Halts}
+use Rattle.qp_kernel_turns.specs.Halting.{TurnHalts}
 use Rattle.qp_kernel_turns.specs.Knowing.{last_is}
 use Rattle.qp_kernel_turns.specs.Turning.{HaltsTurn}
 use Rattle.qp_kernel_turns.specs.TurnRows.{FewRows}
@@ -56,7 +56,7 @@ module _ (sys : System) (sound : IsSound sys) (terms : Terms) (s : KernelState) 
 
 -- what `ready` says where the run doesn't go on
 pub halts-turn : (sys : System) (sound : IsSound sys) (terms : Terms) (s : KernelState) (v w : LaneView) (h : Halt) → s.told ≡ v.told → Stands sys terms s → s.now ≡ has_stim (lanes_of v)
-    → s.reading.unstarted ≡ [] → AllWait sys s → Halts v w h → HaltsTurn sys terms v w h
+    → s.reading.unstarted ≡ [] → AllWait sys s → TurnHalts v w h → HaltsTurn sys terms v w h
 unfolding last_code
 halts-turn sys sound terms s v w halt.Memory told stands now started waits h = tt
 halts-turn sys sound terms s v w halt.Stopped told stands now started waits (inl h) =
@@ -73,10 +73,10 @@ halts-turn sys sound terms s v w halt.Stopped told stands now started waits (inr
 
 -- and what rows it has then
 pub halts-few : (sys : System) (sound : IsSound sys) (terms : Terms) (s : KernelState) (v w : LaneView) (h : Halt) → s.told ≡ v.told → Stands sys terms s → s.now ≡ has_stim (lanes_of v)
-    → s.reading.unstarted ≡ [] → AllWait sys s → Halts v w h → FewRows sys terms s.reading.idle w h
+    → s.reading.unstarted ≡ [] → AllWait sys s → TurnHalts v w h → FewRows sys terms s.reading.idle w h
 halts-few sys sound terms s v w halt.Memory told stands now started waits h = tt
 halts-few sys sound terms s v w halt.Stopped told stands now started waits (inl h) = λ threaded.
-    ends-few sys terms asserted _ _ _ (stops-elsewhere sys sound terms s v w told stands now started waits (ap (λ x. x.plan) h.answered) (ap (λ x. x.happened) h.answered) (ap (λ x. x.told) h.answered) asserted refl) threaded
+    ends-few sys terms end_asserted _ _ _ (stops-elsewhere sys sound terms s v w told stands now started waits (ap (λ x. x.plan) h.answered) (ap (λ x. x.happened) h.answered) (ap (λ x. x.told) h.answered) end_asserted refl) threaded
 halts-few sys sound terms s v w halt.Stopped told stands now started waits (inr h) = λ threaded.
-    ends-few sys terms asserted _ _ _
-    (stops-full sys sound terms s v w told stands now started waits (ap (λ x. x.plan) h.stops ∙ h.spills.plan) (ap (λ x. x.happened) h.stops ∙ h.spills.happened) h.few (ap (λ x. x.told) h.stops ∙ h.spills.told) asserted refl) threaded
+    ends-few sys terms end_asserted _ _ _
+    (stops-full sys sound terms s v w told stands now started waits (ap (λ x. x.plan) h.stops ∙ h.spills.plan) (ap (λ x. x.happened) h.stops ∙ h.spills.happened) h.few (ap (λ x. x.told) h.stops ∙ h.spills.told) end_asserted refl) threaded

@@ -24,7 +24,7 @@ use Rattle.qp_kernel.specs.Stages.{Stage}
 use Rattle.qp_kernel_turns.specs.declared.objects.Slot.{Slot}
 use Rattle.qp_kernel_turns.specs.declared.objects.Objects.{Objects}
 use Rattle.qp_kernel_turns.specs.Objects.{AreMade}
-use Rattle.qp_kernel_turns.specs.Knowing.{HandsFollow, IsAtRest, IsNamed, KnowsAll, StageIs, kept_count, own_count}
+use Rattle.qp_kernel_turns.specs.Knowing.{HandsFollow, IsAtRest, IsObjectWithChart, KnowsAll, StageIs, kept_count, own_count}
 use Rattle.qp_kernel_turns.proofs.Fresh.{kept-none, made-held}
 use Rattle.qp_kernel_turns.proofs.SoundObjects.{named}
 
@@ -140,7 +140,7 @@ module _ (sys : System) (xs ys : Objects) (v w : LaneView) (sound : IsSound sys)
   stands : (t : Token) → Stands 0 ys.slots.items keeps t sys.objects
   stands t = go sys.objects (named sys sound)
     where
-      go : (ds : List ObjectDef) → AllByRecursion (λ d. IsNamed sys d.priority) ds → Stands 0 ys.slots.items keeps t ds
+      go : (ds : List ObjectDef) → AllByRecursion (λ d. IsObjectWithChart sys d.priority) ds → Stands 0 ys.slots.items keeps t ds
       go [] h = tt
       go (d ∷ ds) h =
           let n = h.0 in

@@ -8,7 +8,7 @@ use Rattle.qp_model.specs.declared.bodies.Body.TheVariants as body
 use Rattle.qp_model.specs.Record.{item_of}
 use Rattle.qp_model.specs.Told.{Told, ToldItem, for_object, plain}
 use Rattle.qp_calls.specs.declared.answers.Counts.{Counts}
-use Rattle.qp_calls.specs.declared.tokens.Entry.{Entry}
+use Rattle.qp_calls.specs.declared.tokens.HeldEntry.{HeldEntry}
 use Rattle.qp_calls.specs.Clauses.{Sees, Stops, TakesIt}
 use Rattle.qp_calls.specs.LaneView.{Gains, Grows, GrowsOf, LaneView, Roomier, placed_by}
 use Rattle.qp_calls.specs.Notes.{last_code, told_note}
@@ -22,7 +22,7 @@ use Rattle.qp_kernel.specs.Turning.{seen_told, spill_told}
 use Rattle.qp_kernel_turns.specs.declared.halting.Halt.{Halt}
 use Rattle.qp_kernel_turns.specs.declared.halting.Halt.TheVariants as halt
 use Rattle.qp_kernel_turns.specs.declared.objects.Objects.{Objects}
-use Rattle.qp_kernel_turns.specs.Halting.{Halts}
+use Rattle.qp_kernel_turns.specs.Halting.{TurnHalts}
 use Rattle.qp_kernel_turns.specs.Lanes.{HandsIn, KeepsLane, LaneGoes, LaneHalts, LaneStarts}
 use Rattle.qp_kernel_turns.specs.Objects.{ResumesAt}
 use Rattle.qp_kernel_turns.specs.Starting.{StartsAll}
@@ -148,7 +148,7 @@ spill-code : (ts : List ToldItem) (n : ℕ) → last_code (ts ++ spill_told n �
 spill-code ts n = last-snoc ts (spill_told n)
 
 -- what `ready` says where the run doesn't go on
-pub halts-lane : (acts : Bool) (v w : LaneView) (h : Halt) → Halts v w h → LaneHalts acts v w h
+pub halts-lane : (acts : Bool) (v w : LaneView) (h : Halt) → TurnHalts v w h → LaneHalts acts v w h
 halts-lane acts v w halt.Memory h = stops-memory acts v v w (goes-none acts v) h.stops
 halts-lane acts v w halt.Stopped (inl h) = finds-stop acts h.code v v w (goes-none acts v) h.answered
 halts-lane acts v w halt.Stopped (inr h) =
@@ -202,7 +202,7 @@ module _ (acts : Bool) (p : ℕ) (c : Counts) (v v1 v2 : LaneView) (room : Roomi
       stops-code acts 6 v v3 v4 (goes-then acts v v2 v3 seen-lane (gains-goes acts (for_object p (plain body.Spent) ∷ []) v2 v3 spent)) (omega arith)
       (ap last_code spent.told ∙ last-snoc v2.told (for_object p (plain body.Spent))) stops
 
-  pub took-lane : (e : Entry) (v3 v4 : LaneView) → v3 ≡ v2 → TakesIt p e v3 v4 → LaneGoes acts v v4
+  pub took-lane : (e : HeldEntry) (v3 v4 : LaneView) → v3 ≡ v2 → TakesIt p e v3 v4 → LaneGoes acts v v4
   took-lane e v3 v4 still takes = goes-then acts v v3 v4 (subst (LaneGoes acts v) (sym still) seen-lane) (gains-goes acts _ v3 v4 takes.adds.grows)
 
 -- The step of an object, and starts.

@@ -13,14 +13,14 @@ use Rattle.qp_calls.specs.LaneView.{LaneView, ceiling_in}
 use Rattle.qp_calls.specs.Notes.{spills_told}
 use Rattle.qp_kernel.specs.Happenings.{lanes_of}
 use Rattle.qp_kernel.specs.LaneZero.{setting}
-use Rattle.qp_model.specs.Ends.{asserted, may_cut}
+use Rattle.qp_model.specs.Ends.{end_asserted, may_cut}
 use Rattle.qp_kernel.specs.Turning.{KernelState, Stands, look_told, seen_told, Terms, kernel_in}
 use Rattle.qp_kernel.proofs.KernelLaws.{empty_is_seen, look_is_added, looks_are_settled, run_stops_elsewhere}
 use Rattle.qp_kernel_turns.specs.BaseRows.{InRow, reading_in}
 use Rattle.qp_kernel_turns.specs.TurnRows.{bare_row, idle_rows}
 use Rattle.qp_kernel_turns.proofs.BaseRows.{idle-is, look-adds, reading-is}
 use Rattle.qp_kernel_turns.specs.declared.objects.Objects.{Objects}
-use Rattle.qp_kernel_turns.specs.Knowing.{Descends, HandsCover, HasStack, IsAbove, IsLane, IsNamed, IsScanning, Knows, KnowsAt, MayLook, is_paused}
+use Rattle.qp_kernel_turns.specs.Knowing.{Descends, HandsCover, HasStack, IsAbove, IsLane, IsObjectWithChart, IsScanning, Knows, KnowsAt, MayLook, is_paused}
 use Rattle.qp_chart.specs.StateTree.{has}
 use Rattle.qp_kernel.specs.Stages.{is_resting}
 use Rattle.qp_kernel_turns.proofs.Ends.{EndsFew, ends-few}
@@ -46,7 +46,7 @@ lane-on sys ceiling ts v w lane goes = record {
 }
 
 -- the objects under way stand below the floor
-under-floor : (sys : System) (sound : IsSound sys) (terms : Terms) (running : List ℕ) (ceiling : ℕ) → AllByRecursion (IsNamed sys) running → Descends running → (p : ℕ) → floor_in sys (kernel_in terms) running ceiling < p → IsAbove p running
+under-floor : (sys : System) (sound : IsSound sys) (terms : Terms) (running : List ℕ) (ceiling : ℕ) → AllByRecursion (IsObjectWithChart sys) running → Descends running → (p : ℕ) → floor_in sys (kernel_in terms) running ceiling < p → IsAbove p running
 unfolding floor_in threshold_of object_at
 under-floor sys sound terms [] ceiling names descends p lt = tt
 under-floor sys sound terms (o ∷ outer) ceiling names descends p lt =
@@ -65,7 +65,7 @@ under-floor sys sound terms (o ∷ outer) ceiling names descends p lt =
 pub stack-on : (sys : System) (waiting : List ℕ) (s t : KernelState) → t.reading.unstarted ≡ s.reading.unstarted → t.reading.running ≡ s.reading.running → t.stages ≡ s.stages → HasStack sys waiting s → HasStack sys waiting t
 stack-on sys waiting s t unstarted running stages stack = record {
   started = unstarted ∙ stack.started;
-  named = subst (AllByRecursion (IsNamed sys)) (sym running) stack.named;
+  named = subst (AllByRecursion (IsObjectWithChart sys)) (sym running) stack.named;
   descends = subst Descends (sym running) stack.descends;
   rests = λ d found none. subst (λ f. is_resting (f d.priority) ≡ true) (sym stages) (stack.rests d found (ap (λ ps. has ps d.priority) (sym running) ∙ none));
   waits = λ o is. subst (λ f. is_paused (f o) ≡ true) (sym stages) (stack.waits o is);
@@ -118,7 +118,7 @@ module _ (sys : System) (sound : IsSound sys) (terms : Terms) (looks : ℕ) (sta
   pub look-few : w.told ≡ v.told ++ look_told n floor ∷ [] → terms.threaded ≡ true → idle_rows sys terms w ≤ idle_rows sys terms v + bare_row sys
   unfolding floor_in
   look-few told threaded =
-      let few = ends-few sys terms asserted next.idle w.told now (look-stops told asserted refl) threaded in
+      let few = ends-few sys terms end_asserted next.idle w.told now (look-stops told end_asserted refl) threaded in
       let most = look-adds sys sound (setting sys (kernel_in terms) now) here floor (λ base. low-here ∙ ap (λ ps. floor_in sys (kernel_in terms) ps s.reading.ceiling) base) in
       let own = idle-is sys terms v s k.stands k.told k.now in
       omega (arith, few, most, own)
@@ -127,9 +127,9 @@ module _ (sys : System) (sound : IsSound sys) (terms : Terms) (looks : ℕ) (sta
     cover : HandsCover xs w
     cover t = rw goes.hands (k.hands t)
 
-    row : AllByRecursion (λ p. IsNamed sys p × IsAbove p next.running) (above sys floor)
+    row : AllByRecursion (λ p. IsObjectWithChart sys p × IsAbove p next.running) (above sys floor)
     row =
-        subst (λ ps. AllByRecursion (λ p. IsNamed sys p × IsAbove p ps) (above sys floor)) (sym same.running)
+        subst (λ ps. AllByRecursion (λ p. IsObjectWithChart sys p × IsAbove p ps) (above sys floor)) (sym same.running)
         (above-floor sys floor (above sys floor) s.reading.running (row-named sys floor (named sys sound))
         (λ p lt. under-floor sys sound terms s.reading.running s.reading.ceiling may.stack.named may.stack.descends p (subst (λ x. x < p) low-here lt)))
 
@@ -242,6 +242,6 @@ module _ (sys : System) (sound : IsSound sys) (terms : Terms) (looks : ℕ) (sta
         here = k.state.reading;
         same = refl;
         counted = k.counted ∙ sym k.settled;
-        above = subst (λ ps. AllByRecursion (λ q. IsNamed sys q × IsAbove q ps) others) (sym same-one.running) at.above.1;
+        above = subst (λ ps. AllByRecursion (λ q. IsObjectWithChart sys q × IsAbove q ps) others) (sym same-one.running) at.above.1;
       };
     }

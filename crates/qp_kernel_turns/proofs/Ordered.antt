@@ -19,7 +19,7 @@ use Rattle.qp_model_order.specs.Placing.{LooksNone}
 use Rattle.qp_model_order.specs.RunOrder.{placed}
 use Rattle.qp_model_order.specs.SourceRun.{untold, untold_all}
 use Rattle.qp_calls.specs.Clauses.{Sees, Stops, TakesIt}
-use Rattle.qp_calls.specs.declared.tokens.Entry.{Entry}
+use Rattle.qp_calls.specs.declared.tokens.HeldEntry.{HeldEntry}
 use Rattle.qp_calls.specs.Notes.{told_note}
 use Rattle.qp_calls.proofs.Growing.{room-then}
 use Rattle.qp_calls.specs.declared.answers.Counts as counts
@@ -31,7 +31,7 @@ use Rattle.qp_kernel.proofs.HappeningLemmas.{IsIdleRecord, acts-more, order-more
 use Rattle.qp_kernel.proofs.OrderGrowth.{in_order-grows, in_order-happens, in_order-looks, order-ends, order-halts, order-stops, within}
 use Rattle.qp_kernel_turns.specs.declared.halting.Halt.{Halt}
 use Rattle.qp_kernel_turns.specs.declared.halting.Halt.TheVariants as halt
-use Rattle.qp_kernel_turns.specs.Halting.{Halts}
+use Rattle.qp_kernel_turns.specs.Halting.{TurnHalts}
 use Rattle.qp_kernel_turns.specs.Ordering.{AreSeenEmpty, HaltsInOrder, InOrder, IsSeenEmpty, LookedInOrder, NoneActs, PassedInOrder, StopsInOrder}
 use Rattle.qp_kernel_turns.specs.Pending.{PendingStays}
 use Rattle.qp_kernel_turns.specs.declared.objects.Objects.{Objects}
@@ -90,7 +90,7 @@ found-in_order acts sys looks code v w is h = record {
   order = λ acting end may. order-halts sys looks end v w may (ap (λ x. x.told) is) (ap (λ x. x.plan) is) (ap (λ x. x.happened) is) (h.order acting);
 }
 
-pub halts-in_order : (acts : Bool) (sys : System) (looks : ℕ) (v w : LaneView) (h : Halt) → Halts v w h → InOrder acts sys looks v → HaltsInOrder acts sys v w h
+pub halts-in_order : (acts : Bool) (sys : System) (looks : ℕ) (v w : LaneView) (h : Halt) → TurnHalts v w h → InOrder acts sys looks v → HaltsInOrder acts sys v w h
 halts-in_order acts sys looks v w halt.Memory h order = tt
 halts-in_order acts sys looks v w halt.Stopped (inl h) order = found-in_order acts sys looks h.code v w h.answered order
 halts-in_order acts sys looks v w halt.Stopped (inr h) order = ends-in_order acts sys looks 6 _ v h.full w h.spills h.stops (refl, tt) (spill-last _) order.order
@@ -268,6 +268,6 @@ module _ (acts : Bool) (sys : System) (looks p : ℕ) (c : counts.Counts) (v v1 
   stopped-seen code v3 is = halts-behind acts sys v v2 v3 halt.Stopped gains-seen.sys gains-seen.plan (found-in_order acts sys looks code v2 v3 is seen-in_order)
 
   -- its entry is taken
-  pub took-in_order : (e : Entry) (v3 v4 : LaneView) → v3 ≡ v2 → TakesIt p e v3 v4 → InOrder acts sys looks v4
+  pub took-in_order : (e : HeldEntry) (v3 v4 : LaneView) → v3 ≡ v2 → TakesIt p e v3 v4 → InOrder acts sys looks v4
   took-in_order e v3 v4 still takes =
       grows-in_order acts sys looks _ v3 v4 takes.adds.grows (refl, tt) refl refl (subst (InOrder acts sys looks) (sym still) seen-in_order)

@@ -17,7 +17,7 @@ use Rattle.qp_model.specs.KernelLane.{unread}
 use Rattle.qp_model.specs.Knowing.{told_alone}
 use Rattle.qp_model.specs.Lawful.{dispatched}
 use Rattle.qp_model.specs.OutputSummary.{CourseLeaves}
-use Rattle.qp_model.specs.Pieces.{Piece, Point, bare}
+use Rattle.qp_model.specs.Pieces.{Piece, Point, records_in}
 use Rattle.qp_model.specs.Sites.{object_at}
 use Rattle.qp_model.specs.Sound.{IsSound}
 use Rattle.qp_model.specs.Standing.{Leaves}
@@ -37,7 +37,7 @@ use Rattle.qp_kernel_turns.specs.declared.halting.Halt.TheVariants as halt
 use Rattle.qp_kernel_turns.specs.declared.objects.Objects.{Objects}
 use Rattle.qp_kernel_turns.specs.declared.objects.Slot.{Slot}
 use Rattle.qp_kernel_turns.specs.AtRest.{HaltsAtRest, OthersRest, RestsAt}
-use Rattle.qp_kernel_turns.specs.Halting.{Halts}
+use Rattle.qp_kernel_turns.specs.Halting.{TurnHalts}
 use Rattle.qp_kernel_turns.specs.Knowing.{HasStack, Knows, StageIs}
 use Rattle.qp_kernel_turns.specs.Objects.{IsAt, Puts}
 use Rattle.qp_kernel_turns.specs.Turning.{Stand}
@@ -80,14 +80,14 @@ pass-spent o p = by (p == o)
 
 -- The course of an object at rest.
 
-point-bare : (b : Bool) → bare (cond b (Point ∷ []) []) ≡ []
-unfolding bare
+point-bare : (b : Bool) → records_in (cond b (Point ∷ []) []) ≡ []
+unfolding records_in
 point-bare true = refl
 point-bare false = refl
 
-none-begin : (sys : System) (d : ObjectDef) (chart : Chart) (ts : List Told) (c : Config) (ps : List Piece) (es : List Entry) → bare ps ≡ dispatched ts
+none-begin : (sys : System) (d : ObjectDef) (chart : Chart) (ts : List Told) (c : Config) (ps : List Piece) (es : List Entry) → records_in ps ≡ dispatched ts
     → Course sys (actor d chart) (first_config d) es ps (Some c) → CourseLeaves sys d chart ts c
-unfolding CourseLeaves bare
+unfolding CourseLeaves records_in
 none-begin sys d chart ts c ps es are course =
     (ps, [], es, are, refl, subst (λ qs. Course sys (actor d chart) (first_config d) es qs (Some c)) (sym (append-nil ps)) course)
 
@@ -100,8 +100,8 @@ course-at sys terms s d chart c old at is rests =
     let owed = owed_point s.owed d.priority in
     let its : ComesTo sys (actor d chart) (first_config d) (s.entries d.priority) (pieces ++ owed) (stage.Resting c) =
     subst (ComesTo sys (actor d chart) (first_config d) (s.entries d.priority) (pieces ++ owed)) rests (old.pieces s.now (λ n few. refl) d chart at is) in
-    let records : bare (pieces ++ owed) ≡ dispatched (own_told d.priority s.told) =
-    bare-append pieces owed ∙ ap (λ x. bare pieces ++ x) (point-bare (s.owed == d.priority)) ∙ append-nil (bare pieces) ∙ bare-told here d.priority (unread sys) s.told in
+    let records : records_in (pieces ++ owed) ≡ dispatched (own_told d.priority s.told) =
+    bare-append pieces owed ∙ ap (λ x. records_in pieces ++ x) (point-bare (s.owed == d.priority)) ∙ append-nil (records_in pieces) ∙ bare-told here d.priority (unread sys) s.told in
     none-begin sys d chart (own_told d.priority s.told) c (pieces ++ owed) (s.entries d.priority) records its.0
 
 leaves-behind : (sys : System) (d : ObjectDef) (chart : Chart) (c : Config) (ts us : List ToldItem) → PassBy d.priority us → CourseLeaves sys d chart (own_told d.priority ts) c
@@ -156,7 +156,7 @@ module _ (sys : System) (sound : IsSound sys) (terms : Terms) (looks : ℕ) (sta
   pub rests-noted : (n : ℕ) (w : LaneView) (t : Told) → w.told ≡ v.told ++ for_object 0 t ∷ [] → OthersRest sys (with_lane n w)
   rests-noted n w t told = rests-behind (with_lane n w) (for_object 0 t ∷ []) refl told (λ d found free. pass-kernel d.priority t (numbered sys sound d found)) (λ d free slot there. there)
 
-  pub rests-halted : (w : LaneView) (h : Halt) → Halts v w h → HaltsAtRest sys (with_lane looks w) h
+  pub rests-halted : (w : LaneView) (h : Halt) → TurnHalts v w h → HaltsAtRest sys (with_lane looks w) h
   rests-halted w halt.Memory h = tt
   rests-halted w halt.Stopped (inl h) = rests-still looks w (ap (λ u. u.told) h.answered)
   rests-halted w halt.Stopped (inr h) = rests-noted looks w (plain (body.Spill (length v.told))) (ap (λ u. u.told) h.stops ∙ h.spills.told)

@@ -23,7 +23,7 @@ use Rattle.qp_kernel.specs.Turning.{IsLookPlace, KernelState, Terms, kernel_in}
 use Rattle.qp_kernel.proofs.RowLemmas.{looking-again, looking-over, looking-over_qk, looking-within}
 use Rattle.qp_kernel_turns.specs.declared.objects.Objects.{Objects}
 use Rattle.qp_kernel_turns.specs.Objects.{threshold_in, threshold_there}
-use Rattle.qp_kernel_turns.specs.Knowing.{HasStack, IsNamed, IsRunning, IsScanning, KnowsAt, MayLook, is_busy, is_paused}
+use Rattle.qp_kernel_turns.specs.Knowing.{HasStack, IsObjectWithChart, IsRunning, IsScanning, KnowsAt, MayLook, is_busy, is_paused}
 use Rattle.qp_kernel_turns.specs.Turning.{AreHeld, Entered, GoesOnward, Idled, IsOver, Looked, Passed, Stepped, RunsTop, Stand, Stood, floor_of, row_below}
 use Rattle.qp_kernel_turns.specs.Ordering.{AreSeenEmpty, IdlesInOrder, IsSeenEmpty, LookedInOrder, NoneActs, PassedInOrder}
 use Rattle.qp_kernel_turns.proofs.SoundObjects.{numbered}
@@ -46,9 +46,9 @@ onward-then xs v ys w zs u one two = record { hands = follow-then xs v ys w zs u
 pub held-of : (sys : System) (terms : Terms) (looks : ℕ) (stack : List ℕ) (xs : Objects) (v : LaneView) → KnowsAt (MayLook sys terms) sys terms looks stack xs v → AreHeld sys stack xs
 unfolding threshold_of object_at
 held-of sys terms looks stack xs v k =
-    let names : AllByRecursion (IsNamed sys) (reverse stack) = subst (AllByRecursion (IsNamed sys)) k.knows.running k.at.stack.named in
-    let straight : AllByRecursion (IsNamed sys) stack = subst (AllByRecursion (IsNamed sys)) (reverse-reverse stack) (AllByRecursion-reverse (IsNamed sys) (reverse stack) names) in
-    every (IsNamed sys) (λ p. threshold_in xs.slots.items p ≡ threshold_of sys p)
+    let names : AllByRecursion (IsObjectWithChart sys) (reverse stack) = subst (AllByRecursion (IsObjectWithChart sys)) k.knows.running k.at.stack.named in
+    let straight : AllByRecursion (IsObjectWithChart sys) stack = subst (AllByRecursion (IsObjectWithChart sys)) (reverse-reverse stack) (AllByRecursion-reverse (IsObjectWithChart sys) (reverse stack) names) in
+    every (IsObjectWithChart sys) (λ p. threshold_in xs.slots.items p ≡ threshold_of sys p)
     (λ p n.
     let o = k.knows.objects n.object n.chart n.found n.its in
     let here : threshold_of sys n.object.priority ≡ n.object.threshold = ap (λ d. option_map_or (λ x. x.threshold) d 0) n.found in

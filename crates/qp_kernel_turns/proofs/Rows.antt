@@ -12,7 +12,7 @@ use Rattle.qp_model.specs.Kernels.{qk, qv}
 use Rattle.qp_model.specs.KernelLane.{Reading, Resting, Again, Over, above, base_ended, found_none, looking_at}
 use Rattle.qp_kernel.specs.LaneZero.{Agree, setting}
 use Rattle.qp_kernel.specs.Turning.{Terms, kernel_in}
-use Rattle.qp_kernel_turns.specs.Knowing.{IsAbove, IsNamed}
+use Rattle.qp_kernel_turns.specs.Knowing.{IsAbove, IsObjectWithChart}
 use Rattle.qp_kernel_turns.specs.Turning.{row_below}
 use Rattle.qp_model.proofs.KernelLaneLemmas.{AllByRecursion-reverse}
 
@@ -57,17 +57,17 @@ row-whole sys floor = ap (λ xs. reverse (map (λ x. x.priority) (filter (λ x. 
 
 -- All of a row are objects above the floor.
 
-all-above : (sys : System) (floor : ℕ) (ds : List ObjectDef) → AllByRecursion (λ d. IsNamed sys d.priority) ds
-    → AllByRecursion (λ p. IsNamed sys p × (floor < p)) (map (λ d. d.priority) (filter (λ d. nat_lt floor d.priority) ds))
+all-above : (sys : System) (floor : ℕ) (ds : List ObjectDef) → AllByRecursion (λ d. IsObjectWithChart sys d.priority) ds
+    → AllByRecursion (λ p. IsObjectWithChart sys p × (floor < p)) (map (λ d. d.priority) (filter (λ d. nat_lt floor d.priority) ds))
 all-above sys floor [] h = tt
 all-above sys floor (d ∷ ds) h = by (nat_lt floor d.priority) refl (all-above sys floor ds h.1)
   where
-    by : (b : Bool) → nat_lt floor d.priority ≡ b → AllByRecursion (λ p. IsNamed sys p × (floor < p)) (map (λ d. d.priority) (filter (λ d. nat_lt floor d.priority) ds))
-        → AllByRecursion (λ p. IsNamed sys p × (floor < p)) (map (λ d. d.priority) (cond b (d ∷ filter (λ d. nat_lt floor d.priority) ds) (filter (λ d. nat_lt floor d.priority) ds)))
+    by : (b : Bool) → nat_lt floor d.priority ≡ b → AllByRecursion (λ p. IsObjectWithChart sys p × (floor < p)) (map (λ d. d.priority) (filter (λ d. nat_lt floor d.priority) ds))
+        → AllByRecursion (λ p. IsObjectWithChart sys p × (floor < p)) (map (λ d. d.priority) (cond b (d ∷ filter (λ d. nat_lt floor d.priority) ds) (filter (λ d. nat_lt floor d.priority) ds)))
     by true is rest = ((h.0, grind (arith, nat_tests)), rest)
     by false is rest = rest
 
-pub row-named : (sys : System) (floor : ℕ) → AllByRecursion (λ d. IsNamed sys d.priority) sys.objects → AllByRecursion (λ p. IsNamed sys p × (floor < p)) (above sys floor)
+pub row-named : (sys : System) (floor : ℕ) → AllByRecursion (λ d. IsObjectWithChart sys d.priority) sys.objects → AllByRecursion (λ p. IsObjectWithChart sys p × (floor < p)) (above sys floor)
 unfolding above
 row-named sys floor h = AllByRecursion-reverse _ _ (all-above sys floor sys.objects h)
 
@@ -82,7 +82,7 @@ above-not p [] h = refl
 above-not p (q ∷ qs) h = let lt = h.0 in let no : (q == p) ≡ false = grind (arith, nat_tests) in rw no (above-not p qs h.1)
 
 -- above all of a row's floor, where that is at least the running object
-pub above-floor : (sys : System) (floor : ℕ) (ps qs : List ℕ) → AllByRecursion (λ p. IsNamed sys p × (floor < p)) ps → ((p : ℕ) → floor < p → IsAbove p qs) → AllByRecursion (λ p. IsNamed sys p × IsAbove p qs) ps
+pub above-floor : (sys : System) (floor : ℕ) (ps qs : List ℕ) → AllByRecursion (λ p. IsObjectWithChart sys p × (floor < p)) ps → ((p : ℕ) → floor < p → IsAbove p qs) → AllByRecursion (λ p. IsObjectWithChart sys p × IsAbove p qs) ps
 above-floor sys floor [] qs h go = tt
 above-floor sys floor (p ∷ ps) qs h go = ((h.0.0, go p h.0.1), above-floor sys floor ps qs h.1 go)
 

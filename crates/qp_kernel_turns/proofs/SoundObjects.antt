@@ -15,10 +15,10 @@ use Rattle.qp_model.proofs.NumberLemmas.{number-owned}
 use Rattle.qp_model.proofs.ObjectLemmas.{found-passes}
 use Rattle.qp_model.proofs.ListLemmas.{every-at}
 use Rattle.qp_dispatch.specs.SoundFor.{IsHome}
-use Rattle.qp_dispatch.specs.Resume.{IsReady}
+use Rattle.qp_dispatch.specs.Resume.{CanTakeSteps}
 use Rattle.qp_dispatch.proofs.SoundAble.{sound-able, sound-ready}
 use Rattle.qp_kernel.specs.Turning.{AreAble, AreNumbered}
-use Rattle.qp_kernel_turns.specs.Knowing.{IsNamed}
+use Rattle.qp_kernel_turns.specs.Knowing.{IsObjectWithChart}
 
 found-self : (front : List ObjectDef) (d : ObjectDef) (ds : List ObjectDef) → AllByRecursion (λ x. x.priority < d.priority) front → find (λ x. x.priority == d.priority) (front ++ d ∷ ds) ≡ Some d
 found-self [] d ds all = let self : (d.priority == d.priority) ≡ true = grind (arith, nat_tests) in rw self refl
@@ -49,11 +49,11 @@ module _ (sys : System) (sound : IsSound sys) where
         record { some = n.some; few = let most = sound.few_timers in omega (arith, n.few, most); timer = n.timer; there = n.there; owner = n.owner };
   }
 
-  pub ready : (d : ObjectDef) (chart : Chart) → object_at sys d.priority ≡ Some d → chart_at sys d.chart ≡ Some chart → IsReady sys d.priority chart
+  pub ready : (d : ObjectDef) (chart : Chart) → object_at sys d.priority ≡ Some d → chart_at sys d.chart ≡ Some chart → CanTakeSteps sys d.priority chart
   ready d chart found its = sound-ready sys d.priority chart (d.chart - 1) (home d chart found its) its
 
   -- each object is the one of its priority, with its chart
-  named-one : (front : List ObjectDef) (d : ObjectDef) (ds : List ObjectDef) → front ++ d ∷ ds ≡ sys.objects → AllByRecursion (λ x. x.priority < d.priority) front → IsSoundObject sys.charts d → IsNamed sys d.priority
+  named-one : (front : List ObjectDef) (d : ObjectDef) (ds : List ObjectDef) → front ++ d ∷ ds ≡ sys.objects → AllByRecursion (λ x. x.priority < d.priority) front → IsSoundObject sys.charts d → IsObjectWithChart sys d.priority
   unfolding object_at
   named-one front d ds is below o = record {
     object = d;
@@ -64,7 +64,7 @@ module _ (sys : System) (sound : IsSound sys) where
   }
 
   named-from : (front ds : List ObjectDef) → front ++ ds ≡ sys.objects → AllByRecursion (λ d. AllByRecursion (λ x. x.priority < d.priority) front) ds → AllByRecursion (IsSoundObject sys.charts) ds → Ascend ds
-      → AllByRecursion (λ d. IsNamed sys d.priority) ds
+      → AllByRecursion (λ d. IsObjectWithChart sys d.priority) ds
   named-from front [] is below objects ascend = tt
   named-from front (d ∷ ds) is below objects ascend = (
     named-one front d ds is below.0 objects.0,
@@ -84,5 +84,5 @@ module _ (sys : System) (sound : IsSound sys) where
   none-before [] = tt
   none-before (d ∷ ds) = (tt, none-before ds)
 
-  pub named : AllByRecursion (λ d. IsNamed sys d.priority) sys.objects
+  pub named : AllByRecursion (λ d. IsObjectWithChart sys d.priority) sys.objects
   named = named-from [] sys.objects refl (none-before sys.objects) sound.objects sound.ascend

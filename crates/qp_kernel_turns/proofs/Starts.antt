@@ -9,7 +9,7 @@ use Rattle.qp_model.specs.declared.systems.System.{System}
 use Rattle.qp_model.specs.declared.systems.ObjectDef.{ObjectDef}
 use Rattle.qp_model.specs.Acts.{Config}
 use Rattle.qp_model.specs.Course.{Starts, actor, chart_at, first_config}
-use Rattle.qp_model.specs.Ends.{asserted, may_cut}
+use Rattle.qp_model.specs.Ends.{end_asserted, may_cut}
 use Rattle.qp_model.specs.Lawful.{spill_cuts}
 use Rattle.qp_model.specs.Pieces.{Piece, Tell, tell}
 use Rattle.qp_model.specs.Sites.{object_at}
@@ -30,8 +30,8 @@ use Rattle.qp_dispatch.specs.declared.objects.Object.{Object}
 use Rattle.qp_dispatch.specs.declared.steps.Step.{Step}
 use Rattle.qp_dispatch.specs.declared.steps.Step.TheVariants as step
 use Rattle.qp_dispatch.specs.Lasts.{actor_of, config_of}
-use Rattle.qp_dispatch.specs.Objects.{ObjectStarts, StartsAs, home_of, is_done, works_for}
-use Rattle.qp_dispatch.specs.Resume.{IsReady as ObjectReady, held_in}
+use Rattle.qp_dispatch.specs.Objects.{ObjectStarts, StartsAs, home_of, is_step_over, works_for}
+use Rattle.qp_dispatch.specs.Resume.{CanTakeSteps as ObjectReady, held_in}
 use Rattle.qp_dispatch.specs.Runs.{Setting}
 use Rattle.qp_dispatch.specs.Starting.{StartAsserted, StartDone, StartExhausted, StartSpilled, StartsTo}
 use Rattle.qp_kernel.specs.Happenings.{IsInOrder, IsOrderEnded, has_no_stim, lanes_of}
@@ -45,7 +45,7 @@ use Rattle.qp_kernel.proofs.TurnLemmas.{FailedForm, start-failed, start-form}
 use Rattle.qp_kernel_turns.specs.declared.objects.Objects.{Objects}
 use Rattle.qp_kernel_turns.specs.declared.objects.Slot.{Slot}
 use Rattle.qp_kernel_turns.specs.Objects.{IsAt, MayStartAt, Puts, StartsAt}
-use Rattle.qp_kernel_turns.specs.Knowing.{HandsCover, HandsFollow, HasNotStarted, IsNamed, IsObjectOf, KnowsAt, KnowsObject, StageIs, last_is}
+use Rattle.qp_kernel_turns.specs.Knowing.{HandsCover, HandsFollow, HasNotStarted, IsObjectWithChart, IsObjectAt, KnowsAt, KnowsObject, StageIs, last_is}
 use Rattle.qp_kernel_turns.specs.Starting.{GrowsAlong, GrowsAndStops, HasBegun, StartStopped}
 use Rattle.qp_kernel_turns.specs.Turning.{TurnStopped, idle_in}
 use Rattle.qp_kernel_turns.proofs.Ends.{EndsFew, ends-few, ends-so}
@@ -59,7 +59,7 @@ use Rattle.qp_kernel_turns.proofs.Quiet.{IsQuiet, calm-items, cut-quiet, ended-s
 use Rattle.qp_model.proofs.AbleLemmas.{some-same}
 
 -- an object at its start
-module _ (sys : System) (sound : IsSound sys) (terms : Terms) (p : ℕ) (others : List ℕ) (xs : Objects) (v : LaneView) (n : IsNamed sys p) (apart : has others p ≡ false)
+module _ (sys : System) (sound : IsSound sys) (terms : Terms) (p : ℕ) (others : List ℕ) (xs : Objects) (v : LaneView) (n : IsObjectWithChart sys p) (apart : has others p ≡ false)
     (k : KnowsAt (HasBegun sys (p ∷ others)) sys terms 0 [] xs v) where
   abbrev s : KernelState
   s = k.knows.state
@@ -242,7 +242,7 @@ module _ (sys : System) (sound : IsSound sys) (terms : Terms) (p : ℕ) (others 
     named-later : list_all (is_named sys) (held_in later.object.lasting later.object.stage) ≡ true
     named-later = subst (λ es. list_all (is_named sys) es ≡ true) (sym held-later) (subst (λ y. list_all (is_named y) later.object.lasting.list.entries.items ≡ true) (t.grows.sys ∙ k.knows.lane.of) t.stand.named)
 
-    object-w : IsObjectOf sys n.object n.chart later w (stage.Resting c) (length (s.entries p))
+    object-w : IsObjectAt sys n.object n.chart later w (stage.Resting c) (length (s.entries p))
     object-w = record {
       threshold = threshold ∙ its.is.threshold;
       me = ap (λ o. o.me) same ∙ its.is.me;
@@ -439,7 +439,7 @@ module _ (sys : System) (sound : IsSound sys) (terms : Terms) (p : ℕ) (others 
     pub threshold-is : r.later.threshold ≡ its.slot.threshold
     threshold-is = r.threshold ∙ ap (λ z. z.threshold) slot-is
 
-    pub opened : (mid : LaneView) × ((r.later.object ≡ record x { lasting = r.later.object.lasting; started = is_done answer }) × StartsTo home level x.lasting r.later.object.lasting V mid answer) × (w ≡ works_for v.by mid)
+    pub opened : (mid : LaneView) × ((r.later.object ≡ record x { lasting = r.later.object.lasting; started = is_step_over answer }) × StartsTo home level x.lasting r.later.object.lasting V mid answer) × (w ≡ works_for v.by mid)
     opened =
         subst (λ c. (mid : LaneView) × StartsAs c sys level x r.later.object V mid answer × (w ≡ works_for v.by mid)) has-chart
         (subst (λ z. ObjectStarts sys level z.object r.later.object v w answer) slot-is r.starts)
@@ -456,8 +456,8 @@ module _ (sys : System) (sound : IsSound sys) (terms : Terms) (p : ℕ) (others 
   stopped-rows level ys w r threaded = let o = opened level ys w step.Stopped r in by o.0 o.2 o.1.1
     where
       by : (m : LaneView) → w ≡ works_for v.by m → (StartAsserted home x.lasting r.later.object.lasting V m) ⊎ (StartSpilled home x.lasting r.later.object.lasting V m) → idle_in sys terms w.told (has_stim (lanes_of w)) ≤ 0
-      by m w-is (inl a) = let few = ends-few sys terms asserted _ _ _ (asserted-ends r.later.object.lasting m w w-is a asserted refl) threaded in let none = k.at.idle in omega (arith, few, none)
-      by m w-is (inr b) = let few = ends-few sys terms asserted _ _ _ (spilled-ends r.later.object.lasting m w w-is b asserted refl) threaded in let none = k.at.idle in omega (arith, few, none)
+      by m w-is (inl a) = let few = ends-few sys terms end_asserted _ _ _ (asserted-ends r.later.object.lasting m w w-is a end_asserted refl) threaded in let none = k.at.idle in omega (arith, few, none)
+      by m w-is (inr b) = let few = ends-few sys terms end_asserted _ _ _ (spilled-ends r.later.object.lasting m w w-is b end_asserted refl) threaded in let none = k.at.idle in omega (arith, few, none)
 
   pub stopped-start : (level : ℕ) (ys : Objects) (w : LaneView) → StartsAt sys level p xs ys v w step.Stopped → IsInOrder sys 0 v → ((most : Terms) → TurnStopped sys most v w) → ((most : Terms) → most.threaded ≡ true → idle_in sys most w.told (has_stim (lanes_of w)) ≤ 0) → StartStopped sys v w
   stopped-start level ys w r order turn none = let o = opened level ys w step.Stopped r in by o.0 o.2 o.1.1

@@ -28,7 +28,7 @@ use Rattle.qp_kernel.proofs.KernelTurns.{only}
 use Rattle.qp_kernel_turns.specs.declared.objects.Objects.{Objects}
 use Rattle.qp_kernel_turns.specs.declared.objects.Slot.{Slot}
 use Rattle.qp_kernel_turns.specs.Objects.{IsAt, Puts}
-use Rattle.qp_kernel_turns.specs.Knowing.{HandsCover, HasStack, IsObjectOf, KnowsAll, KnowsObject, StageIs, is_paused}
+use Rattle.qp_kernel_turns.specs.Knowing.{HandsCover, HasStack, IsObjectAt, KnowsAll, KnowsObject, StageIs, is_paused}
 use Rattle.qp_kernel_turns.proofs.Places.{get-other, get-put, own-stand}
 
 -- Those that wait.
@@ -98,7 +98,7 @@ stage-still sys d chart x v w (stage.Paused ev e left c) same all waits (g, is, 
     )
 
 pub object-still : (sys : System) (d : ObjectDef) (chart : Chart) (slot : Slot) (v w : LaneView) (s : Stage) (n : ℕ) → w.sys ≡ v.sys
-    → StandAll (held_in slot.object.lasting slot.object.stage) w → may_wait s ≡ true → IsObjectOf sys d chart slot v s n → IsObjectOf sys d chart slot w s n
+    → StandAll (held_in slot.object.lasting slot.object.stage) w → may_wait s ≡ true → IsObjectAt sys d chart slot v s n → IsObjectAt sys d chart slot w s n
 object-still sys d chart slot v w s n same all waits h = record {
   threshold = h.threshold;
   me = h.me;
@@ -126,7 +126,7 @@ pub all-put : (sys : System) (xs ys : Objects) (v w : LaneView) (stages : ℕ �
     → o.priority ≡ p → object_at sys o.priority ≡ Some o → chart_at sys o.chart ≡ Some chart
     → w.sys ≡ v.sys → v.sys ≡ sys → HandsCover ys w → IsAt xs p slot → Puts xs ys p later
     → ((d : ObjectDef) → object_at sys d.priority ≡ Some d → (p == d.priority) ≡ false → may_wait (stages d.priority) ≡ true)
-    → IsObjectOf sys o chart later w s (length es) → KnowsAll sys xs v stages entries → KnowsAll sys ys w (moved stages p s) (having entries p es)
+    → IsObjectAt sys o chart later w s (length es) → KnowsAll sys xs v stages entries → KnowsAll sys ys w (moved stages p s) (having entries p es)
 all-put sys xs ys v w stages entries p o chart slot later s es priority here has same of cover there put waits now all d other found its = by (p == d.priority) refl
   where
     by : (b : Bool) → (p == d.priority) ≡ b → KnowsObject sys d other ys w (cond b s (stages d.priority)) (length (cond b es (entries d.priority)))
@@ -135,7 +135,7 @@ all-put sys xs ys v w stages entries p o chart slot later s es priority here has
         record {
           slot = later;
           there = subst (λ n. slice_get ys.slots.items n ≡ Some (Some later)) (sym equal) (ap (λ zs. slice_get zs p) put ∙ get-put xs.slots.items p (Some slot) (Some later) there);
-          is = only sys p o d chart other (λ x c. IsObjectOf sys x c later w s (length es)) (record { priority = priority; found = here; its = has }) equal found its now;
+          is = only sys p o d chart other (λ x c. IsObjectAt sys x c later w s (length es)) (record { priority = priority; found = here; its = has }) equal found its now;
         }
     by false is =
         let k = all d other found its in

@@ -12,13 +12,13 @@ use Rattle.qp_model.specs.declared.bodies.Entry as model
 use Rattle.qp_model.specs.declared.bodies.Body.TheVariants as body
 use Rattle.qp_model.specs.Acts.{Config}
 use Rattle.qp_model.specs.Course.{actor, chart_at, first_config}
-use Rattle.qp_model.specs.Ends.{asserted, ends_last, is_assert, is_end, may_cut}
+use Rattle.qp_model.specs.Ends.{end_asserted, ends_last, is_assert, is_end, may_cut}
 use Rattle.qp_model.specs.KernelLane.{Ended, Inside, Reading, Setting as Sitting, lane_next, lane_on, unread}
 use Rattle.qp_model.specs.Lawful.{spill_cuts}
 use Rattle.qp_model.specs.Pieces.{Piece, Point, tell}
 use Rattle.qp_model.specs.Sites.{object_at}
 use Rattle.qp_model.specs.Sound.{IsSound}
-use Rattle.qp_model.specs.Step.{GoesOn, Remainder, moment, publishing_left, tasks_left}
+use Rattle.qp_model.specs.Step.{StepGoesOn, Remainder, moment, publishing_left, tasks_left}
 use Rattle.qp_model.specs.Told.{Event, Told, ToldItem, for_object, plain}
 use Rattle.qp_model_order.specs.RunOrder.{has_stim}
 use Rattle.qp_model_order.specs.SourceRun.{untold, untold_all}
@@ -35,8 +35,8 @@ use Rattle.qp_dispatch.specs.Runs.{Setting, hand_of, tasks_in}
 use Rattle.qp_chart.specs.Task.{Task}
 use Rattle.qp_model.specs.Able.{task_able}
 use Rattle.qp_model.specs.Standing.{Advances}
-use Rattle.qp_calls.specs.declared.tokens.Entry.{Entry}
-use Rattle.qp_calls.specs.declared.tokens.Entry.TheVariants as token
+use Rattle.qp_calls.specs.declared.tokens.HeldEntry.{HeldEntry}
+use Rattle.qp_calls.specs.declared.tokens.HeldEntry.TheVariants as token
 use Rattle.std.specs.Option.{option_and_then}
 use Rattle.qp_model.specs.declared.bodies.Body.{Body}
 use Rattle.qp_model.specs.Knowing.{ceiling_after}
@@ -54,7 +54,7 @@ use Rattle.std.proofs.lemmas.List.{length-map, reverse-append}
 use Rattle.qp_chart_compiled.specs.Compiled.{IsCompiled}
 use Rattle.qp_calls.specs.Deferring.{ChangeAlike}
 use Rattle.qp_calls.proofs.NoteLemmas.{last-snoc}
-use Rattle.qp_dispatch.specs.Resume.{IsReady as ObjectReady}
+use Rattle.qp_dispatch.specs.Resume.{CanTakeSteps as ObjectReady}
 use Rattle.qp_dispatch.specs.Resume.{EndsAsserted, EndsSpilled, IsGoing, IsUnderWay, ToEnd, ToPoint, event_in, held_in, left_of, step_entry}
 use Rattle.qp_kernel.specs.Happenings.{lanes_of}
 use Rattle.qp_kernel.specs.Laws.{AllWait, OthersWait}
@@ -79,7 +79,7 @@ use Rattle.qp_kernel.proofs.StageLemmas.{comes-within}
 use Rattle.qp_kernel_turns.specs.declared.objects.Objects.{Objects}
 use Rattle.qp_kernel_turns.specs.declared.objects.Slot.{Slot}
 use Rattle.qp_kernel_turns.specs.Objects.{IsAt, MayResumeAt, Puts, ResumesAt}
-use Rattle.qp_kernel_turns.specs.Knowing.{Descends, HandsCover, HandsFollow, IsInTurn, IsLane, IsNamed, IsObjectOf, IsRunning, Knows, KnowsAt, KnowsObject, MayLook, StageIs, is_busy, is_paused, last_is}
+use Rattle.qp_kernel_turns.specs.Knowing.{Descends, HandsCover, HandsFollow, IsInTurn, IsLane, IsObjectWithChart, IsObjectAt, IsRunning, Knows, KnowsAt, KnowsObject, MayLook, StageIs, is_busy, is_paused, last_is}
 use Rattle.qp_kernel_turns.proofs.Places.{cover-follows, follow-put}
 use Rattle.qp_kernel_turns.proofs.SoundObjects.{able, numbered, ready}
 use Rattle.qp_kernel_turns.proofs.Resting.{PassBy, pass-both, pass-kernel, pass-other}
@@ -125,7 +125,7 @@ left-by home k (standing.Taken (token.Static sig)) o v = refl
 left-by home k (standing.Taken (token.Pool h)) o v = refl
 left-by home k (standing.Within g) o v = refl
 
-stand-by : (es : List Entry) (o : ℕ) (v : LaneView) → StandAll es v → StandAll es (works_for o v)
+stand-by : (es : List HeldEntry) (o : ℕ) (v : LaneView) → StandAll es v → StandAll es (works_for o v)
 stand-by es o v h = record { named = h.named; counts = h.counts }
 
 publishing-by : (u : Option Under) (o : ℕ) (v : LaneView) → IsPublishing u v → IsPublishing u (works_for o v)
@@ -230,8 +230,8 @@ module _ (sys : System) (sound : IsSound sys) (terms : Terms) (looks : ℕ) (fro
   s = k.state
 
   -- the object at the top
-  abbrev n : IsNamed sys p
-  n = (subst (AllByRecursion (IsNamed sys)) at.step.running at.stack.named).0
+  abbrev n : IsObjectWithChart sys p
+  n = (subst (AllByRecursion (IsObjectWithChart sys)) at.step.running at.stack.named).0
 
   abbrev its : KnowsObject sys n.object n.chart xs v (s.stages n.object.priority) (length (s.entries n.object.priority))
   its = k.objects n.object n.chart n.found n.its
@@ -329,11 +329,11 @@ module _ (sys : System) (sound : IsSound sys) (terms : Terms) (looks : ℕ) (fro
   grown : (g : List Told) (mid : LaneView) → Grows g V mid → mid.told ≡ v.told ++ map (for_object p) g
   grown g mid h = h.told ∙ ap (λ o. v.told ++ map (for_object o) g) is-mine
 
-  goes-as : (g : List Piece) (end : Option Config) → GoesOn V.sys (actor_of x.me n.chart x.lasting) (event_in x.stage V) (step_entry x.stage) (left_of home x.lasting x.stage V) (config_of x.lasting) g end
-      → GoesOn sys (actor n.object n.chart) (event_in x.stage V) (step_entry x.stage) (left_of home x.lasting x.stage V) (config_of x.lasting) g end
+  goes-as : (g : List Piece) (end : Option Config) → StepGoesOn V.sys (actor_of x.me n.chart x.lasting) (event_in x.stage V) (step_entry x.stage) (left_of home x.lasting x.stage V) (config_of x.lasting) g end
+      → StepGoesOn sys (actor n.object n.chart) (event_in x.stage V) (step_entry x.stage) (left_of home x.lasting x.stage V) (config_of x.lasting) g end
   goes-as g end h =
-      subst (λ a. GoesOn sys a (event_in x.stage V) (step_entry x.stage) (left_of home x.lasting x.stage V) (config_of x.lasting) g end) is-actor
-      (subst (λ y. GoesOn y (actor_of x.me n.chart x.lasting) (event_in x.stage V) (step_entry x.stage) (left_of home x.lasting x.stage V) (config_of x.lasting) g end) k.lane.of h)
+      subst (λ a. StepGoesOn sys a (event_in x.stage V) (step_entry x.stage) (left_of home x.lasting x.stage V) (config_of x.lasting) g end) is-actor
+      (subst (λ y. StepGoesOn y (actor_of x.me n.chart x.lasting) (event_in x.stage V) (step_entry x.stage) (left_of home x.lasting x.stage V) (config_of x.lasting) g end) k.lane.of h)
 
   now-of : (w : LaneView) → lanes_of w ≡ lanes_of v → s.now ≡ has_stim (lanes_of w)
   now-of w lanes = k.now ∙ ap has_stim (sym lanes)
@@ -459,7 +459,7 @@ module _ (sys : System) (sound : IsSound sys) (terms : Terms) (looks : ℕ) (fro
     }
 
     object-w : (st : Stage) → later.object.lasting.list.entries.capacity ≡ x.lasting.list.entries.capacity → list_all (is_named sys) (held_in later.object.lasting later.object.stage) ≡ true
-        → StageIs sys n.object n.chart later.object w st → IsObjectOf sys n.object n.chart later w st (length (s.entries p))
+        → StageIs sys n.object n.chart later.object w st → IsObjectAt sys n.object n.chart later w st (length (s.entries p))
     object-w st room named here = record {
       threshold = threshold ∙ its.is.threshold;
       me = ap (λ o. o.me) same ∙ its.is.me;
@@ -555,7 +555,7 @@ module _ (sys : System) (sound : IsSound sys) (terms : Terms) (looks : ℕ) (fro
         at = record {
           stack = record {
             started = at.step.started;
-            named = (subst (AllByRecursion (IsNamed sys)) at.step.running at.stack.named).1;
+            named = (subst (AllByRecursion (IsObjectWithChart sys)) at.step.running at.stack.named).1;
             descends = (subst Descends at.step.running at.stack.descends).1;
             rests = λ d found none. rest-of d found none;
             waits = λ o is. subst (λ z. is_paused z ≡ true) (sym (moved-other rested o (apart-of o is))) (at.stack.waits o is);
@@ -746,7 +746,7 @@ module _ (sys : System) (sound : IsSound sys) (terms : Terms) (looks : ℕ) (fro
               why = inl (asserted-code r.later.object.lasting r.later.object.stage mid w (ap (λ u. u.told) is) lanes a);
             },
             asserted-alone r.later.object.lasting r.later.object.stage mid w (ap (λ u. u.told) is) lanes a,
-            λ threaded. stops-few w (ends-few sys terms asserted _ _ _ (asserted-ends r.later.object.lasting r.later.object.stage mid w (ap (λ u. u.told) is) lanes a asserted refl) threaded),
+            λ threaded. stops-few w (ends-few sys terms end_asserted _ _ _ (asserted-ends r.later.object.lasting r.later.object.stage mid w (ap (λ u. u.told) is) lanes a end_asserted refl) threaded),
           )
       by step.Stopped mid (same, inr b) is =
           let lanes : lanes_of w ≡ lanes_of v =
@@ -756,7 +756,7 @@ module _ (sys : System) (sound : IsSound sys) (terms : Terms) (looks : ℕ) (fro
               why = inl (spilled-code r.later.object.lasting r.later.object.stage mid w (ap (λ u. u.told) is) lanes b);
             },
             spilled-alone r.later.object.lasting r.later.object.stage mid w (ap (λ u. u.told) is) lanes b,
-            λ threaded. stops-few w (ends-few sys terms asserted _ _ _ (spilled-ends r.later.object.lasting r.later.object.stage mid w (ap (λ u. u.told) is) lanes b asserted refl) threaded),
+            λ threaded. stops-few w (ends-few sys terms end_asserted _ _ _ (spilled-ends r.later.object.lasting r.later.object.stage mid w (ap (λ u. u.told) is) lanes b end_asserted refl) threaded),
           )
       by step.Memory mid h is = tt
 
@@ -772,7 +772,7 @@ module _ (sys : System) (sound : IsSound sys) (terms : Terms) (looks : ℕ) (fro
         grows-in_order acts sys looks (map (for_object p) g) v w (gains-on g mid w is grows) quiet.lookless (calm-items p g ∙ quiet.calm) (unstim-items p g unstim) h
 
     done-order : (g : List Told) (d : Config) (mid w : LaneView) → w ≡ works_for v.by mid → Grows g V mid
-        → GoesOn V.sys (actor_of x.me n.chart x.lasting) (event_in x.stage V) (step_entry x.stage) (left_of home x.lasting x.stage V) (config_of x.lasting) (tell g) (Some d) → InOrder acts sys looks w
+        → StepGoesOn V.sys (actor_of x.me n.chart x.lasting) (event_in x.stage V) (step_entry x.stage) (left_of home x.lasting x.stage V) (config_of x.lasting) (tell g) (Some d) → InOrder acts sys looks w
     done-order g d mid w is grows goes =
         let form = done-form sys (actor n.object n.chart) (event_in x.stage V) (step_entry x.stage) (left_of home x.lasting x.stage V) (config_of x.lasting) closing g d (goes-as (tell g) (Some d) goes) in
         goes-quiet g mid w is grows (subst (IsQuiet p) (sym form.whole) (done-quiet p form.front form.rel form.own form.calm form.drops)) form.unstim
@@ -784,7 +784,7 @@ module _ (sys : System) (sound : IsSound sys) (terms : Terms) (looks : ℕ) (fro
     point-order g due d mid w is grows advances able-due =
         let rest = goes_on-completes sys (actor n.object n.chart) (event_in x.stage V) (step_entry x.stage) due d able-due.able able-due.room in
         let inside = point-inner sys (actor n.object n.chart) (event_in x.stage V) (step_entry x.stage) (left_of home x.lasting x.stage V) (config_of x.lasting) closing g rest.0 rest.1
-        (subst (λ ps. GoesOn sys (actor n.object n.chart) (event_in x.stage V) (step_entry x.stage) (left_of home x.lasting x.stage V) (config_of x.lasting) ps rest.1) (append_assoc (tell g) (Point ∷ []) rest.0) (advances rest.0 rest.1 rest.2)) in
+        (subst (λ ps. StepGoesOn sys (actor n.object n.chart) (event_in x.stage V) (step_entry x.stage) (left_of home x.lasting x.stage V) (config_of x.lasting) ps rest.1) (append_assoc (tell g) (Point ∷ []) rest.0) (advances rest.0 rest.1 rest.2)) in
         goes-quiet g mid w is grows (record { calm = inner-calm g inside; lookless = own-lookless p g (inner-own g inside) }) (inner-unstim g inside)
 
     asserted-order : (y : Lasting) (z : Position) (mid w : LaneView) → w ≡ works_for v.by mid → EndsAsserted home x.lasting x.stage y z V mid → StopsInOrder acts sys v w
@@ -802,7 +802,7 @@ module _ (sys : System) (sound : IsSound sys) (terms : Terms) (looks : ℕ) (fro
         gains : Gains (map (for_object p) b.g) v (works_for v.by b.mid)
         gains = gains-on b.g b.mid (works_for v.by b.mid) refl b.grows
 
-        goes : GoesOn sys (actor n.object n.chart) (event_in x.stage V) (step_entry x.stage) (left_of home x.lasting x.stage V) (config_of x.lasting) (tell b.g ++ b.begins.0) b.begins.1
+        goes : StepGoesOn sys (actor n.object n.chart) (event_in x.stage V) (step_entry x.stage) (left_of home x.lasting x.stage V) (config_of x.lasting) (tell b.g ++ b.begins.0) b.begins.1
         goes = goes-as (tell b.g ++ b.begins.0) b.begins.1 b.begins.2
 
         calm-b : list_any (λ t. is_end t.body) b.g ≡ false

@@ -15,22 +15,22 @@ use Rattle.qp_model.specs.KernelLane.{Chosen, Inside}
 use Rattle.qp_model.specs.Sites.{object_at}
 use Rattle.qp_model.specs.Sound.{IsSound}
 use Rattle.qp_model.specs.Step.{whole_step}
-use Rattle.qp_model.specs.Told.{Event, ToldItem, for_object, plain, taken}
+use Rattle.qp_model.specs.Told.{Event, ToldItem, for_object, plain, told_took}
 use Rattle.qp_model_order.specs.RunOrder.{has_stim}
 use Rattle.qp_calls.specs.Clauses.{EventIs, TakesIt, entry_of}
 use Rattle.qp_calls.specs.Counting.{count_of}
 use Rattle.qp_calls.specs.Deferring.{ChangeAlike, StandAll, is_named, tokens_in}
 use Rattle.qp_calls.specs.LaneView.{LaneView, ceiling_in}
 use Rattle.qp_calls.specs.Notes.{spills_told}
-use Rattle.qp_calls.specs.declared.tokens.Entry.{Entry}
-use Rattle.qp_calls.specs.declared.tokens.Entry.TheVariants as token
+use Rattle.qp_calls.specs.declared.tokens.HeldEntry.{HeldEntry}
+use Rattle.qp_calls.specs.declared.tokens.HeldEntry.TheVariants as token
 use Rattle.qp_calls.proofs.CountLemmas.{count-with, tokens-append, taken-hands}
 use Rattle.qp_calls.proofs.NoteLemmas.{ceiling-append}
 use Rattle.qp_dispatch.specs.declared.lasting.Lasting.{Lasting}
 use Rattle.qp_dispatch.specs.declared.steps.Position.TheVariants as standing
 use Rattle.qp_dispatch.specs.Lasts.{actor_of, config_of}
 use Rattle.qp_dispatch.specs.Objects.{BeginsStep, home_of}
-use Rattle.qp_dispatch.specs.Resume.{IsTaken, event_at, held_in}
+use Rattle.qp_dispatch.specs.Resume.{IsTaken, event_in_hand, held_in}
 use Rattle.qp_dispatch.proofs.Quiet.{spills-append}
 use Rattle.qp_dispatch.proofs.Taking.{taken-is}
 use Rattle.qp_kernel.specs.Happenings.{lanes_of}
@@ -42,7 +42,7 @@ use Rattle.qp_kernel_turns.specs.BaseRows.{HasStep, InRow, SameRow, reading_in}
 use Rattle.qp_kernel_turns.specs.declared.objects.Objects.{Objects}
 use Rattle.qp_kernel_turns.specs.declared.objects.Slot.{Slot}
 use Rattle.qp_kernel_turns.specs.Objects.{IsAt, IsPut}
-use Rattle.qp_kernel_turns.specs.Knowing.{HandsCover, HandsFollow, IsAtRest, IsInTurn, IsLane, IsNamed, IsObjectOf, IsRunning, IsScanning, Knows, KnowsAt, KnowsObject, StageIs, is_busy, is_paused}
+use Rattle.qp_kernel_turns.specs.Knowing.{HandsCover, HandsFollow, IsAtRest, IsInTurn, IsLane, IsObjectWithChart, IsObjectAt, IsRunning, IsScanning, Knows, KnowsAt, KnowsObject, StageIs, is_busy, is_paused}
 use Rattle.qp_kernel_turns.proofs.BaseRows.{reading-is}
 use Rattle.qp_kernel_turns.proofs.Ends.{EndsFew}
 use Rattle.qp_kernel_turns.proofs.Places.{cover-follows, follow-put, own-stand}
@@ -62,7 +62,7 @@ resting-is (stage.Paused ev e left c) h = absurd (cc)
 pub self-moved : (stages : ℕ → Stage) (p : ℕ) (s : Stage) → moved stages p s p ≡ s
 self-moved stages p s = let self : (p == p) ≡ true = grind (arith, nat_tests) in rw self refl
 
-pub taken-alike : (k : Lasting) (me : ℕ) (e : Entry) (v w : LaneView) → TakesIt me e v w → ChangeAlike (map entry_of (held_in k standing.Between)) (map entry_of (held_in k (standing.Taken e))) v w
+pub taken-alike : (k : Lasting) (me : ℕ) (e : HeldEntry) (v w : LaneView) → TakesIt me e v w → ChangeAlike (map entry_of (held_in k standing.Between)) (map entry_of (held_in k (standing.Taken e))) v w
 taken-alike k me e v w t x =
     let hands : count_of x w.hands ≡ _ = ap (count_of x) (taken-hands me e v w t) ∙ count-with x (entry_of e) v.hands in
     let old : count_of x (tokens_in (map entry_of (k.list.entries.items ++ []))) ≡ count_of x (tokens_in (map entry_of k.list.entries.items)) = ap (λ es. count_of x (tokens_in (map entry_of es))) (append-nil k.list.entries.items) in
@@ -70,21 +70,21 @@ taken-alike k me e v w t x =
     ap (λ es. count_of x (tokens_in es)) (map-append entry_of k.list.entries.items (e ∷ [])) ∙ tokens-append x (map entry_of k.list.entries.items) (entry_of e) in
     omega (arith, hands, old, new)
 
-pub event-is : (e : Entry) (w : LaneView) → EventIs e w → w.event (entry_of e) ≡ event_at e w
+pub event-is : (e : HeldEntry) (w : LaneView) → EventIs e w → w.event (entry_of e) ≡ event_in_hand e w
 unfolding entry_of
 event-is (token.Static sig) w h = h
 event-is (token.Pool x) w h = refl
 
-pub took-ceiling : (told : List ToldItem) (f l m : ℕ) (e : model.Entry) (ev : Event) (p : ℕ) → ceiling_in 0 (told ++ for_object p (taken f l m e ev) ∷ []) ≡ ceiling_in 0 told
+pub took-ceiling : (told : List ToldItem) (f l m : ℕ) (e : model.Entry) (ev : Event) (p : ℕ) → ceiling_in 0 (told ++ for_object p (told_took f l m e ev) ∷ []) ≡ ceiling_in 0 told
 unfolding ceiling_in
-took-ceiling told f l m e ev p = ceiling-append 0 told (for_object p (taken f l m e ev) ∷ [])
+took-ceiling told f l m e ev p = ceiling-append 0 told (for_object p (told_took f l m e ev) ∷ [])
 
-took-spills : (told : List ToldItem) (f l m : ℕ) (e : model.Entry) (ev : Event) (p : ℕ) → spills_told told ≡ false → spills_told (told ++ for_object p (taken f l m e ev) ∷ []) ≡ false
-took-spills told f l m e ev p none = spills-append p told (taken f l m e ev ∷ []) none refl
+took-spills : (told : List ToldItem) (f l m : ℕ) (e : model.Entry) (ev : Event) (p : ℕ) → spills_told told ≡ false → spills_told (told ++ for_object p (told_took f l m e ev) ∷ []) ≡ false
+took-spills told f l m e ev p none = spills-append p told (told_took f l m e ev ∷ []) none refl
 
 module _ (sys : System) (sound : IsSound sys) (terms : Terms) (looks : ℕ) (stack : List ℕ) (xs : Objects) (v : LaneView) (p : ℕ) (others : List ℕ) (f l m : ℕ)
     (k : Knows sys terms looks stack xs v) (at : IsScanning sys terms (p ∷ others) k.state) (some : m < f + l) where
-  abbrev n : IsNamed sys p
+  abbrev n : IsObjectWithChart sys p
   n = at.above.0.0
 
   abbrev s : KernelState
@@ -145,7 +145,7 @@ module _ (sys : System) (sound : IsSound sys) (terms : Terms) (looks : ℕ) (sta
   found-stands = entry_is_seen sys terms s p others f l m (numbered sys sound) k.stands at.owed at.stack.started (looks-at sys sound terms looks stack xs v v p others f l m k at refl) some
 
   -- it takes its entry up
-  module _ (w z : LaneView) (e : Entry) (ys : Objects) (later : Slot) (seen : w.told ≡ v.told ++ seen_told p f l m ∷ []) (same-hands : w.hands ≡ v.hands) (same-sys : w.sys ≡ v.sys) (lanes-w : lanes_of w ≡ lanes_of v)
+  module _ (w z : LaneView) (e : HeldEntry) (ys : Objects) (later : Slot) (seen : w.told ≡ v.told ++ seen_told p f l m ∷ []) (same-hands : w.hands ≡ v.hands) (same-sys : w.sys ≡ v.sys) (lanes-w : lanes_of w ≡ lanes_of v)
       (lane-w : IsLane sys xs.ceiling w) (takes : TakesIt p e w z) (few : its.slot.object.taken < terms.budget) (put : IsPut xs ys p later) (threshold : later.threshold ≡ its.slot.threshold)
       (begins : BeginsStep e its.slot.object later.object) where
     abbrev c : Config
@@ -162,7 +162,7 @@ module _ (sys : System) (sound : IsSound sys) (terms : Terms) (looks : ℕ) (sta
 
     abbrev after : KernelState
     after = record found {
-      told = found.told ++ for_object p (taken takes.f takes.l takes.m (entry_of e) ev) ∷ [];
+      told = found.told ++ for_object p (told_took takes.f takes.l takes.m (entry_of e) ev) ∷ [];
       reading = record (found.reading) { running = p ∷ s.reading.running; place = Inside; stepped = true };
       stages = moved s.stages p begun;
       entries = having s.entries p taken-up;
@@ -211,14 +211,14 @@ module _ (sys : System) (sound : IsSound sys) (terms : Terms) (looks : ℕ) (sta
       config = at-rest.config;
     })
       where
-        lefts : whole_step (actor n.object n.chart) c ev ≡ whole_step (actor_of its.slot.object.me n.chart its.slot.object.lasting) (config_of its.slot.object.lasting) (event_at e z)
+        lefts : whole_step (actor n.object n.chart) c ev ≡ whole_step (actor_of its.slot.object.me n.chart its.slot.object.lasting) (config_of its.slot.object.lasting) (event_in_hand e z)
         lefts =
             ap (λ o. whole_step (record { o = o; chart = n.chart; room = n.object.defer }) c ev) (sym its.is.me)
             ∙ ap (λ r. whole_step (record { o = its.slot.object.me; chart = n.chart; room = r }) c ev) (sym its.is.room)
             ∙ ap (λ x. whole_step (actor_of its.slot.object.me n.chart its.slot.object.lasting) x ev) at-rest.config
             ∙ ap (λ x. whole_step (actor_of its.slot.object.me n.chart its.slot.object.lasting) (config_of its.slot.object.lasting) x) (event-is e z takes.fixed)
 
-    object-later : IsObjectOf sys n.object n.chart later z begun (length taken-up)
+    object-later : IsObjectAt sys n.object n.chart later z begun (length taken-up)
     object-later = record {
       threshold = threshold ∙ its.is.threshold;
       me = rw begins its.is.me;
@@ -249,8 +249,8 @@ module _ (sys : System) (sound : IsSound sys) (terms : Terms) (looks : ℕ) (sta
 
     told-after : after.told ≡ z.told
     told-after =
-        ap (λ ts. (ts ++ seen_told p f l m ∷ []) ++ for_object p (taken takes.f takes.l takes.m (entry_of e) ev) ∷ []) k.told
-        ∙ ap (λ ts. ts ++ for_object p (taken takes.f takes.l takes.m (entry_of e) ev) ∷ []) (sym seen) ∙ sym takes.adds.grows.told
+        ap (λ ts. (ts ++ seen_told p f l m ∷ []) ++ for_object p (told_took takes.f takes.l takes.m (entry_of e) ev) ∷ []) k.told
+        ∙ ap (λ ts. ts ++ for_object p (told_took takes.f takes.l takes.m (entry_of e) ev) ∷ []) (sym seen) ∙ sym takes.adds.grows.told
 
     now-after : s.now ≡ has_stim (lanes_of z)
     now-after = k.now ∙ ap has_stim (sym lanes-z)
@@ -291,7 +291,7 @@ module _ (sys : System) (sound : IsSound sys) (terms : Terms) (looks : ℕ) (sta
         owed = at.owed;
         step = record { started = at.stack.started; running = refl; inside = refl };
         under_way = ap is_busy (self-moved s.stages p begun);
-        behind = λ none. last-told p (s.told ++ seen_told p f l m ∷ []) (taken takes.f takes.l takes.m (entry_of e) ev);
+        behind = λ none. last-told p (s.told ++ seen_told p f l m ∷ []) (told_took takes.f takes.l takes.m (entry_of e) ev);
       };
     }
       where

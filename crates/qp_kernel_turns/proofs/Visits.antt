@@ -8,12 +8,12 @@ use Rattle.qp_model.specs.declared.systems.ObjectDef.{ObjectDef}
 use Rattle.qp_model.specs.declared.record.Rec.{Rec}
 use Rattle.qp_model.specs.declared.bodies.Body.TheVariants as body
 use Rattle.qp_model.specs.Record.{item_of}
-use Rattle.qp_model.specs.Ends.{asserted}
+use Rattle.qp_model.specs.Ends.{end_asserted}
 use Rattle.qp_model.specs.Sound.{IsSound}
 use Rattle.qp_model.specs.Told.{for_object, plain}
 use Rattle.qp_model.specs.WordLaw.{is_object}
 use Rattle.qp_calls.specs.declared.answers.Counts.{Counts}
-use Rattle.qp_calls.specs.declared.tokens.Entry.{Entry}
+use Rattle.qp_calls.specs.declared.tokens.HeldEntry.{HeldEntry}
 use Rattle.qp_calls.specs.LaneView.{GrowsOf, LaneView, Roomier, ceiling_in}
 use Rattle.qp_calls.specs.Clauses.{Sees, Stops, TakesIt}
 use Rattle.qp_calls.specs.Notes.{MayStop, last_code, spills_told, told_note}
@@ -24,13 +24,13 @@ use Rattle.qp_dispatch.specs.Objects.{BeginsStep}
 use Rattle.qp_kernel.specs.Happenings.{lanes_of}
 use Rattle.qp_kernel.specs.Turning.{seen_told, Terms}
 use Rattle.qp_kernel_turns.specs.declared.objects.Objects.{Objects}
-use Rattle.qp_kernel_turns.specs.Objects.{BeginsAt, MayBeginAt, taken_in, taken_there}
-use Rattle.qp_kernel_turns.specs.Knowing.{Descends, IsAbove, IsLane, IsNamed, IsRunning, IsScanning, KnowsAt}
+use Rattle.qp_kernel_turns.specs.Objects.{BeginsAt, MayBeginAt, taken_up_by, taken_there}
+use Rattle.qp_kernel_turns.specs.Knowing.{Descends, IsAbove, IsLane, IsObjectWithChart, IsRunning, IsScanning, KnowsAt}
 use Rattle.qp_model_order.specs.RunOrder.{has_stim}
 use Rattle.qp_kernel_turns.specs.declared.halting.Halt.{Halt}
 use Rattle.qp_kernel_turns.specs.declared.halting.Halt.TheVariants as halt
 use Rattle.qp_kernel_turns.specs.BaseRows.{HasStep, InRow, reading_in}
-use Rattle.qp_kernel_turns.specs.Halting.{Halts}
+use Rattle.qp_kernel_turns.specs.Halting.{TurnHalts}
 use Rattle.qp_kernel_turns.specs.TurnRows.{FewRows, RowStops, bare_row, idle_rows}
 use Rattle.qp_kernel_turns.specs.Turning.{Entered, Passed, Stand, Stood, TurnStopped, row_below}
 use Rattle.qp_kernel_turns.proofs.Places.{follow-none}
@@ -59,7 +59,7 @@ seen-goes p c v v1 v2 room sees none =
       spills = rw told (spills-append 0 v.told (plain (body.Seen p c.f c.l c.m) ∷ []) none refl);
     }
 
-pub depth : (sys : System) → IsSound sys → (p : ℕ) (qs : List ℕ) → 0 < p → AllByRecursion (IsNamed sys) qs → Descends qs → IsAbove p qs → length qs < p
+pub depth : (sys : System) → IsSound sys → (p : ℕ) (qs : List ℕ) → 0 < p → AllByRecursion (IsObjectWithChart sys) qs → Descends qs → IsAbove p qs → length qs < p
 depth sys sound p [] some names descends above = some
 depth sys sound p (q ∷ qs) some names descends above =
     let n = names.0 in
@@ -112,7 +112,7 @@ module _ (sys : System) (sound : IsSound sys) (terms : Terms) (a : Stand) (floor
         let its = idle-reads sys terms u in
         few-more sys terms here.knows.state.reading.idle (idle_rows sys terms u + bare_row sys) w h (omega (arith, own, its)) few
 
-    pub halted-row : (u w : LaneView) (h : Halt) → InRow sys terms (row_below sys floor (place + 1)) u a.lane → Halts a.lane w h → RowStops sys terms u w h
+    pub halted-row : (u w : LaneView) (h : Halt) → InRow sys terms (row_below sys floor (place + 1)) u a.lane → TurnHalts a.lane w h → RowStops sys terms u w h
     halted-row u w h r halts =
         row-stops u w h r (halts-few sys sound terms here.knows.state a.lane w h here.knows.told here.knows.stands here.knows.now here.at.stack.started (all-wait sys here.knows.state here.at.stack) halts)
 
@@ -142,11 +142,11 @@ module _ (sys : System) (sound : IsSound sys) (terms : Terms) (a : Stand) (floor
 
       module _ (some : c.m < c.f + c.l) where
         -- the object's count of entries
-        pub its-count : (count : ℕ) → count ≡ taken_in a.objects.slots.items o.priority
+        pub its-count : (count : ℕ) → count ≡ taken_up_by a.objects.slots.items o.priority
             → count ≡ (here.knows.objects here.at.above.0.0.object here.at.above.0.0.chart here.at.above.0.0.found here.at.above.0.0.its).slot.object.taken
         its-count count is = is ∙ ap taken_there (at-place sys sound terms a.looks a.stack a.objects a.lane o.priority (row_below sys floor place) c.f c.l c.m here.knows here.at some)
 
-        pub may-begin : (count : ℕ) → count ≡ taken_in a.objects.slots.items o.priority → count < terms.budget → terms.budget ≤ 1000000 → MayBeginAt o.priority a.objects
+        pub may-begin : (count : ℕ) → count ≡ taken_up_by a.objects.slots.items o.priority → count < terms.budget → terms.budget ≤ 1000000 → MayBeginAt o.priority a.objects
         may-begin count is few most =
             let rest = at-rest sys sound terms a.looks a.stack a.objects a.lane o.priority (row_below sys floor place) c.f c.l c.m here.knows here.at some in
             let same = its-count count is in
@@ -166,7 +166,7 @@ module _ (sys : System) (sound : IsSound sys) (terms : Terms) (a : Stand) (floor
             ∙ append_assoc a.lane.told (seen_told o.priority c.f c.l c.m ∷ []) (for_object o.priority (plain body.Spent) ∷ [])
 
         -- its budget is reached
-        pub spent-stops : (count : ℕ) (r : Rec) (v3 v4 : LaneView) → count ≡ taken_in a.objects.slots.items o.priority → terms.budget ≤ count → item_of r ≡ record { of = o.priority; body = body.Spent }
+        pub spent-stops : (count : ℕ) (r : Rec) (v3 v4 : LaneView) → count ≡ taken_up_by a.objects.slots.items o.priority → terms.budget ≤ count → item_of r ≡ record { of = o.priority; body = body.Spent }
             → GrowsOf r.of (told_note r v2) v2 v3 → Stops 6 v3 v4 → TurnStopped sys terms a.lane v4
         unfolding last_code
         spent-stops count r v3 v4 is full note grown stops =
@@ -179,14 +179,14 @@ module _ (sys : System) (sound : IsSound sys) (terms : Terms) (a : Stand) (floor
               why = inl (rw (ap (λ u. u.told) stops, spent.told, last-snoc v2.told (for_object o.priority (plain body.Spent))) (omega arith));
             }
 
-        pub spent-row : (count : ℕ) (r : Rec) (v3 v4 : LaneView) → count ≡ taken_in a.objects.slots.items o.priority → terms.budget ≤ count → item_of r ≡ record { of = o.priority; body = body.Spent }
+        pub spent-row : (count : ℕ) (r : Rec) (v3 v4 : LaneView) → count ≡ taken_up_by a.objects.slots.items o.priority → terms.budget ≤ count → item_of r ≡ record { of = o.priority; body = body.Spent }
             → GrowsOf r.of (told_note r v2) v2 v3 → Stops 6 v3 v4 → (u : LaneView) → InRow sys terms (row_below sys floor (place + 1)) u a.lane → RowStops sys terms u v4 halt.Stopped
         spent-row count r v3 v4 is full note grown stops u row =
             let spent : GrowsOf o.priority (plain body.Spent ∷ []) v2 v3 = noted o.priority body.Spent r v2 v3 note grown in
             let same = its-count count is in
             let still : lanes_of v4 ≡ lanes_of a.lane = same-lanes v2 v4 (ap (λ u. u.plan) stops ∙ spent.plan) (ap (λ u. u.happened) stops ∙ spent.happened) ∙ lanes in
-            row-stops u v4 halt.Stopped row (λ threaded. ends-few sys terms asserted _ _ _
-            (spent-ends sys sound terms a.looks a.stack a.objects a.lane o.priority (row_below sys floor place) c.f c.l c.m here.knows here.at some v4 still (omega (arith, same, full)) (spent-told r v3 v4 note grown stops) asserted refl) threaded)
+            row-stops u v4 halt.Stopped row (λ threaded. ends-few sys terms end_asserted _ _ _
+            (spent-ends sys sound terms a.looks a.stack a.objects a.lane o.priority (row_below sys floor place) c.f c.l c.m here.knows here.at some v4 still (omega (arith, same, full)) (spent-told r v3 v4 note grown stops) end_asserted refl) threaded)
 
         pub may-stop : (r : Rec) (v3 : LaneView) → item_of r ≡ record { of = o.priority; body = body.Spent } → GrowsOf r.of (told_note r v2) v2 v3 → MayStop 6 v3
         may-stop r v3 note grown =
@@ -208,14 +208,14 @@ module _ (sys : System) (sound : IsSound sys) (terms : Terms) (a : Stand) (floor
         pub found-row : (code : ℕ) (v3 : LaneView) → v3 ≡ record v2 { answered = code ∷ v2.answered } → (u : LaneView) → InRow sys terms (row_below sys floor (place + 1)) u a.lane → RowStops sys terms u v3 halt.Stopped
         found-row code v3 is u row =
             let k = here.knows in
-            row-stops u v3 halt.Stopped row (λ threaded. ends-few sys terms asserted _ _ _
+            row-stops u v3 halt.Stopped row (λ threaded. ends-few sys terms end_asserted _ _ _
             (stops-elsewhere sys sound terms (found sys sound terms a.looks a.stack a.objects a.lane o.priority (row_below sys floor place) c.f c.l c.m k here.at some) v2 v3
             (ap (λ ts. ts ++ seen_told o.priority c.f c.l c.m ∷ []) k.told ∙ sym goes.told)
             (found-stands sys sound terms a.looks a.stack a.objects a.lane o.priority (row_below sys floor place) c.f c.l c.m k here.at some)
-            (k.now ∙ ap has_stim (sym lanes)) here.at.stack.started (all-wait sys k.state here.at.stack) (ap (λ u. u.plan) is) (ap (λ u. u.happened) is) (ap (λ u. u.told) is) asserted refl) threaded)
+            (k.now ∙ ap has_stim (sym lanes)) here.at.stack.started (all-wait sys k.state here.at.stack) (ap (λ u. u.plan) is) (ap (λ u. u.happened) is) (ap (λ u. u.told) is) end_asserted refl) threaded)
 
         -- its step begins
-        pub step-enters : (count : ℕ) (v3 v4 : LaneView) (e : Entry) (ys : Objects) (stack : List ℕ) → count ≡ taken_in a.objects.slots.items o.priority → count < terms.budget → v3 ≡ v2 → TakesIt o.priority e v3 v4
+        pub step-enters : (count : ℕ) (v3 v4 : LaneView) (e : HeldEntry) (ys : Objects) (stack : List ℕ) → count ≡ taken_up_by a.objects.slots.items o.priority → count < terms.budget → v3 ≡ v2 → TakesIt o.priority e v3 v4
             → BeginsAt o.priority e a.objects ys → stack ≡ a.stack ++ o.priority ∷ [] → Entered sys terms a (record { looks = a.looks; stack = stack; objects = ys; lane = v4 })
         step-enters count v3 v4 e ys stack is few still takes begins pushed =
             let k = here.knows in
@@ -249,7 +249,7 @@ module _ (sys : System) (sound : IsSound sys) (terms : Terms) (a : Stand) (floor
               };
             }
 
-        pub enters-row : (count : ℕ) (v3 v4 : LaneView) (e : Entry) (ys : Objects) → count ≡ taken_in a.objects.slots.items o.priority → count < terms.budget → v3 ≡ v2 → TakesIt o.priority e v3 v4
+        pub enters-row : (count : ℕ) (v3 v4 : LaneView) (e : HeldEntry) (ys : Objects) → count ≡ taken_up_by a.objects.slots.items o.priority → count < terms.budget → v3 ≡ v2 → TakesIt o.priority e v3 v4
             → BeginsAt o.priority e a.objects ys → (u : LaneView) → InRow sys terms (row_below sys floor (place + 1)) u a.lane → HasStep (reading_in sys terms u) (reading_in sys terms v4)
         enters-row count v3 v4 e ys is few still takes begins u row =
             let k = here.knows in

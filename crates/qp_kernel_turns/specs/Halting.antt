@@ -12,9 +12,9 @@ pub record FindsStop (v w : LaneView) : Type 0 where
   pub code : ℕ
   pub answered : w ≡ record v { answered = code ∷ v.answered }
 
-abbrev pub Halts : LaneView → LaneView → Halt → Type 0
-Halts v w halt.Stopped = FindsStop v w ⊎ HaltsFull v w
-Halts v w halt.Memory = HaltsDry v w
+abbrev pub TurnHalts : LaneView → LaneView → Halt → Type 0
+TurnHalts v w halt.Stopped = FindsStop v w ⊎ HaltsFull v w
+TurnHalts v w halt.Memory = HaltsDry v w
 
 -- the stop word wasn't set, by no lane of the world, and there is room for eight records
 pub record IsReadied (v w : LaneView) : Type 0 where
@@ -24,4 +24,4 @@ pub record IsReadied (v w : LaneView) : Type 0 where
 
 abbrev pub Readies : LaneView → LaneView → Result (Unit {0}) Halt → Type 0
 Readies v w (Ok u) = IsReadied v w
-Readies v w (Err h) = Halts v w h
+Readies v w (Err h) = TurnHalts v w h

@@ -92,7 +92,7 @@ StageIs sys d chart x v (stage.Paused ev e left c) =
     (g : Going) × (x.stage ≡ standing.Within g) × IsInTurn (home_of sys chart x) ev e left c x v
 
 -- an object of the system, with its chart, at this stage and with so many entries taken up
-pub record IsObjectOf (sys : System) (d : ObjectDef) (chart : Chart) (slot : Slot) (v : LaneView) (s : Stage) (count : ℕ) : Type 0 where
+pub record IsObjectAt (sys : System) (d : ObjectDef) (chart : Chart) (slot : Slot) (v : LaneView) (s : Stage) (count : ℕ) : Type 0 where
   pub threshold : slot.threshold ≡ d.threshold
   pub me : slot.object.me ≡ d.priority
   pub of : slot.object.chart ≡ d.chart
@@ -105,7 +105,7 @@ pub record IsObjectOf (sys : System) (d : ObjectDef) (chart : Chart) (slot : Slo
 pub record KnowsObject (sys : System) (d : ObjectDef) (chart : Chart) (xs : Objects) (v : LaneView) (s : Stage) (count : ℕ) : Type 0 where
   pub slot : Slot
   pub there : IsAt xs d.priority slot
-  pub is : IsObjectOf sys d chart slot v s count
+  pub is : IsObjectAt sys d chart slot v s count
 
 -- each object of the system
 abbrev pub KnowsAll : System → Objects → LaneView → (ℕ → Stage) → (ℕ → List model.Entry) → Type 0
@@ -168,7 +168,7 @@ is_busy (stage.Paused ev e left c) = true
 is_busy _ = false
 
 -- an object of the system, with its chart
-pub record IsNamed (sys : System) (p : ℕ) : Type 0 where
+pub record IsObjectWithChart (sys : System) (p : ℕ) : Type 0 where
   pub object : ObjectDef
   pub chart : Chart
   pub is : object.priority ≡ p
@@ -179,7 +179,7 @@ pub record IsNamed (sys : System) (p : ℕ) : Type 0 where
 -- scheduling point, and all others rest
 pub record HasStack (sys : System) (waiting : List ℕ) (s : KernelState) : Type 0 where
   pub started : s.reading.unstarted ≡ []
-  pub named : AllByRecursion (IsNamed sys) s.reading.running
+  pub named : AllByRecursion (IsObjectWithChart sys) s.reading.running
   pub descends : Descends s.reading.running
   pub rests : (d : ObjectDef) → object_at sys d.priority ≡ Some d → has s.reading.running d.priority ≡ false → is_resting (s.stages d.priority) ≡ true
   pub waits : (o : ℕ) → has waiting o ≡ true → is_paused (s.stages o) ≡ true
@@ -197,7 +197,7 @@ pub record IsScanning (sys : System) (terms : Terms) (others : List ℕ) (s : Ke
   pub here : Reading
   pub same : s.reading ≡ looking_at (setting sys (kernel_in terms) s.now) here others
   pub counted : here.looks ≡ s.upto
-  pub above : AllByRecursion (λ p. IsNamed sys p × IsAbove p s.reading.running) others
+  pub above : AllByRecursion (λ p. IsObjectWithChart sys p × IsAbove p s.reading.running) others
 
 -- the last record is of p
 abbrev pub last_is : ℕ → List ToldItem → Bool

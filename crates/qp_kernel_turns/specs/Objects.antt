@@ -4,7 +4,7 @@ use Rattle.std.specs.declared.option.Option.{Option}
 use Rattle.qp_model.specs.declared.systems.System.{System}
 use Rattle.qp_model.specs.declared.systems.ObjectDef.{ObjectDef}
 use Rattle.qp_model.specs.Sites.{object_at}
-use Rattle.qp_calls.specs.declared.tokens.Entry.{Entry}
+use Rattle.qp_calls.specs.declared.tokens.HeldEntry.{HeldEntry}
 use Rattle.qp_calls.specs.LaneView.{LaneView}
 use Rattle.qp_dispatch.specs.declared.steps.Position.TheVariants as standing
 use Rattle.qp_dispatch.specs.declared.steps.Step.{Step}
@@ -48,7 +48,7 @@ pub record MayBeginAt (p : ℕ) (xs : Objects) : Type 0 where
   pub started : slot.object.started ≡ true
   pub few : slot.object.taken < 1000000
 
-pub record BeginsAt (p : ℕ) (e : Entry) (xs ys : Objects) : Type 0 where
+pub record BeginsAt (p : ℕ) (e : HeldEntry) (xs ys : Objects) : Type 0 where
   pub slot : Slot
   pub later : Slot
   pub there : IsAt xs p slot
@@ -90,8 +90,8 @@ abbrev pub taken_there : Option (Option Slot) → ℕ
 taken_there (Some (Some slot)) = slot.object.taken
 taken_there _ = 0
 
-abbrev pub taken_in : List (Option Slot) → ℕ → ℕ
-taken_in slots p = taken_there (slice_get slots p)
+abbrev pub taken_up_by : List (Option Slot) → ℕ → ℕ
+taken_up_by slots p = taken_there (slice_get slots p)
 
 abbrev pub threshold_there : Option (Option Slot) → ℕ
 threshold_there (Some (Some slot)) = slot.threshold

@@ -22,7 +22,7 @@ use Rattle.qp_kernel_turns.specs.Knowing.{HandsFollow, KnowsAt, MayLook}
 use Rattle.qp_kernel_turns.specs.Turning.{TurnStopped, idle_in}
 
 -- a lane of the system that has done nothing yet, and serves all objects
-pub record IsFresh (sys : System) (v : LaneView) : Type 0 where
+pub record IsFreshLane (sys : System) (v : LaneView) : Type 0 where
   pub new : IsNew v
   pub of : v.sys ≡ sys
   pub serves : (d : ObjectDef) → object_at sys d.priority ≡ Some d → v.serves d.priority ≡ true

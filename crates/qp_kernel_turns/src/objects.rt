@@ -1,10 +1,10 @@
 //! The objects of a system, by priority.
 
 ghost use Rattle.std.specs.Prelude.{◌≡◌, IfOk};
-ghost use Rattle.qp_kernel_turns.specs.Objects.{AreMade, BeginsAt, IsPlace, MayBeginAt, MayResumeAt, MayStartAt, ResumesAt, StartsAt, leaf_in, taken_in, threshold_in, vars_in};
+ghost use Rattle.qp_kernel_turns.specs.Objects.{AreMade, BeginsAt, IsPlace, MayBeginAt, MayResumeAt, MayStartAt, ResumesAt, StartsAt, leaf_in, taken_up_by, threshold_in, vars_in};
 
 use qp_base::Memory;
-use qp_calls::{Entry, Ops};
+use qp_calls::{HeldEntry, Ops};
 use qp_dispatch::{Object, Step};
 use qp_model::System;
 use std::alloc::Global;
@@ -60,7 +60,7 @@ impl Objects {
     }
 
     /// Takes up an entry that was taken for the object of this priority. It adds no record.
-    pub fn begin(&mut self, p: u8, e: Entry)
+    pub fn begin(&mut self, p: u8, e: HeldEntry)
         requires { MayBeginAt p self.old }
         ensures { BeginsAt p e self.old self.new }
     {
@@ -99,7 +99,7 @@ impl Objects {
 
     /// How many entries the object of this priority has taken up; 0 where there is none.
     pub fn taken(&self, p: u8) -> u32
-        ensures { result ≡ taken_in self.now.slots.items p }
+        ensures { result ≡ taken_up_by self.now.slots.items p }
     {
         match self.slots.get(usize::from(p)) {
             Some(Some(slot)) => slot.object.taken(),

@@ -4,7 +4,7 @@ ghost use Rattle.std.specs.Prelude.{◌+◌, ◌<◌, length};
 ghost use Rattle.qp_model.specs.Sound.{IsSound};
 ghost use Rattle.qp_kernel_turns.specs.Lanes.{LaneStarts};
 ghost use Rattle.qp_kernel_turns.specs.Objects.{AreMade};
-ghost use Rattle.qp_kernel_turns.specs.Starting.{HaveBegun, IsFresh, StartsAll, StartsOne, left_from};
+ghost use Rattle.qp_kernel_turns.specs.Starting.{HaveBegun, IsFreshLane, StartsAll, StartsOne, left_from};
 
 use crate::objects::Objects;
 use qp_calls::Ops;
@@ -17,7 +17,7 @@ impl Objects {
     pub fn start<O: Ops>(&mut self, ops: &mut O, sys: &System) -> Step
         requires sound { IsSound sys.now }
         requires made { AreMade sys.now self.old }
-        requires fresh { IsFresh sys.now (O.lane ops.old) }
+        requires fresh { IsFreshLane sys.now (O.lane ops.old) }
         ensures goes { StartsAll sys.now self.old self.new (O.lane ops.old) (O.lane ops.new) result }
         ensures lane { LaneStarts (O.lane ops.old) (O.lane ops.new) result }
     {

@@ -16,12 +16,11 @@ ghost use Rattle.qp_kernel_turns.specs.Turning.{AreHeld, EndsTo, LooksTo, RunsTo
 
 use crate::halting::{Halt, ready};
 use crate::objects::Objects;
-use qp_base::Steps;
+use qp_base::{Steps, Tells};
 use qp_calls::{Ops, Take};
 use qp_dispatch::{Step, Turn};
 use qp_kernel::{Irq, Kernel, World};
 use qp_model::{Rec, System, stops};
-use qp_tells::Tells;
 use std::marker::Brand;
 use std::sync::Wait;
 use std::sync::ledger::{Blank, Ledger};

@@ -4,10 +4,10 @@ use Rattle.qp_chart.specs.declared.checked.Chart.{Chart}
 use Rattle.qp_model.specs.declared.systems.System.{System}
 use Rattle.qp_model.specs.declared.systems.ObjectDef.{ObjectDef}
 use Rattle.qp_model.specs.declared.bodies.Entry.{Entry}
-use Rattle.qp_model.specs.Told.{Event, taken}
+use Rattle.qp_model.specs.Told.{Event, told_took}
 use Rattle.qp_model.specs.Pieces.{Piece, Tell, Point, ends_at_point}
 use Rattle.qp_model.specs.Acts.{Actor, Config}
-use Rattle.qp_model.specs.Step.{Remainder, GoesOn, DoesLeft, StepBehind, Step, whole_step}
+use Rattle.qp_model.specs.Step.{Remainder, StepGoesOn, DoesLeft, StepBehind, Step, whole_step}
 use Rattle.qp_model.specs.Course.{Starts, Steps, Course, Follows, FollowsAs, FollowsThrough, FollowsThroughAs, FollowsTo, Whole, Stopped, Anywhere, actor, first_config, chart_at}
 use Rattle.qp_model.specs.Standing.{Between, Within, Leaves, Advances}
 
@@ -37,11 +37,11 @@ course-start sys a first ps end h = (ps, [], end, sym (append-nil ps), h, (refl,
 module _ (sys : System) (a : Actor) (first : Config) (es : List Entry) (ps : List Piece) where
   -- an entry is taken up
   pub leaves-took : (c : Config) (f l m : ℕ) (e : Entry) (ev : Event) → Leaves sys a first es ps (Between c)
-      → Leaves sys a first (es ++ e ∷ []) (ps ++ Tell (taken f l m e ev) ∷ [])
+      → Leaves sys a first (es ++ e ∷ []) (ps ++ Tell (told_took f l m e ev) ∷ [])
       (Within ev e (whole_step a c ev) c)
-  unfolding Leaves GoesOn DoesLeft Step StepBehind whole_step
+  unfolding Leaves StepGoesOn DoesLeft Step StepBehind whole_step
   leaves-took c f l m e ev h qs end k =
-      rw append_assoc (course-snoc sys a first es e c ps (Tell (taken f l m e ev) ∷ qs) end h (f, l, m, ev, qs, refl, k))
+      rw append_assoc (course-snoc sys a first es e c ps (Tell (told_took f l m e ev) ∷ qs) end h (f, l, m, ev, qs, refl, k))
 
   -- a step under way goes on
   pub leaves-on : (ev : Event) (e : Entry) (left later : Remainder) (c d : Config) (g : List Piece)
@@ -51,7 +51,7 @@ module _ (sys : System) (a : Actor) (first : Config) (es : List Entry) (ps : Lis
 
   -- a step under way runs to completion
   pub leaves-done : (ev : Event) (e : Entry) (left : Remainder) (c d : Config) (g : List Piece)
-      → GoesOn sys a ev e left c g (Some d) → Leaves sys a first es ps (Within ev e left c) → Leaves sys a first es (ps ++ g) (Between d)
+      → StepGoesOn sys a ev e left c g (Some d) → Leaves sys a first es ps (Within ev e left c) → Leaves sys a first es (ps ++ g) (Between d)
   unfolding Leaves
   leaves-done ev e left c d g k h = h g (Some d) k
 
@@ -95,7 +95,7 @@ module _ (sys : System) (d : ObjectDef) (chart : Chart) (is : chart_at sys d.cha
   -- a step that stopped at a point, whether its row has begun or not
   pub follows-point : (es : List Entry) (ps : List Piece) (ev : Event) (e : Entry) (left : Remainder) (c : Config)
       → Leaves sys (actor d chart) (first_config d) es (ps ++ Point ∷ []) (Within ev e left c)
-      → (qs : List Piece) × (end : Option Config) × GoesOn sys (actor d chart) ev e left c qs end
+      → (qs : List Piece) × (end : Option Config) × StepGoesOn sys (actor d chart) ev e left c qs end
       → FollowsTo sys d Stopped ps × FollowsTo sys d Stopped (ps ++ Point ∷ [])
   unfolding FollowsTo Leaves
   follows-point es ps ev e left c h rest =

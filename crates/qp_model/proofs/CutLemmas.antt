@@ -10,11 +10,11 @@ use Rattle.qp_chart.specs.declared.checked.Chart.{Chart}
 use Rattle.qp_model.specs.declared.bodies.Entry.{Entry}
 use Rattle.qp_model.specs.declared.bodies.Body.{Body}
 use Rattle.qp_model.specs.declared.bodies.Body.TheVariants as item
-use Rattle.qp_model.specs.Told.{Told, OfEvent, plain, raised, taken}
+use Rattle.qp_model.specs.Told.{Told, OfEvent, plain, raised, told_took}
 use Rattle.qp_model.specs.Calls as call
 use Rattle.qp_model.specs.Calls.{Call, Answer, Deed, Sets, Says, Calls, deed_of, ok_after, is_assertion}
 use Rattle.qp_model.specs.Shapes.{Fits, FitsAny}
-use Rattle.qp_model.specs.Pieces.{Piece, Tell, Point, bare, tell, piece_of, with_points, pieces_of, ends_at_point, begins_at_point}
+use Rattle.qp_model.specs.Pieces.{Piece, Tell, Point, records_in, tell, piece_of, with_points, pieces_of, ends_at_point, begins_at_point}
 use Rattle.qp_model.specs.Acts.{Config, Actor, Moment, Later, DoesCall, DoesDeed, DoesTask, Does, names_of}
 use Rattle.qp_model.specs.Step.{Step, StepBehind, Closes, moment}
 use Rattle.qp_model.specs.Course.{Starts, Steps, Course, Follows, FollowsAs, FollowsThrough, FollowsThroughAs, FollowsTo, Cut, Whole, Stopped, Anywhere, actor, first_config, chart_at}
@@ -99,36 +99,36 @@ with_points-head (t ∷ g) q m e h = by (post_cases t)
     by (inr k) = at (first-same (ap (λ us. us ++ with_points g) (sym k) ∙ e))
 
 -- what stands before the cut begins with a record
-bare-begins : (g : List Told) (front : List Piece) (q : Piece) (m : List Piece) → with_points g ≡ front ++ (q ∷ m) → (front ≡ []) ⊎ ((u : Told) × (us : List Told) × (bare front ≡ u ∷ us))
-unfolding with_points bare
+bare-begins : (g : List Told) (front : List Piece) (q : Piece) (m : List Piece) → with_points g ≡ front ++ (q ∷ m) → (front ≡ []) ⊎ ((u : Told) × (us : List Told) × (records_in front ≡ u ∷ us))
+unfolding with_points records_in
 bare-begins g [] q m e = inl refl
 bare-begins [] (p ∷ front) q m e = absurd (cc)
 bare-begins (t ∷ g) (p ∷ front) q m e = inr (by (post_cases t))
   where
-    at : Tell t ≡ p → (u : Told) × (us : List Told) × (bare (p ∷ front) ≡ u ∷ us)
-    at same = (t, bare front, ap (λ x. bare (x ∷ front)) (sym same))
+    at : Tell t ≡ p → (u : Told) × (us : List Told) × (records_in (p ∷ front) ≡ u ∷ us)
+    at same = (t, records_in front, ap (λ x. records_in (x ∷ front)) (sym same))
 
     by : (((is_post t.body ≡ true) × (piece_of t t.body ≡ Tell t ∷ Point ∷ [])) ⊎ (piece_of t t.body ≡ Tell t ∷ []))
-        → (u : Told) × (us : List Told) × (bare (p ∷ front) ≡ u ∷ us)
+        → (u : Told) × (us : List Told) × (records_in (p ∷ front) ≡ u ∷ us)
     by (inl k) = at (first-same (ap (λ us. us ++ with_points g) (sym k.1) ∙ e))
     by (inr k) = at (first-same (ap (λ us. us ++ with_points g) (sym k) ∙ e))
 
 -- a publication that is cut at a point inside is cut behind a post
 points-cut : (g : List Told) (front : List Piece) (q : Piece) (m : List Piece) → with_points g ≡ front ++ (q ∷ m) → AtPoint front (q ∷ m)
-    → (front ≡ []) ⊎ (ends_in_post (bare front) ≡ true)
-unfolding with_points bare ends_in_post ends_at_point
+    → (front ≡ []) ⊎ (ends_in_post (records_in front) ≡ true)
+unfolding with_points records_in ends_in_post ends_at_point
 points-cut g [] q m e h = inl refl
 points-cut [] (p ∷ front) q m e h = absurd (cc)
 points-cut (t ∷ g) (p ∷ front) q m e h =
     inr (by (λ f k. points-cut g f q m k) (post_cases t))
   where
     -- a record before what ends in a post
-    longer : (t : Told) (f : List Piece) → ((f ≡ []) ⊎ ((u : Told) × (us : List Told) × (bare f ≡ u ∷ us))) → ends_in_post (bare f) ≡ true → ends_in_post (t ∷ bare f) ≡ true
-    longer t f (inl is) k = let no : ends_in_post (bare []) ≡ true = subst (λ x. ends_in_post (bare x) ≡ true) is k in absurd (cc)
+    longer : (t : Told) (f : List Piece) → ((f ≡ []) ⊎ ((u : Told) × (us : List Told) × (records_in f ≡ u ∷ us))) → ends_in_post (records_in f) ≡ true → ends_in_post (t ∷ records_in f) ≡ true
+    longer t f (inl is) k = let no : ends_in_post (records_in []) ≡ true = subst (λ x. ends_in_post (records_in x) ≡ true) is k in absurd (cc)
     longer t f (inr s) k = subst (λ x. ends_in_post (t ∷ x) ≡ true) (sym s.2) (subst (λ x. ends_in_post x ≡ true) s.2 k)
 
-    by : ((f : List Piece) → with_points g ≡ f ++ (q ∷ m) → AtPoint f (q ∷ m) → (f ≡ []) ⊎ (ends_in_post (bare f) ≡ true))
-        → (((is_post t.body ≡ true) × (piece_of t t.body ≡ Tell t ∷ Point ∷ [])) ⊎ (piece_of t t.body ≡ Tell t ∷ [])) → ends_in_post (bare (p ∷ front)) ≡ true
+    by : ((f : List Piece) → with_points g ≡ f ++ (q ∷ m) → AtPoint f (q ∷ m) → (f ≡ []) ⊎ (ends_in_post (records_in f) ≡ true))
+        → (((is_post t.body ≡ true) × (piece_of t t.body ≡ Tell t ∷ Point ∷ [])) ⊎ (piece_of t t.body ≡ Tell t ∷ [])) → ends_in_post (records_in (p ∷ front)) ≡ true
     by later (inl k) = by_front front whole h
       where
         whole : Tell t ∷ Point ∷ with_points g ≡ p ∷ (front ++ (q ∷ m))
@@ -137,59 +137,59 @@ points-cut (t ∷ g) (p ∷ front) q m e h =
         same : Tell t ≡ p
         same = first-same whole
 
-        alone : (f : List Piece) → bare f ≡ [] → ends_in_post (bare (p ∷ f)) ≡ true
-        alone f is = subst (λ x. ends_in_post (bare (x ∷ f)) ≡ true) same (subst (λ us. ends_in_post (t ∷ us) ≡ true) (sym is) k.0)
+        alone : (f : List Piece) → records_in f ≡ [] → ends_in_post (records_in (p ∷ f)) ≡ true
+        alone f is = subst (λ x. ends_in_post (records_in (x ∷ f)) ≡ true) same (subst (λ us. ends_in_post (t ∷ us) ≡ true) (sym is) k.0)
 
-        by_front : (f : List Piece) → Tell t ∷ Point ∷ with_points g ≡ p ∷ (f ++ (q ∷ m)) → AtPoint (p ∷ f) (q ∷ m) → ends_in_post (bare (p ∷ f)) ≡ true
+        by_front : (f : List Piece) → Tell t ∷ Point ∷ with_points g ≡ p ∷ (f ++ (q ∷ m)) → AtPoint (p ∷ f) (q ∷ m) → ends_in_post (records_in (p ∷ f)) ≡ true
         by_front [] w h = alone [] refl
         by_front (r ∷ f) w h = either (later f (rest-same (rest-same w)) (at-tail r f (q ∷ m) (at-tail p (r ∷ f) (q ∷ m) h)))
           where
             point : Point ≡ r
             point = first-same (rest-same w)
 
-            is_f : bare (r ∷ f) ≡ bare f
-            is_f = ap (λ x. bare (x ∷ f)) (sym point)
+            is_f : records_in (r ∷ f) ≡ records_in f
+            is_f = ap (λ x. records_in (x ∷ f)) (sym point)
 
-            either : ((f ≡ []) ⊎ (ends_in_post (bare f) ≡ true)) → ends_in_post (bare (p ∷ r ∷ f)) ≡ true
-            either (inl is) = alone (r ∷ f) (is_f ∙ ap bare is)
+            either : ((f ≡ []) ⊎ (ends_in_post (records_in f) ≡ true)) → ends_in_post (records_in (p ∷ r ∷ f)) ≡ true
+            either (inl is) = alone (r ∷ f) (is_f ∙ ap records_in is)
             either (inr l) =
-                subst (λ x. ends_in_post (bare (x ∷ r ∷ f)) ≡ true) same
+                subst (λ x. ends_in_post (records_in (x ∷ r ∷ f)) ≡ true) same
                 (subst (λ us. ends_in_post (t ∷ us) ≡ true) (sym is_f) (longer t f (bare-begins g f q m (rest-same (rest-same w))) l))
     by later (inr k) = by_front front whole h
       where
         whole : Tell t ∷ with_points g ≡ p ∷ (front ++ (q ∷ m))
         whole = ap (λ us. us ++ with_points g) (sym k) ∙ e
 
-        by_front : (f : List Piece) → Tell t ∷ with_points g ≡ p ∷ (f ++ (q ∷ m)) → AtPoint (p ∷ f) (q ∷ m) → ends_in_post (bare (p ∷ f)) ≡ true
+        by_front : (f : List Piece) → Tell t ∷ with_points g ≡ p ∷ (f ++ (q ∷ m)) → AtPoint (p ∷ f) (q ∷ m) → ends_in_post (records_in (p ∷ f)) ≡ true
         by_front [] w (inl h) = let no : ends_at_point (Tell t ∷ []) ≡ true = subst (λ x. ends_at_point (x ∷ []) ≡ true) (sym (first-same w)) h in absurd (cc)
         by_front [] w (inr h) = absurd (with_points-head g q m (rest-same w) h)
         by_front (r ∷ f) w h = either (later (r ∷ f) (rest-same w) (at-tail p (r ∷ f) (q ∷ m) h))
           where
-            either : ((r ∷ f ≡ []) ⊎ (ends_in_post (bare (r ∷ f)) ≡ true)) → ends_in_post (bare (p ∷ r ∷ f)) ≡ true
+            either : ((r ∷ f ≡ []) ⊎ (ends_in_post (records_in (r ∷ f)) ≡ true)) → ends_in_post (records_in (p ∷ r ∷ f)) ≡ true
             either (inl is) = absurd (cc)
             either (inr l) =
-                subst (λ x. ends_in_post (bare (x ∷ r ∷ f)) ≡ true) (first-same w) (longer t (r ∷ f) (bare-begins g (r ∷ f) q m (rest-same w)) l)
+                subst (λ x. ends_in_post (records_in (x ∷ r ∷ f)) ≡ true) (first-same w) (longer t (r ∷ f) (bare-begins g (r ∷ f) q m (rest-same w)) l)
 
 module _ (sys : System) (a : Actor) (at : Moment) where
   -- a call that is cut at a point inside
   pieces-cut : (x : Call) (answer : Answer) (g : List Told) (front : List Piece) (q : Piece) (m : List Piece) → Fits sys a.o at.entry x answer g
-      → pieces_of x g ≡ front ++ (q ∷ m) → AtPoint front (q ∷ m) → IsLast sys a.o at.entry true (bare front)
-  unfolding FitsAny pieces_of bare
+      → pieces_of x g ≡ front ++ (q ∷ m) → AtPoint front (q ∷ m) → IsLast sys a.o at.entry true (records_in front)
+  unfolding FitsAny pieces_of records_in
   pieces-cut x answer g front q m fits e h = by x fits e
     where
-      stops : front ≡ [] → IsLast sys a.o at.entry true (bare front)
-      stops is = Stops refl (ap bare is)
+      stops : front ≡ [] → IsLast sys a.o at.entry true (records_in front)
+      stops is = Stops refl (ap records_in is)
 
       published : (sig : ℕ) (pars : List ℕ) (reserve : Option ℕ) → FitsAny sys a.o at.entry (call.Publish sig pars reserve) answer g → with_points g ≡ front ++ (q ∷ m)
-          → ((front ≡ []) ⊎ (ends_in_post (bare front) ≡ true)) → IsLast sys a.o at.entry true (bare front)
+          → ((front ≡ []) ⊎ (ends_in_post (records_in front) ≡ true)) → IsLast sys a.o at.entry true (records_in front)
       published sig pars reserve fits e (inl is) = stops is
       published sig pars reserve fits e (inr last) =
-          StopsInPublication sig pars reserve answer (bare (q ∷ m)) refl (subst (λ us. FitsAny sys a.o at.entry (call.Publish sig pars reserve) answer us) whole fits) last
+          StopsInPublication sig pars reserve answer (records_in (q ∷ m)) refl (subst (λ us. FitsAny sys a.o at.entry (call.Publish sig pars reserve) answer us) whole fits) last
         where
-          whole : g ≡ bare front ++ bare (q ∷ m)
-          whole = sym (bare-pieces_of (call.Publish sig pars reserve) g) ∙ ap bare e ∙ bare-append front (q ∷ m)
+          whole : g ≡ records_in front ++ records_in (q ∷ m)
+          whole = sym (bare-pieces_of (call.Publish sig pars reserve) g) ∙ ap records_in e ∙ bare-append front (q ∷ m)
 
-      by : (x : Call) → Fits sys a.o at.entry x answer g → pieces_of x g ≡ front ++ (q ∷ m) → IsLast sys a.o at.entry true (bare front)
+      by : (x : Call) → Fits sys a.o at.entry x answer g → pieces_of x g ≡ front ++ (q ∷ m) → IsLast sys a.o at.entry true (records_in front)
       by (call.Publish sig pars reserve) fits e = published sig pars reserve fits e (points-cut g front q m e h)
       by _ fits e = stops (tells-cut g front q m e h)
 
@@ -197,11 +197,11 @@ module _ (sys : System) (a : Actor) (at : Moment) where
   abbrev pub ActionsOn : Config → Later → List Piece → List Piece → List Piece → Type 0
   ActionsOn c later front back tail =
       (g : List Told) × (d : Config) × (more body : List Piece) × Actions sys a.o at.entry g × (d.former ≡ c.former)
-      × (bare front ≡ g ++ bare more) × later d body × (more ++ back ≡ body ++ tail) × AtPoint more back
+      × (records_in front ≡ g ++ records_in more) × later d body × (more ++ back ≡ body ++ tail) × AtPoint more back
 
   -- actions, the last of them cut
   abbrev pub ActionsCut : List Piece → Type 0
-  ActionsCut front = (inner last : List Told) × Actions sys a.o at.entry inner × IsLast sys a.o at.entry true last × (bare front ≡ inner ++ last)
+  ActionsCut front = (inner last : List Told) × Actions sys a.o at.entry inner × IsLast sys a.o at.entry true last × (records_in front ≡ inner ++ last)
 
   no_actions : Actions sys a.o at.entry []
   unfolding Actions
@@ -212,27 +212,27 @@ module _ (sys : System) (a : Actor) (at : Moment) where
   one_action g h = sequence-one (IsAction sys a.o at.entry) g h
 
   nothing_yet : ActionsCut []
-  unfolding bare
+  unfolding records_in
   nothing_yet = ([], [], no_actions, Stops refl refl, refl)
 
-  whole_action : (g : List Told) (front : List Piece) → IsAction sys a.o at.entry g → bare front ≡ g → ActionsCut front
+  whole_action : (g : List Told) (front : List Piece) → IsAction sys a.o at.entry g → records_in front ≡ g → ActionsCut front
   whole_action g front h is = (g, [], one_action g h, Stops refl refl, is ∙ sym (append-nil g))
 
   call-cut : (c : Config) (later : Later) (failed : Type 0) (x : Call) (body front back tail : List Piece) → DoesCall sys a at.entry c later failed x body → (failed → tail ≡ [])
       → front ++ back ≡ body ++ tail → AtPoint front back → ActionsOn c later front back tail ⊎ ActionsCut front
-  unfolding DoesCall bare
+  unfolding DoesCall records_in
   call-cut c later failed x body front back tail h gone e at_point = by_assertion (is_assertion h.0) refl h.5
     where
       makes : is_assertion h.0 ≡ false → IsAction sys a.o at.entry h.1
       makes is = call-action sys a.o at.entry x h.0 h.1 h.3 is
 
       -- the whole call stands before the cut
-      complete : front ≡ pieces_of x h.1 → bare front ≡ h.1
-      complete is = ap bare is ∙ bare-pieces_of x h.1
+      complete : front ≡ pieces_of x h.1 → records_in front ≡ h.1
+      complete is = ap records_in is ∙ bare-pieces_of x h.1
 
       asserted : is_assertion h.0 ≡ true → (back : List Piece) → front ++ back ≡ pieces_of x h.1 → AtPoint front back → ActionsCut front
       asserted is [] whole here = ([], h.1, no_actions, call-asserts sys a.o at.entry true x h.0 h.1 h.3 is, complete (sym (append-nil front) ∙ whole))
-      asserted is (q ∷ m) whole here = ([], bare front, no_actions, pieces-cut x h.0 h.1 front q m h.3 (sym whole) here, refl)
+      asserted is (q ∷ m) whole here = ([], records_in front, no_actions, pieces-cut x h.0 h.1 front q m h.3 (sym whole) here, refl)
 
       by_split : is_assertion h.0 ≡ false → (rest : List Piece) → later (record c { ok = ok_after h.0 c.ok; kept = h.2 }) rest
           → ((m : List Piece) × (pieces_of x h.1 ≡ front ++ m) × (back ≡ m ++ (Point ∷ (rest ++ tail)))) ⊎ ((m : List Piece) × (front ≡ pieces_of x h.1 ++ m) × (Point ∷ (rest ++ tail) ≡ m ++ back))
@@ -243,7 +243,7 @@ module _ (sys : System) (a : Actor) (at : Moment) where
           inside [] whole behind = whole_action h.1 front (makes is) (complete (sym (whole ∙ append-nil front)))
           inside (q ∷ m) whole behind =
               let here : AtPoint front (q ∷ m ++ (Point ∷ (rest ++ tail))) = subst (λ us. AtPoint front us) behind at_point in
-              ([], bare front, no_actions, pieces-cut x h.0 h.1 front q m h.3 whole (at-head front q (m ++ (Point ∷ (rest ++ tail))) m here), refl)
+              ([], records_in front, no_actions, pieces-cut x h.0 h.1 front q m h.3 whole (at-head front q (m ++ (Point ∷ (rest ++ tail))) m here), refl)
       by_split is rest next (inr k) = outside k.0 k.1 k.2
         where
           outside : (m : List Piece) → front ≡ pieces_of x h.1 ++ m → Point ∷ (rest ++ tail) ≡ m ++ back → ActionsOn c later front back tail ⊎ ActionsCut front
@@ -258,7 +258,7 @@ module _ (sys : System) (a : Actor) (at : Moment) where
                 rest,
                 one_action h.1 (makes is),
                 refl,
-                ap bare whole ∙ bare-append (pieces_of x h.1) (p ∷ m) ∙ ap (λ us. us ++ bare (p ∷ m)) (bare-pieces_of x h.1) ∙ ap (λ y. h.1 ++ bare (y ∷ m)) (sym point),
+                ap records_in whole ∙ bare-append (pieces_of x h.1) (p ∷ m) ∙ ap (λ us. us ++ records_in (p ∷ m)) (bare-pieces_of x h.1) ∙ ap (λ y. h.1 ++ records_in (y ∷ m)) (sym point),
                 next,
                 sym (rest-same behind),
                 at-tail p m back (at-append (pieces_of x h.1) (p ∷ m) back here),
@@ -273,12 +273,12 @@ module _ (sys : System) (a : Actor) (at : Moment) where
 
   deed-cut : (c : Config) (later : Later) (failed : Type 0) (d : Deed) (body front back tail : List Piece) → DoesDeed sys a at.entry c later failed d body → (failed → tail ≡ [])
       → front ++ back ≡ body ++ tail → AtPoint front back → ActionsOn c later front back tail ⊎ ActionsCut front
-  unfolding DoesDeed bare
+  unfolding DoesDeed records_in
   deed-cut c later failed (Sets var value) body front back tail h gone e here = by_front front (e ∙ ap (λ us. us ++ tail) h.1) here
     where
       by_front : (front : List Piece) → front ++ back ≡ Point ∷ (h.0 ++ tail) → AtPoint front back → ActionsOn c later front back tail ⊎ ActionsCut front
       by_front [] e here = inr nothing_yet
-      by_front (p ∷ f) e here = inl ([], _, f, h.0, no_actions, refl, ap (λ x. bare (x ∷ f)) (first-same e), h.2, rest-same e, at-tail p f back here)
+      by_front (p ∷ f) e here = inl ([], _, f, h.0, no_actions, refl, ap (λ x. records_in (x ∷ f)) (first-same e), h.2, rest-same e, at-tail p f back here)
   deed-cut c later failed (Says value) body front back tail h gone e here = by_front front (e ∙ ap (λ us. us ++ tail) h.1) here
     where
       said : IsAction sys a.o at.entry (plain (item.Say value) ∷ [])
@@ -286,7 +286,7 @@ module _ (sys : System) (a : Actor) (at : Moment) where
 
       by_front : (front : List Piece) → front ++ back ≡ Tell (plain (item.Say value)) ∷ Point ∷ (h.0 ++ tail) → AtPoint front back → ActionsOn c later front back tail ⊎ ActionsCut front
       by_front [] e here = inr nothing_yet
-      by_front (p ∷ []) e here = inr (whole_action (plain (item.Say value) ∷ []) (p ∷ []) said (ap (λ x. bare (x ∷ [])) (first-same e)))
+      by_front (p ∷ []) e here = inr (whole_action (plain (item.Say value) ∷ []) (p ∷ []) said (ap (λ x. records_in (x ∷ [])) (first-same e)))
       by_front (p ∷ q ∷ f) e here = inl (
         plain (item.Say value) ∷ [],
         c,
@@ -294,7 +294,7 @@ module _ (sys : System) (a : Actor) (at : Moment) where
         h.0,
         one_action (plain (item.Say value) ∷ []) said,
         refl,
-        ap (λ x. bare (x ∷ q ∷ f)) (first-same e) ∙ ap (λ x. bare (Tell (plain (item.Say value)) ∷ x ∷ f)) (first-same (rest-same e)),
+        ap (λ x. records_in (x ∷ q ∷ f)) (first-same e) ∙ ap (λ x. records_in (Tell (plain (item.Say value)) ∷ x ∷ f)) (first-same (rest-same e)),
         h.2,
         rest-same (rest-same e),
         at-tail q f back (at-tail p (q ∷ f) back here),
@@ -302,7 +302,7 @@ module _ (sys : System) (a : Actor) (at : Moment) where
   deed-cut c later failed (Calls x) body front back tail h gone e here = call-cut c later failed x body front back tail h gone e here
 
   -- actions before the cut
-  actions-before : (g : List Told) (front more : List Piece) → Actions sys a.o at.entry g → bare front ≡ g ++ bare more → ActionsCut more → ActionsCut front
+  actions-before : (g : List Told) (front more : List Piece) → Actions sys a.o at.entry g → records_in front ≡ g ++ records_in more → ActionsCut more → ActionsCut front
   unfolding Actions
   actions-before g front more acts is k =
       (g ++ k.0, k.1, sequence-append (IsAction sys a.o at.entry) g k.0 acts k.2, k.3, is ∙ ap (λ us. g ++ us) k.4 ∙ sym (append_assoc g k.0 k.1))
@@ -331,7 +331,7 @@ module _ (sys : System) (a : Actor) (at : Moment) where
             n.3,
             sequence-append (IsAction sys a.o at.entry) k.0 n.0 k.4 n.4,
             n.5 ∙ k.5,
-            k.6 ∙ ap (λ us. k.0 ++ us) n.6 ∙ sym (append_assoc k.0 n.0 (bare n.2)),
+            k.6 ∙ ap (λ us. k.0 ++ us) n.6 ∙ sym (append_assoc k.0 n.0 (records_in n.2)),
             n.7,
             n.8,
             n.9,
@@ -342,13 +342,13 @@ module _ (sys : System) (a : Actor) (at : Moment) where
   abbrev pub GroupsOn : Later → List Piece → List Piece → List Piece → Type 0
   GroupsOn later front back tail =
       (g : List Told) × (d : Config) × (more body : List Piece) × Groups sys a.o at.entry g
-      × (bare front ≡ g ++ bare more) × later d body × (more ++ back ≡ body ++ tail) × AtPoint more back
+      × (records_in front ≡ g ++ records_in more) × later d body × (more ++ back ≡ body ++ tail) × AtPoint more back
 
   abbrev pub GroupsCut : List Piece → Type 0
-  GroupsCut front = BreaksOff sys a.o at.entry true (bare front)
+  GroupsCut front = BreaksOff sys a.o at.entry true (records_in front)
 
-  groups-before : (g : List Told) (front more : List Piece) → Groups sys a.o at.entry g → bare front ≡ g ++ bare more → GroupsCut more → GroupsCut front
-  groups-before g front more gs is k = subst (λ us. BreaksOff sys a.o at.entry true us) (sym is) (breaks-cons sys a at true g (bare more) gs k)
+  groups-before : (g : List Told) (front more : List Piece) → Groups sys a.o at.entry g → records_in front ≡ g ++ records_in more → GroupsCut more → GroupsCut front
+  groups-before g front more gs is k = subst (λ us. BreaksOff sys a.o at.entry true us) (sym is) (breaks-cons sys a at true g (records_in more) gs k)
 
   no_groups : Groups sys a.o at.entry []
   unfolding Groups
@@ -359,11 +359,11 @@ module _ (sys : System) (a : Actor) (at : Moment) where
   one_group g h = sequence-one (IsGroup sys a.o at.entry) g h
 
   none_yet : GroupsCut []
-  unfolding bare
+  unfolding records_in
   none_yet = Plainly [] [] no_groups (Stops refl refl) refl
 
   -- behind whole groups
-  either-before : (later : Later) (g : List Told) (front more back tail : List Piece) → Groups sys a.o at.entry g → bare front ≡ g ++ bare more
+  either-before : (later : Later) (g : List Told) (front more back tail : List Piece) → Groups sys a.o at.entry g → records_in front ≡ g ++ records_in more
       → GroupsOn later more back tail ⊎ GroupsCut more → GroupsOn later front back tail ⊎ GroupsCut front
   unfolding Groups
   either-before later g front more back tail gs is (inl k) = inl (
@@ -372,7 +372,7 @@ module _ (sys : System) (a : Actor) (at : Moment) where
     k.2,
     k.3,
     sequence-append (IsGroup sys a.o at.entry) g k.0 gs k.4,
-    is ∙ ap (λ us. g ++ us) k.5 ∙ sym (append_assoc g k.0 (bare k.2)),
+    is ∙ ap (λ us. g ++ us) k.5 ∙ sym (append_assoc g k.0 (records_in k.2)),
     k.6,
     k.7,
     k.8,
@@ -382,14 +382,14 @@ module _ (sys : System) (a : Actor) (at : Moment) where
   -- a note, and then the cut in what is to come
   note-cut : (later : Later) (t : Told) (body front back tail : List Piece) → IsGroup sys a.o at.entry (t ∷ []) → front ++ back ≡ (Tell t ∷ body) ++ tail → AtPoint front back
       → ((more : List Piece) → more ++ back ≡ body ++ tail → AtPoint more back → GroupsOn later more back tail ⊎ GroupsCut more) → GroupsOn later front back tail ⊎ GroupsCut front
-  unfolding bare
+  unfolding records_in
   note-cut later t body [] back tail one e here go = inr none_yet
   note-cut later t body (p ∷ f) back tail one e here go =
-      either-before later (t ∷ []) (p ∷ f) f back tail (one_group (t ∷ []) one) (ap (λ x. bare (x ∷ f)) (first-same e)) (go f (rest-same e) (at-tail p f back here))
+      either-before later (t ∷ []) (p ∷ f) f back tail (one_group (t ∷ []) one) (ap (λ x. records_in (x ∷ f)) (first-same e)) (go f (rest-same e) (at-tail p f back here))
 
   blocks-cut : (bs : List Block) (ts : List Task) (c : Config) (body : List Piece) (end : Option Config) (front back tail : List Piece) → Does sys a at (spread bs ++ ts) c body end
       → (end ≡ None → tail ≡ []) → front ++ back ≡ body ++ tail → AtPoint front back → GroupsOn (λ d rest. Does sys a at ts d rest end) front back tail ⊎ GroupsCut front
-  unfolding spread Does DoesTask Actions Groups bare
+  unfolding spread Does DoesTask Actions Groups records_in
   blocks-cut [] ts c body end front back tail h gone e here = inl ([], c, front, body, sequence-none (IsGroup sys a.o at.entry), refl, h, e, here)
   blocks-cut (Exits s ∷ bs) ts c body end front back tail h gone e here =
       note-cut (λ d rest. Does sys a at ts d rest end) (plain (item.Exit s)) h.0 front back tail (IsMove (item.Exit s) refl refl) (e ∙ ap (λ us. us ++ tail) h.1) here
@@ -421,9 +421,9 @@ module _ (sys : System) (a : Actor) (at : Moment) where
       raises = raised (max h.0 ceiling) h.0
 
       -- cut under the ceiling
-      under : (p : Piece) (f : List Piece) (g last : List Told) → Tell raises ≡ p → Actions sys a.o at.entry g → IsLast sys a.o at.entry true last → bare f ≡ g ++ last → GroupsCut (p ∷ f)
+      under : (p : Piece) (f : List Piece) (g last : List Told) → Tell raises ≡ p → Actions sys a.o at.entry g → IsLast sys a.o at.entry true last → records_in f ≡ g ++ last → GroupsCut (p ∷ f)
       under p f g last same acts l is =
-          UnderCeiling h.0 ceiling [] g last no_groups acts l (ap (λ x. bare (x ∷ f)) (sym same) ∙ ap (λ us. raises ∷ us) is)
+          UnderCeiling h.0 ceiling [] g last no_groups acts l (ap (λ x. records_in (x ∷ f)) (sym same) ∙ ap (λ us. raises ∷ us) is)
 
       behind : (p : Piece) (f : List Piece) → Tell raises ≡ p
           → ((d : Config) (more rest : List Piece) → Does sys a at (spread bs ++ ts) d rest end → more ++ back ≡ rest ++ tail → AtPoint more back
@@ -439,25 +439,25 @@ module _ (sys : System) (a : Actor) (at : Moment) where
           is_locked : IsGroup sys a.o at.entry locked
           is_locked = IsLocked h.0 ceiling k.0 k.4 refl
 
-          by_more : (more : List Piece) → bare f ≡ k.0 ++ bare more → more ++ back ≡ Tell (plain (item.Unlock k.1.former)) ∷ Point ∷ (k.7.2.0 ++ tail) → AtPoint more back
+          by_more : (more : List Piece) → records_in f ≡ k.0 ++ records_in more → more ++ back ≡ Tell (plain (item.Unlock k.1.former)) ∷ Point ∷ (k.7.2.0 ++ tail) → AtPoint more back
               → GroupsOn (λ d rest. Does sys a at ts d rest end) (p ∷ f) back tail ⊎ GroupsCut (p ∷ f)
           by_more [] is e here = inr (under p f k.0 [] same k.4 (Stops refl refl) is)
           by_more (q ∷ m) is e here = by_rest m (rest-same e) (at-tail q m back here) whole
             where
-              unlock : bare (q ∷ m) ≡ plain (item.Unlock h.0) ∷ bare m
-              unlock = ap (λ x. bare (x ∷ m)) (first-same e) ∙ ap (λ x. plain (item.Unlock x) ∷ bare m) k.5
+              unlock : records_in (q ∷ m) ≡ plain (item.Unlock h.0) ∷ records_in m
+              unlock = ap (λ x. records_in (x ∷ m)) (first-same e) ∙ ap (λ x. plain (item.Unlock x) ∷ records_in m) k.5
 
-              whole : bare (p ∷ f) ≡ locked ++ bare m
+              whole : records_in (p ∷ f) ≡ locked ++ records_in m
               whole =
-                  ap (λ x. bare (x ∷ f)) (sym same) ∙ ap (λ us. raises ∷ us)
-                  (is ∙ ap (λ us. k.0 ++ us) unlock ∙ sym (append_assoc k.0 (plain (item.Unlock h.0) ∷ []) (bare m)))
+                  ap (λ x. records_in (x ∷ f)) (sym same) ∙ ap (λ us. raises ∷ us)
+                  (is ∙ ap (λ us. k.0 ++ us) unlock ∙ sym (append_assoc k.0 (plain (item.Unlock h.0) ∷ []) (records_in m)))
 
-              by_rest : (m : List Piece) → m ++ back ≡ Point ∷ (k.7.2.0 ++ tail) → AtPoint m back → bare (p ∷ f) ≡ locked ++ bare m
+              by_rest : (m : List Piece) → m ++ back ≡ Point ∷ (k.7.2.0 ++ tail) → AtPoint m back → records_in (p ∷ f) ≡ locked ++ records_in m
                   → GroupsOn (λ d rest. Does sys a at ts d rest end) (p ∷ f) back tail ⊎ GroupsCut (p ∷ f)
               by_rest [] e here whole = inr (subst (λ us. BreaksOff sys a.o at.entry true us) (sym whole) (Plainly locked [] (one_group locked is_locked) (Stops refl refl) refl))
               by_rest (r ∷ n) e here whole =
                   either-before (λ d rest. Does sys a at ts d rest end) locked (p ∷ f) n back tail (one_group locked is_locked)
-                  (whole ∙ ap (λ x. locked ++ bare (x ∷ n)) (first-same e))
+                  (whole ∙ ap (λ x. locked ++ records_in (x ∷ n)) (first-same e))
                   (later k.1 n k.7.2.0 k.7.2.2 (rest-same e) (at-tail r n back here))
 
       by_front : ((d : Config) (more rest : List Piece) → Does sys a at (spread bs ++ ts) d rest end → more ++ back ≡ rest ++ tail → AtPoint more back
@@ -471,8 +471,8 @@ module _ (sys : System) (a : Actor) (at : Moment) where
 module _ (sys : System) (a : Actor) where
   -- a step that is cut at a point has broken off, or it is whole
   pub step-cut : (e : Entry) (c : Config) (ps : List Piece) (end : Option Config) (p : Piece) (f back : List Piece) → Step sys a e c ps end
-      → (p ∷ f) ++ back ≡ ps → AtPoint (p ∷ f) back → BrokenStep sys a.o (bare (p ∷ f)) ⊎ (back ≡ [])
-  unfolding Step StepBehind Closes Blocks Does DoesTask BrokenStep StepHead bare ends_at_point
+      → (p ∷ f) ++ back ≡ ps → AtPoint (p ∷ f) back → BrokenStep sys a.o (records_in (p ∷ f)) ⊎ (back ≡ [])
+  unfolding Step StepBehind Closes Blocks Does DoesTask BrokenStep StepHead records_in ends_at_point
   step-cut e c ps end p f back h eq here = by_blocks (step-blocks a.chart c.leaf (names_of a c h.3) h.3.sig)
     where
       body : List Piece
@@ -485,7 +485,7 @@ module _ (sys : System) (a : Actor) where
       mid = h.6.2
 
       took : Told
-      took = taken h.0 h.1 h.2 e h.3
+      took = told_took h.0 h.1 h.2 e h.3
 
       split_took : p ∷ (f ++ back) ≡ Tell took ∷ (body ++ tell rel)
       split_took = eq ∙ h.5 ∙ ap (λ us. Tell took ∷ us) h.6.5
@@ -495,12 +495,12 @@ module _ (sys : System) (a : Actor) where
 
       by_blocks : (head : Task) × (ts : List Task) × ((head ≡ Unhandled) ⊎ ((s k : ℕ) × (head ≡ Run s k))) × Blocks ts
           × ((step_plan a.chart c.leaf (names_of a c h.3) h.3.sig).tasks ≡ head ∷ (ts ++ (Done ∷ [])))
-          → BrokenStep sys a.o (bare (p ∷ f)) ⊎ (back ≡ [])
+          → BrokenStep sys a.o (records_in (p ∷ f)) ⊎ (back ≡ [])
       by_blocks b = by_head b.2 (subst (λ us. Does sys a (moment h.3 e) us c body mid) b.4 h.6.3)
         where
           -- behind the handler's note
           after_head : (head : Body) → is_head head ≡ true → (rest : List Piece) → body ≡ Tell (plain head) ∷ rest
-              → Does sys a (moment h.3 e) (b.1 ++ (Done ∷ [])) c rest mid → BrokenStep sys a.o (bare (p ∷ f)) ⊎ (back ≡ [])
+              → Does sys a (moment h.3 e) (b.1 ++ (Done ∷ [])) c rest mid → BrokenStep sys a.o (records_in (p ∷ f)) ⊎ (back ≡ [])
           after_head head is rest note does = by_front f (rest-same split_took ∙ ap (λ us. us ++ tell rel) note) here
             where
               starts : List Told
@@ -513,7 +513,7 @@ module _ (sys : System) (a : Actor) where
               at_took back same (inl k) = let wrong : ends_at_point (Tell took ∷ []) ≡ true = subst (λ x. ends_at_point (x ∷ []) ≡ true) (first-same split_took) k in cc
               at_took back same (inr k) = let wrong : begins_at_point (Tell (plain head) ∷ (rest ++ tell rel)) ≡ true = subst (λ x. begins_at_point x ≡ true) same k in cc
 
-              by_front : (f : List Piece) → f ++ back ≡ Tell (plain head) ∷ (rest ++ tell rel) → AtPoint (p ∷ f) back → BrokenStep sys a.o (bare (p ∷ f)) ⊎ (back ≡ [])
+              by_front : (f : List Piece) → f ++ back ≡ Tell (plain head) ∷ (rest ++ tell rel) → AtPoint (p ∷ f) back → BrokenStep sys a.o (records_in (p ∷ f)) ⊎ (back ≡ [])
               by_front [] eq here = absurd (at_took back eq here)
               by_front (q ∷ m) eq here =
                   either (blocks-cut sys a (moment h.3 e) b.3.0 (Done ∷ []) c rest mid m back (tell rel) (subst (λ us. Does sys a (moment h.3 e) (us ++ (Done ∷ [])) c rest mid) b.3.1 does) gone (rest-same eq) inner)
@@ -521,19 +521,19 @@ module _ (sys : System) (a : Actor) where
                   inner : AtPoint m back
                   inner = at-tail q m back (at-tail p (q ∷ m) back here)
 
-                  all : bare (p ∷ q ∷ m) ≡ starts ++ bare m
-                  all = ap (λ x. bare (x ∷ q ∷ m)) (first-same split_took) ∙ ap (λ x. took ∷ bare (x ∷ m)) (first-same eq)
+                  all : records_in (p ∷ q ∷ m) ≡ starts ++ records_in m
+                  all = ap (λ x. records_in (x ∷ q ∷ m)) (first-same split_took) ∙ ap (λ x. took ∷ records_in (x ∷ m)) (first-same eq)
 
-                  broke : BreaksOff sys a.o (Some e) true (bare m) → BrokenStep sys a.o (bare (p ∷ q ∷ m))
-                  broke k = (e, starts, bare m, heads, k, all)
+                  broke : BreaksOff sys a.o (Some e) true (records_in m) → BrokenStep sys a.o (records_in (p ∷ q ∷ m))
+                  broke k = (e, starts, records_in m, heads, k, all)
 
                   either : GroupsOn sys a (moment h.3 e) (λ d more. Does sys a (moment h.3 e) (Done ∷ []) d more mid) m back (tell rel) ⊎ GroupsCut sys a (moment h.3 e) m
-                      → BrokenStep sys a.o (bare (p ∷ q ∷ m)) ⊎ (back ≡ [])
+                      → BrokenStep sys a.o (records_in (p ∷ q ∷ m)) ⊎ (back ≡ [])
                   either (inr k) = inl (broke k)
                   either (inl k) = by_more k.2 k.5 (k.7 ∙ ap (λ us. us ++ tell rel) (k.6.1 ∙ ap (λ us. Tell (plain item.Done) ∷ us) k.6.2.0)) k.8
                     where
-                      by_more : (more : List Piece) → bare m ≡ k.0 ++ bare more → more ++ back ≡ Tell (plain item.Done) ∷ tell rel → AtPoint more back
-                          → BrokenStep sys a.o (bare (p ∷ q ∷ m)) ⊎ (back ≡ [])
+                      by_more : (more : List Piece) → records_in m ≡ k.0 ++ records_in more → more ++ back ≡ Tell (plain item.Done) ∷ tell rel → AtPoint more back
+                          → BrokenStep sys a.o (records_in (p ∷ q ∷ m)) ⊎ (back ≡ [])
                       by_more [] is eq here = inl (broke (subst (λ us. BreaksOff sys a.o (Some e) true us) (sym is) (Plainly k.0 [] k.4 (Stops refl refl) refl)))
                       by_more (r ∷ n) is eq here = inr (by_back back eq here)
                         where
@@ -541,7 +541,7 @@ module _ (sys : System) (a : Actor) where
                           by_back [] eq here = refl
                           by_back (x ∷ xs) eq here = let wrong : r ∷ n ≡ [] = tells-cut (plain item.Done ∷ rel) (r ∷ n) x xs (sym eq) here in absurd (cc)
 
-          by_head : ((b.0 ≡ Unhandled) ⊎ ((s k : ℕ) × (b.0 ≡ Run s k))) → Does sys a (moment h.3 e) (b.0 ∷ (b.1 ++ (Done ∷ []))) c body mid → BrokenStep sys a.o (bare (p ∷ f)) ⊎ (back ≡ [])
+          by_head : ((b.0 ≡ Unhandled) ⊎ ((s k : ℕ) × (b.0 ≡ Run s k))) → Does sys a (moment h.3 e) (b.0 ∷ (b.1 ++ (Done ∷ []))) c body mid → BrokenStep sys a.o (records_in (p ∷ f)) ⊎ (back ≡ [])
           by_head (inl is) does =
               let note = subst (λ x. Does sys a (moment h.3 e) (x ∷ (b.1 ++ (Done ∷ []))) c body mid) is does in
               after_head item.Unhandled refl note.0 note.1 note.2
@@ -567,37 +567,37 @@ module _ (sys : System) (a : Actor) where
 
   -- steps that stopped at a point
   pub steps-cut : (nils : Bool) (es : List Entry) (c : Option Config) (ps : List Piece) (end : Option Config) (front back : List Piece) → Steps sys a es c ps end
-      → front ++ back ≡ ps → AtPoint front back → Turned sys a nils (bare front)
-  unfolding Steps StepShape bare
+      → front ++ back ≡ ps → AtPoint front back → Turned sys a nils (records_in front)
+  unfolding Steps StepShape records_in
   steps-cut nils [] c ps end front back h eq here =
-      subst (λ us. Turned sys a nils (bare us)) (sym (empty-front front back (eq ∙ h.0))) (no-turns sys a nils)
+      subst (λ us. Turned sys a nils (records_in us)) (sym (empty-front front back (eq ∙ h.0))) (no-turns sys a nils)
   steps-cut nils (e ∷ es) None ps end front back h eq here = absurd h
   steps-cut nils (e ∷ es) (Some c) ps end front back h eq here =
       either (λ m k at_m. steps-cut nils es h.2 h.1 end m back h.5 k at_m) (split front back h.0 h.1 (eq ∙ h.3))
     where
-      inside : (front m : List Piece) → h.0 ≡ front ++ m → back ≡ m ++ h.1 → AtPoint front back → Turned sys a nils (bare front)
+      inside : (front m : List Piece) → h.0 ≡ front ++ m → back ≡ m ++ h.1 → AtPoint front back → Turned sys a nils (records_in front)
       inside front [] is behind here =
           let same : h.0 ≡ front = is ∙ append-nil front in
-          subst (λ us. Turned sys a nils (bare us)) same (one-step nils h.2 (bare h.0) (step-shape sys a e c h.0 h.2 h.4))
+          subst (λ us. Turned sys a nils (records_in us)) same (one-step nils h.2 (records_in h.0) (step-shape sys a e c h.0 h.2 h.4))
       inside [] (q ∷ m) is behind here = no-turns sys a nils
       inside (p ∷ f) (q ∷ m) is behind here =
           let at_m : AtPoint (p ∷ f) (q ∷ m) = at-head (p ∷ f) q (m ++ h.1) m (subst (λ us. AtPoint (p ∷ f) us) behind here) in
           by_step (step-cut e c h.0 h.2 p f (q ∷ m) h.4 (sym is) at_m)
         where
-          by_step : BrokenStep sys a.o (bare (p ∷ f)) ⊎ (q ∷ m ≡ []) → Turned sys a nils (bare (p ∷ f))
-          by_step (inl k) = one-step nils None (bare (p ∷ f)) k
+          by_step : BrokenStep sys a.o (records_in (p ∷ f)) ⊎ (q ∷ m ≡ []) → Turned sys a nils (records_in (p ∷ f))
+          by_step (inl k) = one-step nils None (records_in (p ∷ f)) k
           by_step (inr k) = absurd (cc)
 
-      outside : (mid : Option Config) → StepShape sys a.o mid (bare h.0) → Steps sys a es mid h.1 end → (m : List Piece) → front ≡ h.0 ++ m → h.1 ≡ m ++ back
-          → Turned sys a nils (bare m) → Turned sys a nils (bare front)
+      outside : (mid : Option Config) → StepShape sys a.o mid (records_in h.0) → Steps sys a es mid h.1 end → (m : List Piece) → front ≡ h.0 ++ m → h.1 ≡ m ++ back
+          → Turned sys a nils (records_in m) → Turned sys a nils (records_in front)
       outside (Some d) shape rest m is behind k =
-          subst (λ us. Turned sys a nils us) (sym (ap bare is ∙ bare-append h.0 m)) (turn-more sys a nils (bare h.0) (bare m) shape k)
+          subst (λ us. Turned sys a nils us) (sym (ap records_in is ∙ bare-append h.0 m)) (turn-more sys a nils (records_in h.0) (records_in m) shape k)
       outside None shape rest m is behind k =
           let gone : m ≡ [] = empty-front m back (sym behind ∙ nothing-after es h.1 end rest) in
-          subst (λ us. Turned sys a nils us) (sym (ap bare is ∙ bare-append h.0 m)) (broken sys a nils (bare h.0) (bare m) shape (ap bare gone))
+          subst (λ us. Turned sys a nils us) (sym (ap records_in is ∙ bare-append h.0 m)) (broken sys a nils (records_in h.0) (records_in m) shape (ap records_in gone))
 
-      either : ((m : List Piece) → m ++ back ≡ h.1 → AtPoint m back → Turned sys a nils (bare m))
-          → ((m : List Piece) × (h.0 ≡ front ++ m) × (back ≡ m ++ h.1)) ⊎ ((m : List Piece) × (front ≡ h.0 ++ m) × (h.1 ≡ m ++ back)) → Turned sys a nils (bare front)
+      either : ((m : List Piece) → m ++ back ≡ h.1 → AtPoint m back → Turned sys a nils (records_in m))
+          → ((m : List Piece) × (h.0 ≡ front ++ m) × (back ≡ m ++ h.1)) ⊎ ((m : List Piece) × (front ≡ h.0 ++ m) × (h.1 ≡ m ++ back)) → Turned sys a nils (records_in front)
       either later (inl k) = inside front k.0 k.1 k.2 here
       either later (inr k) =
           let at_m : AtPoint k.0 back = at-append h.0 k.0 back (subst (λ us. AtPoint us back) k.1 here) in
@@ -605,51 +605,51 @@ module _ (sys : System) (a : Actor) where
 
   -- a course that stopped at a point: its object hasn't started, or its records have the shape of an object's that broke off
   pub course-cut : (nils : Bool) (first : Config) (es : List Entry) (ps : List Piece) (end : Option Config) (front back : List Piece) → Course sys a first es ps end
-      → front ++ back ≡ ps → AtPoint front back → (bare front ≡ []) ⊎ ObjectGroups sys a.o nils true (bare front)
-  unfolding Course StartShape ObjectGroups bare Starts
+      → front ++ back ≡ ps → AtPoint front back → (records_in front ≡ []) ⊎ ObjectGroups sys a.o nils true (records_in front)
+  unfolding Course StartShape ObjectGroups records_in Starts
   course-cut nils first es ps end front back h eq here = either (split front back h.0 h.1 (eq ∙ h.3))
     where
-      whole : (mid : Option Config) → StartShape sys a.o mid (bare h.0) → ObjectGroups sys a.o nils true (bare h.0)
-      whole (Some d) shape = subst (λ us. ObjectGroups sys a.o nils true us) (append-nil (bare h.0)) (started sys a nils (bare h.0) [] shape (no-turns sys a nils))
+      whole : (mid : Option Config) → StartShape sys a.o mid (records_in h.0) → ObjectGroups sys a.o nils true (records_in h.0)
+      whole (Some d) shape = subst (λ us. ObjectGroups sys a.o nils true us) (append-nil (records_in h.0)) (started sys a nils (records_in h.0) [] shape (no-turns sys a nils))
       whole None shape = inl (refl, shape)
 
-      inside : (m : List Piece) → h.0 ≡ front ++ m → back ≡ m ++ h.1 → (bare front ≡ []) ⊎ ObjectGroups sys a.o nils true (bare front)
+      inside : (m : List Piece) → h.0 ≡ front ++ m → back ≡ m ++ h.1 → (records_in front ≡ []) ⊎ ObjectGroups sys a.o nils true (records_in front)
       inside [] is behind =
           let same : h.0 ≡ front = is ∙ append-nil front in
-          inr (subst (λ us. ObjectGroups sys a.o nils true (bare us)) same (whole h.2 (starts-shape sys a first h.0 h.2 h.4)))
+          inr (subst (λ us. ObjectGroups sys a.o nils true (records_in us)) same (whole h.2 (starts-shape sys a first h.0 h.2 h.4)))
       inside (q ∷ m) is behind =
           let at_m : AtPoint front (q ∷ m) = at-head front q (m ++ h.1) m (subst (λ us. AtPoint front us) behind here) in
-          inl (ap bare (tells-cut (bare h.4.0) front q m (sym h.4.3 ∙ is) at_m))
+          inl (ap records_in (tells-cut (records_in h.4.0) front q m (sym h.4.3 ∙ is) at_m))
 
-      outside : (mid : Option Config) → StartShape sys a.o mid (bare h.0) → Steps sys a es mid h.1 end → (m : List Piece) → front ≡ h.0 ++ m → h.1 ≡ m ++ back → AtPoint m back
-          → ObjectGroups sys a.o nils true (bare front)
+      outside : (mid : Option Config) → StartShape sys a.o mid (records_in h.0) → Steps sys a es mid h.1 end → (m : List Piece) → front ≡ h.0 ++ m → h.1 ≡ m ++ back → AtPoint m back
+          → ObjectGroups sys a.o nils true (records_in front)
       outside (Some d) shape rest m is behind at_m =
-          subst (λ us. ObjectGroups sys a.o nils true us) (sym (ap bare is ∙ bare-append h.0 m))
-          (started sys a nils (bare h.0) (bare m) shape (steps-cut nils es (Some d) h.1 end m back rest (sym behind) at_m))
+          subst (λ us. ObjectGroups sys a.o nils true us) (sym (ap records_in is ∙ bare-append h.0 m))
+          (started sys a nils (records_in h.0) (records_in m) shape (steps-cut nils es (Some d) h.1 end m back rest (sym behind) at_m))
       outside None shape rest m is behind at_m =
           let gone : m ≡ [] = empty-front m back (sym behind ∙ nothing-after es h.1 end rest) in
-          subst (λ us. ObjectGroups sys a.o nils true us) (sym (ap bare is ∙ bare-append h.0 m ∙ ap (λ us. bare h.0 ++ bare us) gone ∙ append-nil (bare h.0))) (inl (refl, shape))
+          subst (λ us. ObjectGroups sys a.o nils true us) (sym (ap records_in is ∙ bare-append h.0 m ∙ ap (λ us. records_in h.0 ++ records_in us) gone ∙ append-nil (records_in h.0))) (inl (refl, shape))
 
       either : ((m : List Piece) × (h.0 ≡ front ++ m) × (back ≡ m ++ h.1)) ⊎ ((m : List Piece) × (front ≡ h.0 ++ m) × (h.1 ≡ m ++ back))
-          → (bare front ≡ []) ⊎ ObjectGroups sys a.o nils true (bare front)
+          → (records_in front ≡ []) ⊎ ObjectGroups sys a.o nils true (records_in front)
       either (inl k) = inside k.0 k.1 k.2
       either (inr k) = inr (outside h.2 (starts-shape sys a first h.0 h.2 h.4) h.5 k.0 k.1 k.2 (at-append h.0 k.0 back (subst (λ us. AtPoint us back) k.1 here)))
 
 -- what follows its chart has the groups of an object, with the same cut
-pub follows-groups : (sys : System) (d : ObjectDef) (nils : Bool) (cut : Cut) (ps : List Piece) → FollowsTo sys d cut ps → CutGroups sys d.priority nils cut (bare ps)
+pub follows-groups : (sys : System) (d : ObjectDef) (nils : Bool) (cut : Cut) (ps : List Piece) → FollowsTo sys d cut ps → CutGroups sys d.priority nils cut (records_in ps)
 unfolding FollowsTo Follows FollowsAs FollowsThrough FollowsThroughAs CutGroups
 follows-groups sys d nils Whole ps h = by_chart (chart_at sys d.chart) h
   where
-    by_chart : (o : Option Chart) → FollowsThroughAs sys d o ps → ObjectGroups sys d.priority nils false (bare ps)
+    by_chart : (o : Option Chart) → FollowsThroughAs sys d o ps → ObjectGroups sys d.priority nils false (records_in ps)
     by_chart None k = absurd k
     by_chart (Some chart) k = course-whole sys (actor d chart) nils false (first_config d) k.1 k.0 ps k.2
 follows-groups sys d nils Stopped ps h = by_chart (chart_at sys d.chart) h.1
   where
-    by_chart : (o : Option Chart) → FollowsAs sys d o (ps ++ h.0) → (bare ps ≡ []) ⊎ ObjectGroups sys d.priority nils true (bare ps)
+    by_chart : (o : Option Chart) → FollowsAs sys d o (ps ++ h.0) → (records_in ps ≡ []) ⊎ ObjectGroups sys d.priority nils true (records_in ps)
     by_chart None k = absurd k
     by_chart (Some chart) k = course-cut sys (actor d chart) nils (first_config d) k.0 (ps ++ h.0) k.1 ps h.0 k.2 refl h.2
-follows-groups sys d nils Anywhere ps h = (bare h.0, inr (subst (λ us. ObjectGroups sys d.priority nils true us) (bare-append ps h.0) (by_chart (chart_at sys d.chart) h.1)))
+follows-groups sys d nils Anywhere ps h = (records_in h.0, inr (subst (λ us. ObjectGroups sys d.priority nils true us) (bare-append ps h.0) (by_chart (chart_at sys d.chart) h.1)))
   where
-    by_chart : (o : Option Chart) → FollowsAs sys d o (ps ++ h.0) → ObjectGroups sys d.priority nils true (bare (ps ++ h.0))
+    by_chart : (o : Option Chart) → FollowsAs sys d o (ps ++ h.0) → ObjectGroups sys d.priority nils true (records_in (ps ++ h.0))
     by_chart None k = absurd k
     by_chart (Some chart) k = course-shape sys (actor d chart) nils (first_config d) k.0 (ps ++ h.0) k.1 k.2

@@ -11,12 +11,12 @@ use Rattle.qp_model.specs.declared.systems.ObjectDef.{ObjectDef}
 use Rattle.qp_model.specs.declared.bodies.Entry.{Entry}
 use Rattle.qp_model.specs.declared.bodies.Body.{Body}
 use Rattle.qp_model.specs.declared.bodies.Body.TheVariants as item
-use Rattle.qp_model.specs.Told.{Told, plain, raised, taken}
+use Rattle.qp_model.specs.Told.{Told, plain, raised, told_took}
 use Rattle.qp_model.specs.Calls as call
 use Rattle.qp_model.specs.Calls.{Call, Answer, Deed, Sets, Says, Calls, deed_of, ok_after, is_assertion}
 use Rattle.qp_model.specs.Shapes.{Fits}
 use Rattle.qp_model.specs.Deferral.{keep, kept_after, KeepsDeferred}
-use Rattle.qp_model.specs.Pieces.{Piece, Point, bare, tell, pieces_of}
+use Rattle.qp_model.specs.Pieces.{Piece, Point, records_in, tell, pieces_of}
 use Rattle.qp_model.specs.Acts.{Config, Actor, Moment, Later, DoesCall, DoesDeed, DoesTask, Does, names_of}
 use Rattle.qp_model.specs.Step.{Step, StepBehind, Closes, at_leaf, moment}
 use Rattle.qp_model.specs.Course.{Starts, Steps, Course, Follows, FollowsAs, FollowsTo, Cut, Whole, at_start, actor, first_config, chart_at}
@@ -144,14 +144,14 @@ kept-same room old g h end e k = subst (λ us. Kept room old us end) (sym e) k
 module _ (sys : System) (a : Actor) (at : Moment) where
   -- records that leave the next configuration's list, and then what is to come
   KeptThen : Config → Later → List Piece → Type 0
-  KeptThen c later ps = (g : List Told) × (d : Config) × (rest : List Piece) × (kept_after a.room c.kept g ≡ Some d.kept) × (bare ps ≡ g ++ bare rest) × later d rest
+  KeptThen c later ps = (g : List Told) × (d : Config) × (rest : List Piece) × (kept_after a.room c.kept g ≡ Some d.kept) × (records_in ps ≡ g ++ records_in rest) × later d rest
 
   -- or they end in an assertion
   KeptLast : Config → Type 0 → List Piece → Type 0
-  KeptLast c failed ps = ((new : List Entry) × (kept_after a.room c.kept (bare ps) ≡ Some new)) × failed
+  KeptLast c failed ps = ((new : List Entry) × (kept_after a.room c.kept (records_in ps) ≡ Some new)) × failed
 
   call-keeps : (c : Config) (later : Later) (failed : Type 0) (x : Call) (ps : List Piece) → DoesCall sys a at.entry c later failed x ps → KeptThen c later ps ⊎ KeptLast c failed ps
-  unfolding DoesCall KeptThen KeptLast bare
+  unfolding DoesCall KeptThen KeptLast records_in
   call-keeps c later failed x ps h = by (is_assertion h.0) h.5
     where
       kept : kept_after a.room c.kept h.1 ≡ Some h.2
@@ -159,43 +159,43 @@ module _ (sys : System) (a : Actor) (at : Moment) where
 
       by : (b : Bool) → MatchBool b ((ps ≡ pieces_of x h.1) × failed) ((rest : List Piece) × (ps ≡ pieces_of x h.1 ++ (Point ∷ rest)) × later (record c { ok = ok_after h.0 c.ok; kept = h.2 }) rest)
           → KeptThen c later ps ⊎ KeptLast c failed ps
-      by true k = inr ((h.2, subst (λ us. kept_after a.room c.kept us ≡ Some h.2) (sym (ap bare k.0 ∙ bare-pieces_of x h.1)) kept), k.1)
+      by true k = inr ((h.2, subst (λ us. kept_after a.room c.kept us ≡ Some h.2) (sym (ap records_in k.0 ∙ bare-pieces_of x h.1)) kept), k.1)
       by false k = inl (
         h.1,
         record c { ok = ok_after h.0 c.ok; kept = h.2 },
         k.0,
         kept,
-        ap bare k.1 ∙ bare-append (pieces_of x h.1) (Point ∷ k.0) ∙ ap (λ us. us ++ bare (Point ∷ k.0)) (bare-pieces_of x h.1),
+        ap records_in k.1 ∙ bare-append (pieces_of x h.1) (Point ∷ k.0) ∙ ap (λ us. us ++ records_in (Point ∷ k.0)) (bare-pieces_of x h.1),
         k.2,
       )
 
   task-keeps : (c : Config) (later : Later) (failed : Type 0) (t : Task) (ps : List Piece) → DoesTask sys a at c later failed t ps → KeptThen c later ps ⊎ KeptLast c failed ps
-  unfolding DoesTask DoesDeed KeptThen kept_after bare
+  unfolding DoesTask DoesDeed KeptThen kept_after records_in
   task-keeps c later failed (Do p) ps h = by (deed_of (names_of a c at.event) p) h
     where
       by : (d : Deed) → DoesDeed sys a at.entry c later failed d ps → KeptThen c later ps ⊎ KeptLast c failed ps
-      by (Sets var value) h = inl ([], _, h.0, refl, ap bare h.1, h.2)
-      by (Says value) h = inl (plain (item.Say value) ∷ [], c, h.0, refl, ap bare h.1, h.2)
+      by (Sets var value) h = inl ([], _, h.0, refl, ap records_in h.1, h.2)
+      by (Says value) h = inl (plain (item.Say value) ∷ [], c, h.0, refl, ap records_in h.1, h.2)
       by (Calls x) h = call-keeps c later failed x ps h
-  task-keeps c later failed (Raise ceiling) ps h = inl (raised (max h.0 ceiling) h.0 ∷ [], record c { former = h.0 }, h.1.0, refl, ap bare h.1.1, h.1.2)
-  task-keeps c later failed Restore ps h = inl (plain (item.Unlock c.former) ∷ [], c, h.2.0, refl, ap bare h.1 ∙ ap (λ us. plain (item.Unlock c.former) ∷ bare us) h.2.1, h.2.2)
-  task-keeps c later failed Begin ps h = inl (plain item.Begin ∷ [], c, h.0, refl, ap bare h.1, h.2)
-  task-keeps c later failed (Run s k) ps h = inl (plain (item.Run s k) ∷ [], c, h.0, refl, ap bare h.1, h.2)
-  task-keeps c later failed Unhandled ps h = inl (plain item.Unhandled ∷ [], c, h.0, refl, ap bare h.1, h.2)
-  task-keeps c later failed (Exit s) ps h = inl (plain (item.Exit s) ∷ [], c, h.0, refl, ap bare h.1, h.2)
-  task-keeps c later failed (Enter s) ps h = inl (plain (item.Enter s) ∷ [], c, h.0, refl, ap bare h.1, h.2)
-  task-keeps c later failed (Init s) ps h = inl (plain (item.Init s) ∷ [], c, h.0, refl, ap bare h.1, h.2)
-  task-keeps c later failed Done ps h = inl (plain item.Done ∷ [], c, h.0, refl, ap bare h.1, h.2)
+  task-keeps c later failed (Raise ceiling) ps h = inl (raised (max h.0 ceiling) h.0 ∷ [], record c { former = h.0 }, h.1.0, refl, ap records_in h.1.1, h.1.2)
+  task-keeps c later failed Restore ps h = inl (plain (item.Unlock c.former) ∷ [], c, h.2.0, refl, ap records_in h.1 ∙ ap (λ us. plain (item.Unlock c.former) ∷ records_in us) h.2.1, h.2.2)
+  task-keeps c later failed Begin ps h = inl (plain item.Begin ∷ [], c, h.0, refl, ap records_in h.1, h.2)
+  task-keeps c later failed (Run s k) ps h = inl (plain (item.Run s k) ∷ [], c, h.0, refl, ap records_in h.1, h.2)
+  task-keeps c later failed Unhandled ps h = inl (plain item.Unhandled ∷ [], c, h.0, refl, ap records_in h.1, h.2)
+  task-keeps c later failed (Exit s) ps h = inl (plain (item.Exit s) ∷ [], c, h.0, refl, ap records_in h.1, h.2)
+  task-keeps c later failed (Enter s) ps h = inl (plain (item.Enter s) ∷ [], c, h.0, refl, ap records_in h.1, h.2)
+  task-keeps c later failed (Init s) ps h = inl (plain (item.Init s) ∷ [], c, h.0, refl, ap records_in h.1, h.2)
+  task-keeps c later failed Done ps h = inl (plain item.Done ∷ [], c, h.0, refl, ap records_in h.1, h.2)
 
-  pub does-keeps : (ts : List Task) (c : Config) (ps : List Piece) (end : Option Config) → Does sys a at ts c ps end → Kept a.room c.kept (bare ps) end
-  unfolding Does Kept kept_after KeptThen KeptLast bare
-  does-keeps [] c ps end h = subst (λ x. Kept a.room c.kept (bare ps) x) (sym h.1) (ap (λ us. kept_after a.room c.kept (bare us)) h.0)
+  pub does-keeps : (ts : List Task) (c : Config) (ps : List Piece) (end : Option Config) → Does sys a at ts c ps end → Kept a.room c.kept (records_in ps) end
+  unfolding Does Kept kept_after KeptThen KeptLast records_in
+  does-keeps [] c ps end h = subst (λ x. Kept a.room c.kept (records_in ps) x) (sym h.1) (ap (λ us. kept_after a.room c.kept (records_in us)) h.0)
   does-keeps (t ∷ ts) c ps end h = by (λ d rest k. does-keeps ts d rest end k) (task-keeps c (λ d rest. Does sys a at ts d rest end) (end ≡ None) t ps h)
     where
-      by : ((d : Config) (rest : List Piece) → Does sys a at ts d rest end → Kept a.room d.kept (bare rest) end)
-          → KeptThen c (λ d rest. Does sys a at ts d rest end) ps ⊎ KeptLast c (end ≡ None) ps → Kept a.room c.kept (bare ps) end
-      by go (inl k) = kept-same a.room c.kept (bare ps) (k.0 ++ bare k.2) end k.4 (kept-before a.room c.kept k.1.kept k.0 (bare k.2) end k.3 (go k.1 k.2 k.5))
-      by go (inr k) = subst (λ x. Kept a.room c.kept (bare ps) x) (sym k.1) k.0
+      by : ((d : Config) (rest : List Piece) → Does sys a at ts d rest end → Kept a.room d.kept (records_in rest) end)
+          → KeptThen c (λ d rest. Does sys a at ts d rest end) ps ⊎ KeptLast c (end ≡ None) ps → Kept a.room c.kept (records_in ps) end
+      by go (inl k) = kept-same a.room c.kept (records_in ps) (k.0 ++ records_in k.2) end k.4 (kept-before a.room c.kept k.1.kept k.0 (records_in k.2) end k.3 (go k.1 k.2 k.5))
+      by go (inr k) = subst (λ x. Kept a.room c.kept (records_in ps) x) (sym k.1) k.0
 
 module _ (sys : System) (a : Actor) where
   at_leaf-kept : (leaf : ℕ) (old : List Entry) (g : List Told) (mid end : Option Config) → end ≡ at_leaf leaf mid → Kept a.room old g mid → Kept a.room old g end
@@ -203,70 +203,70 @@ module _ (sys : System) (a : Actor) where
   at_leaf-kept leaf old g None end is h = subst (λ x. Kept a.room old g x) (sym is) h
   at_leaf-kept leaf old g (Some d) end is h = subst (λ x. Kept a.room old g x) (sym is) h
 
-  step-keeps : (e : Entry) (c : Config) (ps : List Piece) (end : Option Config) → Step sys a e c ps end → Kept a.room c.kept (bare ps) end
-  unfolding Step StepBehind Closes Kept kept_after bare
+  step-keeps : (e : Entry) (c : Config) (ps : List Piece) (end : Option Config) → Step sys a e c ps end → Kept a.room c.kept (records_in ps) end
+  unfolding Step StepBehind Closes Kept kept_after records_in
   step-keeps e c ps end h =
-      at_leaf-kept _ c.kept (bare ps) h.6.2 end h.6.6 (kept-same a.room c.kept (bare ps) (taken h.0 h.1 h.2 e h.3 ∷ (bare h.6.0 ++ h.6.1)) h.6.2 whole (took h.6.2 (closed h.6.2 h.6.4 (does-keeps sys a (moment h.3 e) (step_plan a.chart c.leaf (names_of a c h.3) h.3.sig).tasks c h.6.0 h.6.2 h.6.3))))
+      at_leaf-kept _ c.kept (records_in ps) h.6.2 end h.6.6 (kept-same a.room c.kept (records_in ps) (told_took h.0 h.1 h.2 e h.3 ∷ (records_in h.6.0 ++ h.6.1)) h.6.2 whole (took h.6.2 (closed h.6.2 h.6.4 (does-keeps sys a (moment h.3 e) (step_plan a.chart c.leaf (names_of a c h.3) h.3.sig).tasks c h.6.0 h.6.2 h.6.3))))
     where
-      whole : bare ps ≡ taken h.0 h.1 h.2 e h.3 ∷ (bare h.6.0 ++ h.6.1)
+      whole : records_in ps ≡ told_took h.0 h.1 h.2 e h.3 ∷ (records_in h.6.0 ++ h.6.1)
       whole =
-          ap bare h.5 ∙ ap (λ us. taken h.0 h.1 h.2 e h.3 ∷ us) (ap bare h.6.5 ∙ bare-append h.6.0 (tell h.6.1) ∙ ap (λ us. bare h.6.0 ++ us) (bare-tell h.6.1))
+          ap records_in h.5 ∙ ap (λ us. told_took h.0 h.1 h.2 e h.3 ∷ us) (ap records_in h.6.5 ∙ bare-append h.6.0 (tell h.6.1) ∙ ap (λ us. records_in h.6.0 ++ us) (bare-tell h.6.1))
 
-      closed : (mid : Option Config) → Closes e mid h.6.1 → Kept a.room c.kept (bare h.6.0) mid → Kept a.room c.kept (bare h.6.0 ++ h.6.1) mid
-      closed None is k = subst (λ us. Kept a.room c.kept (bare h.6.0 ++ us) None) (sym is) (subst (λ us. Kept a.room c.kept us None) (sym (append-nil (bare h.6.0))) k)
-      closed (Some d) drops k = kept-append a.room c.kept d.kept (bare h.6.0) h.6.1 k ∙ kept-calm a.room d.kept h.6.1 (calm-drops e h.6.1 drops)
+      closed : (mid : Option Config) → Closes e mid h.6.1 → Kept a.room c.kept (records_in h.6.0) mid → Kept a.room c.kept (records_in h.6.0 ++ h.6.1) mid
+      closed None is k = subst (λ us. Kept a.room c.kept (records_in h.6.0 ++ us) None) (sym is) (subst (λ us. Kept a.room c.kept us None) (sym (append-nil (records_in h.6.0))) k)
+      closed (Some d) drops k = kept-append a.room c.kept d.kept (records_in h.6.0) h.6.1 k ∙ kept-calm a.room d.kept h.6.1 (calm-drops e h.6.1 drops)
 
-      took : (mid : Option Config) → Kept a.room c.kept (bare h.6.0 ++ h.6.1) mid → Kept a.room c.kept (taken h.0 h.1 h.2 e h.3 ∷ (bare h.6.0 ++ h.6.1)) mid
+      took : (mid : Option Config) → Kept a.room c.kept (records_in h.6.0 ++ h.6.1) mid → Kept a.room c.kept (told_took h.0 h.1 h.2 e h.3 ∷ (records_in h.6.0 ++ h.6.1)) mid
       took None k = k
       took (Some d) k = k
 
-  steps-keeps : (es : List Entry) (c : Config) (ps : List Piece) (end : Option Config) → Steps sys a es (Some c) ps end → Kept a.room c.kept (bare ps) end
-  unfolding Steps Kept kept_after bare
-  steps-keeps [] c ps end h = subst (λ x. Kept a.room c.kept (bare ps) x) (sym h.1) (ap (λ us. kept_after a.room c.kept (bare us)) h.0)
+  steps-keeps : (es : List Entry) (c : Config) (ps : List Piece) (end : Option Config) → Steps sys a es (Some c) ps end → Kept a.room c.kept (records_in ps) end
+  unfolding Steps Kept kept_after records_in
+  steps-keeps [] c ps end h = subst (λ x. Kept a.room c.kept (records_in ps) x) (sym h.1) (ap (λ us. kept_after a.room c.kept (records_in us)) h.0)
   steps-keeps (e ∷ es) c ps end h =
-      kept-same a.room c.kept (bare ps) (bare h.0 ++ bare h.1) end (ap bare h.3 ∙ bare-append h.0 h.1)
+      kept-same a.room c.kept (records_in ps) (records_in h.0 ++ records_in h.1) end (ap records_in h.3 ∙ bare-append h.0 h.1)
       (by h.2 (step-keeps e c h.0 h.2 h.4) (λ d k. steps-keeps es d h.1 end k) h.5)
     where
-      nothing : (es : List Entry) (ps : List Piece) → Steps sys a es None ps end → (bare ps ≡ []) × (end ≡ None)
-      nothing [] ps k = (ap bare k.0, k.1)
+      nothing : (es : List Entry) (ps : List Piece) → Steps sys a es None ps end → (records_in ps ≡ []) × (end ≡ None)
+      nothing [] ps k = (ap records_in k.0, k.1)
       nothing (x ∷ xs) ps k = absurd k
 
-      by : (mid : Option Config) → Kept a.room c.kept (bare h.0) mid → ((d : Config) → Steps sys a es (Some d) h.1 end → Kept a.room d.kept (bare h.1) end) → Steps sys a es mid h.1 end
-          → Kept a.room c.kept (bare h.0 ++ bare h.1) end
-      by (Some d) one go k = kept-before a.room c.kept d.kept (bare h.0) (bare h.1) end one (go d k)
+      by : (mid : Option Config) → Kept a.room c.kept (records_in h.0) mid → ((d : Config) → Steps sys a es (Some d) h.1 end → Kept a.room d.kept (records_in h.1) end) → Steps sys a es mid h.1 end
+          → Kept a.room c.kept (records_in h.0 ++ records_in h.1) end
+      by (Some d) one go k = kept-before a.room c.kept d.kept (records_in h.0) (records_in h.1) end one (go d k)
       by None one go k =
           let gone = nothing es h.1 k in
-          subst (λ x. Kept a.room c.kept (bare h.0 ++ bare h.1) x) (sym gone.1)
-          (subst (λ us. Kept a.room c.kept (bare h.0 ++ us) None) (sym gone.0) (subst (λ us. Kept a.room c.kept us None) (sym (append-nil (bare h.0))) one))
+          subst (λ x. Kept a.room c.kept (records_in h.0 ++ records_in h.1) x) (sym gone.1)
+          (subst (λ us. Kept a.room c.kept (records_in h.0 ++ us) None) (sym gone.0) (subst (λ us. Kept a.room c.kept us None) (sym (append-nil (records_in h.0))) one))
 
-  starts-keeps : (first : Config) (ps : List Piece) (end : Option Config) → Starts sys a first ps end → Kept a.room first.kept (bare ps) end
+  starts-keeps : (first : Config) (ps : List Piece) (end : Option Config) → Starts sys a first ps end → Kept a.room first.kept (records_in ps) end
   unfolding Starts
   starts-keeps first ps end h =
-      at_leaf-kept _ first.kept (bare ps) h.1 end h.4 (kept-same a.room first.kept (bare ps) (bare h.0) h.1 (ap bare h.3 ∙ bare-tell (bare h.0)) (does-keeps sys a at_start (start_plan a.chart).tasks first h.0 h.1 h.2))
+      at_leaf-kept _ first.kept (records_in ps) h.1 end h.4 (kept-same a.room first.kept (records_in ps) (records_in h.0) h.1 (ap records_in h.3 ∙ bare-tell (records_in h.0)) (does-keeps sys a at_start (start_plan a.chart).tasks first h.0 h.1 h.2))
 
   -- the records of a course leave the deferred list of its configuration
-  pub course-keeps : (first : Config) (es : List Entry) (ps : List Piece) (end : Option Config) → Course sys a first es ps end → Kept a.room first.kept (bare ps) end
-  unfolding Course Steps Kept bare
+  pub course-keeps : (first : Config) (es : List Entry) (ps : List Piece) (end : Option Config) → Course sys a first es ps end → Kept a.room first.kept (records_in ps) end
+  unfolding Course Steps Kept records_in
   course-keeps first es ps end h =
-      kept-same a.room first.kept (bare ps) (bare h.0 ++ bare h.1) end (ap bare h.3 ∙ bare-append h.0 h.1) (by h.2 (starts-keeps first h.0 h.2 h.4) h.5)
+      kept-same a.room first.kept (records_in ps) (records_in h.0 ++ records_in h.1) end (ap records_in h.3 ∙ bare-append h.0 h.1) (by h.2 (starts-keeps first h.0 h.2 h.4) h.5)
     where
-      nothing : (es : List Entry) (ps : List Piece) → Steps sys a es None ps end → (bare ps ≡ []) × (end ≡ None)
-      nothing [] ps k = (ap bare k.0, k.1)
+      nothing : (es : List Entry) (ps : List Piece) → Steps sys a es None ps end → (records_in ps ≡ []) × (end ≡ None)
+      nothing [] ps k = (ap records_in k.0, k.1)
       nothing (x ∷ xs) ps k = absurd k
 
-      by : (mid : Option Config) → Kept a.room first.kept (bare h.0) mid → Steps sys a es mid h.1 end → Kept a.room first.kept (bare h.0 ++ bare h.1) end
-      by (Some d) one k = kept-before a.room first.kept d.kept (bare h.0) (bare h.1) end one (steps-keeps es d h.1 end k)
+      by : (mid : Option Config) → Kept a.room first.kept (records_in h.0) mid → Steps sys a es mid h.1 end → Kept a.room first.kept (records_in h.0 ++ records_in h.1) end
+      by (Some d) one k = kept-before a.room first.kept d.kept (records_in h.0) (records_in h.1) end one (steps-keeps es d h.1 end k)
       by None one k =
           let gone = nothing es h.1 k in
-          subst (λ x. Kept a.room first.kept (bare h.0 ++ bare h.1) x) (sym gone.1)
-          (subst (λ us. Kept a.room first.kept (bare h.0 ++ us) None) (sym gone.0) (subst (λ us. Kept a.room first.kept us None) (sym (append-nil (bare h.0))) one))
+          subst (λ x. Kept a.room first.kept (records_in h.0 ++ records_in h.1) x) (sym gone.1)
+          (subst (λ us. Kept a.room first.kept (records_in h.0 ++ us) None) (sym gone.0) (subst (λ us. Kept a.room first.kept us None) (sym (append-nil (records_in h.0))) one))
 
   -- so each record of deferral stands where the list allows it
-  pub course-deferral : (first : Config) (es : List Entry) (ps : List Piece) (end : Option Config) → Course sys a first es ps end → is_some (kept_after a.room first.kept (bare ps)) ≡ true
+  pub course-deferral : (first : Config) (es : List Entry) (ps : List Piece) (end : Option Config) → Course sys a first es ps end → is_some (kept_after a.room first.kept (records_in ps)) ≡ true
   unfolding Kept
   course-deferral first es ps end h = by end (course-keeps first es ps end h)
     where
-      by : (end : Option Config) → Kept a.room first.kept (bare ps) end → is_some (kept_after a.room first.kept (bare ps)) ≡ true
+      by : (end : Option Config) → Kept a.room first.kept (records_in ps) end → is_some (kept_after a.room first.kept (records_in ps)) ≡ true
       by None k = rw k.1 refl
       by (Some d) k = rw k refl
 
@@ -282,19 +282,19 @@ kept-front room old (t ∷ g) h k = by (keep room old t.body) (λ next k. kept-f
     by (Some next) go k = go next k
 
 -- in what follows its chart each record of deferral stands where the list allows it
-pub follows-deferral : (sys : System) (d : ObjectDef) (cut : Cut) (ps : List Piece) → FollowsTo sys d cut ps → is_some (kept_after d.defer [] (bare ps)) ≡ true
+pub follows-deferral : (sys : System) (d : ObjectDef) (cut : Cut) (ps : List Piece) → FollowsTo sys d cut ps → is_some (kept_after d.defer [] (records_in ps)) ≡ true
 unfolding FollowsTo Follows FollowsAs
 follows-deferral sys d cut ps h = by cut h
   where
-    by_chart : (o : Option Chart) (ps : List Piece) → FollowsAs sys d o ps → is_some (kept_after d.defer [] (bare ps)) ≡ true
+    by_chart : (o : Option Chart) (ps : List Piece) → FollowsAs sys d o ps → is_some (kept_after d.defer [] (records_in ps)) ≡ true
     by_chart None ps k = absurd k
     by_chart (Some chart) ps k = course-deferral sys (actor d chart) (first_config d) k.0 ps k.1 k.2
 
-    longer : (back : List Piece) → FollowsAs sys d (chart_at sys d.chart) (ps ++ back) → is_some (kept_after d.defer [] (bare ps)) ≡ true
+    longer : (back : List Piece) → FollowsAs sys d (chart_at sys d.chart) (ps ++ back) → is_some (kept_after d.defer [] (records_in ps)) ≡ true
     longer back k =
-        kept-front d.defer [] (bare ps) (bare back)
+        kept-front d.defer [] (records_in ps) (records_in back)
         (subst (λ us. is_some (kept_after d.defer [] us) ≡ true) (bare-append ps back) (by_chart (chart_at sys d.chart) (ps ++ back) k))
 
-    by : (cut : Cut) → FollowsTo sys d cut ps → is_some (kept_after d.defer [] (bare ps)) ≡ true
+    by : (cut : Cut) → FollowsTo sys d cut ps → is_some (kept_after d.defer [] (records_in ps)) ≡ true
     by Whole k = by_chart (chart_at sys d.chart) ps (through-follows sys d ps k)
     by _ k = longer k.0 k.1

@@ -14,7 +14,7 @@ use Rattle.qp_model.specs.Told.{Event}
 use Rattle.qp_model.specs.History.{hist, all_items}
 use Rattle.qp_model.specs.Machine.{after, allowed_from, is_allowed}
 use Rattle.qp_model.specs.Lives.{Life, life_of, life_next, life_may, edge_of, edges, edges_empty, refs_at, is_empty, HasLives}
-use Rattle.qp_model.specs.Knowing.{given_by, last_given, life_event, event_of, event_known}
+use Rattle.qp_model.specs.Knowing.{given_by, last_given, life_event, event_of_entry, event_known}
 use Rattle.qp_model.specs.WordLaw.{Words, is_pool, is_block}
 use Rattle.qp_model.specs.Sites.{blocks_of}
 use Rattle.qp_model.specs.Promises as promise
@@ -271,9 +271,9 @@ module _ (sys : System) (lanes : List (List Rec)) (words : Words sys lanes) (p b
       go true is h = let lt : r < length (hist (word.Block p b) (all_items lanes)) = grind (arith, nat_tests, is) in found lt h
       go false is h = absurd (cc)
 
-  pub event-is : (event_of (record { sys = sys; items = all_items lanes }) (entry p b r) ≡ Some ev)
+  pub event-is : (event_of_entry (record { sys = sys; items = all_items lanes }) (entry p b r) ≡ Some ev)
       ↔ LiesInLife p b r ev (operations (word.Pool p) lanes) (operations (word.Block p b) lanes)
-  unfolding event_of
+  unfolding event_of_entry
   event-is =
       let above : nat_lt 0 p ≡ true = (and_parts _ _ in_pool).0 in
       let pooled : (p == 0) ≡ false = grind (arith, nat_tests, above) in

@@ -18,7 +18,7 @@ use Rattle.qp_model.specs.Kernels.{port}
 use Rattle.qp_model.specs.Knowing.{Facts}
 use Rattle.qp_model.specs.Home.{lane_at, home_of, by_object, own_items, home_records}
 use Rattle.qp_model.specs.Ends.{may_cut}
-use Rattle.qp_model.specs.HomeLane.{is_at_home, are_at_home, taken_by, is_home_lane}
+use Rattle.qp_model.specs.HomeLane.{is_at_home, are_at_home, count_taken, is_home_lane}
 use Rattle.qp_model.specs.Lawful.{ObjectHolds, SourceLanes}
 use Rattle.qp_model.specs.Laws.{Ascend}
 use Rattle.qp_model.proofs.TakenLemmas.{is_taking, takes_for, drop-head, none-in-sources}
@@ -62,7 +62,7 @@ unfolding are_at_home
 none-at-home o p budget cuts n [] other h = refl
 none-at-home o p budget cuts n (i ∷ is) other h =
     rw (at_home-takes o p i.of (n == budget) (cuts && (length is == 0)) i.body other (and_parts _ _ h).0)
-    (none-at-home o p budget cuts (taken_by n i.body) is other (and_parts _ _ h).1)
+    (none-at-home o p budget cuts (count_taken n i.body) is other (and_parts _ _ h).1)
 
 none-home : (o p budget : ℕ) (cuts : Bool) (is : List Item) → p ≢ o → is_home_lane p budget cuts is ≡ true → filter (takes_for o) is ≡ []
 unfolding is_home_lane

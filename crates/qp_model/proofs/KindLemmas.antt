@@ -5,7 +5,7 @@ use Rattle.std.proofs.lemmas.Bool.Decides.{nat_tests}
 use Rattle.qp_model.specs.declared.bodies.Body.{Body}
 use Rattle.qp_model.specs.declared.bodies.Body.TheVariants as body
 use Rattle.qp_model.specs.declared.bodies.Body.TheVariants.{NoEntry, NoBlock, Armed, BadTicks, NoLifo, Malformed}
-use Rattle.qp_model.specs.Record.{entry, never, bare, one, two, three, four, five, six, seven, given, asserted, forms, read_by, body_at}
+use Rattle.qp_model.specs.Record.{entry, never, plain_body, one, two, three, four, five, six, seven, given, asserted, forms, read_by, body_at}
 use Rattle.qp_model.specs.KindSorts.{kind_in, sort_of, is_malformed, is_of_sort, SortsHold}
 use Rattle.qp_model.specs.Ends.{is_turn_mark}
 use Rattle.qp_model.specs.OutputSummary.{is_took}
@@ -26,7 +26,7 @@ AllGive k (f ∷ fs) = Gives k f × AllGive (suc k) fs
 never-gives : (k : ℕ) → Gives k never
 never-gives k nums = refl
 
-bare-gives : (k : ℕ) (x : Body) → Fits k x → Gives k (bare x)
+bare-gives : (k : ℕ) (x : Body) → Fits k x → Gives k (plain_body x)
 bare-gives k x h [] = h
 bare-gives k x h (y ∷ ys) = refl
 

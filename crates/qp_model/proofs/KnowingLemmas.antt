@@ -19,7 +19,7 @@ use Rattle.qp_model.specs.FreeBlocks.{free_blocks}
 use Rattle.qp_model.specs.References.{references}
 use Rattle.qp_model.specs.Subscribers.{subscribers}
 use Rattle.qp_model.specs.Sites.{blocks_of}
-use Rattle.qp_model.specs.Knowing.{Facts, free_before, left_after, set_at, given_by, last_given, event_of, event_known, known_of, told, ceiling_after, records_of, ceiling_over, told_lane, told_alone, life_event}
+use Rattle.qp_model.specs.Knowing.{Facts, free_before, references_after, set_at, given_by, last_given, event_of_entry, event_known, known_of, told, ceiling_after, records_of, ceiling_over, told_lane, told_alone, life_event}
 use Rattle.qp_model.specs.Settled.{Settled, AllSettled}
 use Rattle.qp_model.proofs.LineLemmas.{same_number}
 use Rattle.qp_model.proofs.HistoryLemmas.{hist-draws, hist-other}
@@ -89,8 +89,8 @@ module _ (sys : System) (xs : List Item) (i : Item) (ys : List Item) (later : Is
   front_stays w n le = elim (grows w) [ inl e ↦ ap (take n) e | inr e ↦ ap (take n) e.1 ∙ take-append-le n (hist w (xs ++ ys)) (i ∷ []) le ]
 
   event_stays : (e : Entry) → (e.pool ≡ 0) ⊎ (e.name < length (hist (word.Block e.pool e.block) (xs ++ ys)))
-      → event_of (record { sys = sys; items = xs ++ i ∷ ys }) e ≡ event_of (record { sys = sys; items = xs ++ ys }) e
-  unfolding event_of life_event
+      → event_of_entry (record { sys = sys; items = xs ++ i ∷ ys }) e ≡ event_of_entry (record { sys = sys; items = xs ++ ys }) e
+  unfolding event_of_entry life_event
   event_stays e (inl is) =
       let fixed : (e.pool == 0) ≡ true = grind (arith, nat_tests) in
       rw fixed refl
@@ -121,7 +121,7 @@ module _ (sys : System) (xs : List Item) (i : Item) (ys : List Item) (later : Is
 
   pub known-stays : (o c : ℕ) (b : Body) → Settled (xs ++ ys) b
       → known_of (record { sys = sys; items = xs ++ i ∷ ys }) o c b ≡ known_of (record { sys = sys; items = xs ++ ys }) o c b
-  unfolding Settled known_of free_before left_after set_at
+  unfolding Settled known_of free_before references_after set_at
   known-stays o c (Took f l m e) settled = ap event_known (event_stays e settled)
   known-stays o c (New p n b from sig pars) settled = ap (λ h. Free (length (after (free_blocks (blocks_of sys p)) h).free)) (front_stays (word.Pool p) n settled)
   known-stays o c (Dec p b d k) settled = ap (λ h. Left (length (after references h).names)) (front_stays (word.Block p b) (d + 1) (omega (arith, settled)))

@@ -13,7 +13,7 @@ use Rattle.qp_model.specs.Told.{Told, plain, raised}
 use Rattle.qp_model.specs.Calls as call
 use Rattle.qp_model.specs.Calls.{Answer, is_assertion}
 use Rattle.qp_model.specs.Shapes.{Drops}
-use Rattle.qp_model.specs.Pieces.{Piece, bare}
+use Rattle.qp_model.specs.Pieces.{Piece, records_in}
 use Rattle.qp_model.specs.Course.{Cut, Whole, Stopped, Anywhere, FollowsTo}
 use Rattle.qp_model.specs.Sequence.{joined, EachPart, Sequence}
 use Rattle.qp_model.specs.Groups.{IsAction, SaysValue, MakesCall, Actions, IsGroup, IsMove, IsAct, IsLocked, is_move, Groups, IsLast, Asserts, Stops, StopsInPublication, BreaksOff, Plainly, UnderCeiling}
@@ -234,8 +234,8 @@ module _ (sys : System) (o : ℕ) where
   shape-groups nils cut bs h = record { groups = h; last = cut-last nils cut bs h }
 
 -- what follows its chart has the shape of an object's records, with the same cut
-pub follows-shape : (sys : System) (d : ObjectDef) (nils : Bool) (cut : Cut) (ps : List Piece) → FollowsTo sys d cut ps → HasShape sys d.priority nils cut (bare ps)
-follows-shape sys d nils cut ps h = shape-groups sys d.priority nils cut (bare ps) (follows-groups sys d nils cut ps h)
+pub follows-shape : (sys : System) (d : ObjectDef) (nils : Bool) (cut : Cut) (ps : List Piece) → FollowsTo sys d cut ps → HasShape sys d.priority nils cut (records_in ps)
+follows-shape sys d nils cut ps h = shape-groups sys d.priority nils cut (records_in ps) (follows-groups sys d nils cut ps h)
 
 -- at most one `spill` stands in a lane
 pub no-spill : (x y z : Bool) → not (x || y || z) ≡ true → z ≡ false

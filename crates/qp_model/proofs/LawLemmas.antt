@@ -21,7 +21,7 @@ use Rattle.qp_model.specs.WordLaw.{is_pool, is_block}
 use Rattle.qp_model.specs.Kernels.{port, qv}
 use Rattle.qp_model.specs.Home.{lane_at}
 use Rattle.qp_model.specs.KernelLane.{Reading, lane_read}
-use Rattle.qp_model.specs.Ends.{quiet, asserted, spent, spills_in}
+use Rattle.qp_model.specs.Ends.{quiet, end_asserted, spent, spills_in}
 use Rattle.qp_model.specs.Sources.{SourceRuns, SourceEnd, AllDone, may_end, source_records}
 use Rattle.qp_model.specs.End.{end_of, lines_empty, block_rests, blocks_rest}
 use Rattle.qp_model.specs.Lawful.{KernelHolds, SourceLanes, EndHolds, reading_holds, is_settle, setting_of, facts_of, lanes_before, deferred_of}
@@ -105,7 +105,7 @@ sources_done sys j is n (ss ∷ more) h =
     let done : stop ≡ AllDone = all_done (spills_in lane) stop quietly in
     (subst (λ e. SourceRuns sys j.kernel 1 ss e (source_records (facts_of sys j) lane)) done h.0.stimuli.1, sources_done sys j is (n + 1) more h.1)
 
-nothing_stands : (a b : Bool) → (quiet == cond a asserted (cond b spent quiet)) ≡ true → b ≡ false
+nothing_stands : (a b : Bool) → (quiet == cond a end_asserted (cond b spent quiet)) ≡ true → b ≡ false
 nothing_stands true b h = cc
 nothing_stands false true h = cc
 nothing_stands false false h = refl

@@ -22,12 +22,12 @@ use Rattle.qp_model.specs.Sites.{object_at, ring_of}
 use Rattle.qp_model.specs.WordLaw.{Keeps, is_object}
 use Rattle.qp_model.specs.Kernels.{port}
 use Rattle.qp_model.specs.Home.{lane_at, home_of, by_object}
-use Rattle.qp_model.specs.Pieces.{Piece, bare}
+use Rattle.qp_model.specs.Pieces.{Piece, records_in}
 use Rattle.qp_model.specs.Acts.{Config}
 use Rattle.qp_model.specs.Course.{Course, first_config, actor, chart_at, FollowsAs, Follows, FollowsTo, Cut, Whole, Stopped, Anywhere}
 use Rattle.qp_model.specs.Ends.{is_turn_mark, quiet}
 use Rattle.qp_model.specs.Lawful.{Lawful, ObjectHolds, CourseHolds, SourceLanes, lanes_before, facts_of, cut_of, dispatched}
-use Rattle.qp_model.specs.Laws.{Ascend, taken_entry, taken_by, taken_in, TakesWhatItsQueueGives, LivesByItsChart, StepsAreTheMeaning}
+use Rattle.qp_model.specs.Laws.{Ascend, taken_entry, entries_taken_by, entries_taken_in, TakesWhatItsQueueGives, LivesByItsChart, StepsAreTheMeaning}
 use Rattle.qp_model.proofs.CourseLemmas.{through-follows}
 use Rattle.qp_model.proofs.GroupLemmas.{bare-append}
 use Rattle.qp_model.proofs.TakenLemmas.{filter_map-filter, history-takes, told-takes, entry_for, kernel_takes}
@@ -39,8 +39,8 @@ mark-none (body.Took f l m e) h = absurd (cc)
 mark-none _ h = refl
 
 -- the marks of turns without a step take nothing
-dispatched-takes : (ts : List Told) → taken_in (dispatched ts) ≡ taken_in ts
-unfolding taken_in
+dispatched-takes : (ts : List Told) → entries_taken_in (dispatched ts) ≡ entries_taken_in ts
+unfolding entries_taken_in
 dispatched-takes ts = filter_map-filter (λ t. taken_entry t.body) (λ t. not (is_turn_mark t.body)) (λ t e. mark-none t.body e) ts
 
 cut-quiet : (sys : System) (j : Journal) (o : ℕ) → j.end ≡ quiet → cut_of sys j o ≡ Whole
@@ -49,42 +49,42 @@ cut-quiet sys j o is = rw is refl
 
 -- pieces that follow the chart are a course over the entries that their records take
 as_course : (sys : System) (d : ObjectDef) (o : Option Chart) (ps : List Piece) → FollowsAs sys d o ps
-    → (chart : Chart) × (o ≡ Some chart) × ((end : Option Config) × Course sys (actor d chart) (first_config d) (taken_in (bare ps)) ps end)
+    → (chart : Chart) × (o ≡ Some chart) × ((end : Option Config) × Course sys (actor d chart) (first_config d) (entries_taken_in (records_in ps)) ps end)
 unfolding FollowsAs
 as_course sys d None ps h = absurd h
 as_course sys d (Some chart) ps (es, end, course) =
     (chart, refl, (end, subst (λ xs. Course sys (actor d chart) (first_config d) xs ps end) (sym (course-takes sys (actor d chart) (first_config d) es ps end course)) course))
 
-lives : (sys : System) (j : Journal) (d : ObjectDef) → taken_in (by_object (facts_of sys j) j d.priority) ≡ taken_by d.priority (hist (word.Queue d.priority) (all_items j.lanes))
+lives : (sys : System) (j : Journal) (d : ObjectDef) → entries_taken_in (by_object (facts_of sys j) j d.priority) ≡ entries_taken_by d.priority (hist (word.Queue d.priority) (all_items j.lanes))
     → ObjectHolds sys j d → LivesByItsChart sys j d
-unfolding CourseHolds Follows FollowsTo bare taken_in
+unfolding CourseHolds Follows FollowsTo records_in entries_taken_in
 lives sys j d takes h = by_cut (cut_of sys j d.priority) refl h.course.2
   where
     ps : List Piece
     ps = h.course.0
 
     given : List Entry
-    given = taken_by d.priority (hist (word.Queue d.priority) (all_items j.lanes))
+    given = entries_taken_by d.priority (hist (word.Queue d.priority) (all_items j.lanes))
 
-    taken : taken_in (bare ps) ≡ given
-    taken = ap taken_in h.course.1 ∙ dispatched-takes (by_object (facts_of sys j) j d.priority) ∙ takes
+    taken : entries_taken_in (records_in ps) ≡ given
+    taken = ap entries_taken_in h.course.1 ∙ dispatched-takes (by_object (facts_of sys j) j d.priority) ∙ takes
 
     -- with what is left out
-    cut_course : (back : List Piece) → (j.end ≡ quiet → (back ≡ []) × (taken_in (bare back) ≡ [])) → Follows sys d (ps ++ back) → LivesByItsChart sys j d
+    cut_course : (back : List Piece) → (j.end ≡ quiet → (back ≡ []) × (entries_taken_in (records_in back) ≡ [])) → Follows sys d (ps ++ back) → LivesByItsChart sys j d
     cut_course back whole follows = record {
       chart = found.0;
       is_its = found.1;
       done = ps;
       left = back;
-      more = taken_in (bare back);
+      more = entries_taken_in (records_in back);
       end = found.2.0;
       records = h.course.1;
       course = subst (λ xs. Course sys (actor d found.0) (first_config d) xs (ps ++ back) found.2.0)
-          (ap taken_in (bare-append ps back) ∙ taken_in-append (bare ps) (bare back) ∙ ap (λ xs. xs ++ taken_in (bare back)) taken) found.2.1;
+          (ap entries_taken_in (bare-append ps back) ∙ taken_in-append (records_in ps) (records_in back) ∙ ap (λ xs. xs ++ entries_taken_in (records_in back)) taken) found.2.1;
       whole = whole;
     }
       where
-        found : (chart : Chart) × (chart_at sys d.chart ≡ Some chart) × ((end : Option Config) × Course sys (actor d chart) (first_config d) (taken_in (bare (ps ++ back))) (ps ++ back) end)
+        found : (chart : Chart) × (chart_at sys d.chart ≡ Some chart) × ((end : Option Config) × Course sys (actor d chart) (first_config d) (entries_taken_in (records_in (ps ++ back))) (ps ++ back) end)
         found = as_course sys d (chart_at sys d.chart) (ps ++ back) follows
 
     by_cut : (cut : Cut) → cut_of sys j d.priority ≡ cut → FollowsTo sys d cut ps → LivesByItsChart sys j d
@@ -107,8 +107,8 @@ none_below (d ∷ ds) = (tt, none_below ds)
 
 -- in `port` too an object takes what its queue gives
 port_takes : (sys : System) (stimuli : List (List Stim)) (j : Journal) → Lawful sys stimuli j → j.kernel ≡ port → Ascend sys.objects → (o : ℕ) → 0 < o → IsTrue (is_object sys o)
-    → taken_in (by_object (facts_of sys j) j o) ≡ taken_by o (hist (word.Queue o) (all_items j.lanes))
-unfolding by_object taken_by facts_of all_items is_object object_at
+    → entries_taken_in (by_object (facts_of sys j) j o) ≡ entries_taken_by o (hist (word.Queue o) (all_items j.lanes))
+unfolding by_object entries_taken_by facts_of all_items is_object object_at
 port_takes sys stimuli j h is_port rise o some is = go j.lanes refl
   where
     asked : j.kernel ≡ port → (not (j.kernel == port) || (length (lane_at j 0) == 0)) ≡ true → (length (lane_at j 0) == 0) ≡ true
@@ -121,7 +121,7 @@ port_takes sys stimuli j h is_port rise o some is = go j.lanes refl
     no_records [] e = refl
     no_records (r ∷ l) e = let none : length (r ∷ l) ≡ 0 = grind (arith, nat_tests, e) in absurd (omega (arith, none))
 
-    go : (lanes : List (List Rec)) → j.lanes ≡ lanes → taken_in (by_object (facts_of sys j) j o) ≡ taken_by o (hist (word.Queue o) (all_items j.lanes))
+    go : (lanes : List (List Rec)) → j.lanes ≡ lanes → entries_taken_in (by_object (facts_of sys j) j o) ≡ entries_taken_by o (hist (word.Queue o) (all_items j.lanes))
     go [] at =
         let count : length j.lanes ≡ lanes_before sys j + length stimuli = grind (arith, nat_tests, h.sources.count) in
         let none : length j.lanes ≡ 0 = ap length at in
@@ -142,16 +142,16 @@ port_takes sys stimuli j h is_port rise o some is = go j.lanes refl
         ∙ sym given ∙ ap (λ x. filter_map (entry_for o) (hist (word.Queue o) (all_items x))) (sym parts)
 
 takes_given : (sys : System) (stimuli : List (List Stim)) (j : Journal) → Lawful sys stimuli j → Ascend sys.objects → (o : ℕ) → 0 < o → IsTrue (is_object sys o)
-    → taken_in (by_object (facts_of sys j) j o) ≡ taken_by o (hist (word.Queue o) (all_items j.lanes))
+    → entries_taken_in (by_object (facts_of sys j) j o) ≡ entries_taken_by o (hist (word.Queue o) (all_items j.lanes))
 takes_given sys stimuli j h rise o some is = go (j.kernel == port) refl
   where
-    go : (b : Bool) → (j.kernel == port) ≡ b → taken_in (by_object (facts_of sys j) j o) ≡ taken_by o (hist (word.Queue o) (all_items j.lanes))
+    go : (b : Bool) → (j.kernel == port) ≡ b → entries_taken_in (by_object (facts_of sys j) j o) ≡ entries_taken_by o (hist (word.Queue o) (all_items j.lanes))
     go true e = let is_port : j.kernel ≡ port = grind (arith, nat_tests, e) in port_takes sys stimuli j h is_port rise o some is
     go false e = let other : j.kernel ≢ port = grind (arith, nat_tests, e) in kernel_takes sys stimuli j h other o some is
 
 -- the same for each object of the system
 all_take : (sys : System) (stimuli : List (List Stim)) (j : Journal) → Lawful sys stimuli j → Ascend sys.objects → (front ds : List ObjectDef) → front ++ ds ≡ sys.objects → Ascend ds
-    → AllByRecursion (λ d. taken_in (by_object (facts_of sys j) j d.priority) ≡ taken_by d.priority (hist (word.Queue d.priority) (all_items j.lanes))) ds
+    → AllByRecursion (λ d. entries_taken_in (by_object (facts_of sys j) j d.priority) ≡ entries_taken_by d.priority (hist (word.Queue d.priority) (all_items j.lanes))) ds
 unfolding is_object object_at
 all_take sys stimuli j h rise front [] at named = tt
 all_take sys stimuli j h rise front (d ∷ ds) at named =
@@ -163,7 +163,7 @@ pub takes_what_its_queue_gives : TakesWhatItsQueueGives
 takes_what_its_queue_gives sys stimuli j h rise = all_take sys stimuli j h rise [] sys.objects refl rise
 
 all_live : (sys : System) (j : Journal) (ds : List ObjectDef)
-    → AllByRecursion (λ d. taken_in (by_object (facts_of sys j) j d.priority) ≡ taken_by d.priority (hist (word.Queue d.priority) (all_items j.lanes))) ds
+    → AllByRecursion (λ d. entries_taken_in (by_object (facts_of sys j) j d.priority) ≡ entries_taken_by d.priority (hist (word.Queue d.priority) (all_items j.lanes))) ds
     → AllByRecursion (ObjectHolds sys j) ds → AllByRecursion (LivesByItsChart sys j) ds
 all_live sys j [] takes holds = tt
 all_live sys j (d ∷ ds) takes holds = (lives sys j d takes.0 holds.0, all_live sys j ds takes.1 holds.1)

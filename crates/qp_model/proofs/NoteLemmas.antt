@@ -9,7 +9,7 @@ use Rattle.qp_model.specs.declared.bodies.Body.{Body}
 use Rattle.qp_model.specs.declared.bodies.Body.TheVariants as item
 use Rattle.qp_model.specs.Told.{Told}
 use Rattle.qp_model.specs.Calls.{Call, Deed, Sets, Says, Calls, deed_of, ok_after, is_assertion}
-use Rattle.qp_model.specs.Pieces.{Piece, Point, bare, tell, pieces_of}
+use Rattle.qp_model.specs.Pieces.{Piece, Point, records_in, tell, pieces_of}
 use Rattle.qp_model.specs.Acts.{Config, Actor, Moment, Later, DoesCall, DoesDeed, DoesTask, Does, names_of}
 use Rattle.qp_model.specs.Step.{StepBehind, Closes, at_leaf, moment}
 use Rattle.qp_model.specs.StepNotes.{note_of, is_step_note, notes_of, noted, notes_in}
@@ -56,10 +56,10 @@ notes-usual (t ∷ g) h = by (is_calm t.body || is_deferral t.body) refl h (note
 module _ (sys : System) (a : Actor) (at : Moment) where
   -- the notes of a task, and then what is to come; or an assertion
   NotesThen : List Body → Later → List Piece → Type 0
-  NotesThen notes later ps = (d : Config) × (rest : List Piece) × (notes_in (bare ps) ≡ notes ++ notes_in (bare rest)) × later d rest
+  NotesThen notes later ps = (d : Config) × (rest : List Piece) × (notes_in (records_in ps) ≡ notes ++ notes_in (records_in rest)) × later d rest
 
   call-noteless : (c : Config) (later : Later) (failed : Type 0) (x : Call) (ps : List Piece) → DoesCall sys a at.entry c later failed x ps → NotesThen [] later ps ⊎ failed
-  unfolding DoesCall NotesThen Answers bare
+  unfolding DoesCall NotesThen Answers records_in
   call-noteless c later failed x ps h = by (is_assertion h.0) (fits-usual sys a.o at.entry x h.0 h.1 h.3) h.5
     where
       by : (b : Bool) → MatchBool b (Ending Usual h.0 h.1) (Usual h.1)
@@ -69,27 +69,27 @@ module _ (sys : System) (a : Actor) (at : Moment) where
       by false u k = inl (
         record c { ok = ok_after h.0 c.ok; kept = h.2 },
         k.0,
-        ap notes_in (ap bare k.1 ∙ bare-append (pieces_of x h.1) (Point ∷ k.0) ∙ ap (λ us. us ++ bare k.0) (bare-pieces_of x h.1))
-            ∙ notes-append h.1 (bare k.0) ∙ ap (λ us. us ++ notes_in (bare k.0)) (notes-usual h.1 u),
+        ap notes_in (ap records_in k.1 ∙ bare-append (pieces_of x h.1) (Point ∷ k.0) ∙ ap (λ us. us ++ records_in k.0) (bare-pieces_of x h.1))
+            ∙ notes-append h.1 (records_in k.0) ∙ ap (λ us. us ++ notes_in (records_in k.0)) (notes-usual h.1 u),
         k.2,
       )
 
   task-notes : (c : Config) (later : Later) (failed : Type 0) (t : Task) (ps : List Piece) → DoesTask sys a at c later failed t ps → NotesThen (option_list (note_of t)) later ps ⊎ failed
-  unfolding DoesTask DoesDeed NotesThen notes_in bare option_list
+  unfolding DoesTask DoesDeed NotesThen notes_in records_in option_list
   task-notes c later failed (Do p) ps h = by (deed_of (names_of a c at.event) p) h
     where
       by : (d : Deed) → DoesDeed sys a at.entry c later failed d ps → NotesThen [] later ps ⊎ failed
-      by (Sets var value) h = inl (_, h.0, ap (λ us. notes_in (bare us)) h.1, h.2)
-      by (Says value) h = inl (c, h.0, ap (λ us. notes_in (bare us)) h.1, h.2)
+      by (Sets var value) h = inl (_, h.0, ap (λ us. notes_in (records_in us)) h.1, h.2)
+      by (Says value) h = inl (c, h.0, ap (λ us. notes_in (records_in us)) h.1, h.2)
       by (Calls x) h = call-noteless c later failed x ps h
-  task-notes c later failed (Raise ceiling) ps h = inl (record c { former = h.0 }, h.1.0, ap (λ us. notes_in (bare us)) h.1.1, h.1.2)
-  task-notes c later failed Restore ps h = inl (c, h.2.0, ap (λ us. notes_in (bare us)) h.1 ∙ ap (λ us. notes_in (bare us)) h.2.1, h.2.2)
-  task-notes c later failed _ ps h = inl (c, h.0, ap (λ us. notes_in (bare us)) h.1, h.2)
+  task-notes c later failed (Raise ceiling) ps h = inl (record c { former = h.0 }, h.1.0, ap (λ us. notes_in (records_in us)) h.1.1, h.1.2)
+  task-notes c later failed Restore ps h = inl (c, h.2.0, ap (λ us. notes_in (records_in us)) h.1 ∙ ap (λ us. notes_in (records_in us)) h.2.1, h.2.2)
+  task-notes c later failed _ ps h = inl (c, h.0, ap (λ us. notes_in (records_in us)) h.1, h.2)
 
   -- tasks that are done to their end leave just their notes
-  pub does-notes : (ts : List Task) (c d : Config) (ps : List Piece) → Does sys a at ts c ps (Some d) → notes_in (bare ps) ≡ notes_of ts
-  unfolding Does NotesThen notes_in notes_of bare option_list
-  does-notes [] c d ps h = ap (λ us. notes_in (bare us)) h.0
+  pub does-notes : (ts : List Task) (c d : Config) (ps : List Piece) → Does sys a at ts c ps (Some d) → notes_in (records_in ps) ≡ notes_of ts
+  unfolding Does NotesThen notes_in notes_of records_in option_list
+  does-notes [] c d ps h = ap (λ us. notes_in (records_in us)) h.0
   does-notes (t ∷ ts) c d ps h =
       by (λ f rest k. does-notes ts f d rest k) (task-notes c (λ f rest. Does sys a at ts f rest (Some d)) (Some d ≡ None) t ps h)
     where
@@ -97,8 +97,8 @@ module _ (sys : System) (a : Actor) (at : Moment) where
       more None us = refl
       more (Some b) us = refl
 
-      by : ((f : Config) (rest : List Piece) → Does sys a at ts f rest (Some d) → notes_in (bare rest) ≡ notes_of ts)
-          → NotesThen (option_list (note_of t)) (λ f rest. Does sys a at ts f rest (Some d)) ps ⊎ (Some d ≡ None) → notes_in (bare ps) ≡ notes_of (t ∷ ts)
+      by : ((f : Config) (rest : List Piece) → Does sys a at ts f rest (Some d) → notes_in (records_in rest) ≡ notes_of ts)
+          → NotesThen (option_list (note_of t)) (λ f rest. Does sys a at ts f rest (Some d)) ps ⊎ (Some d ≡ None) → notes_in (records_in ps) ≡ notes_of (t ∷ ts)
       by go (inl k) = k.2 ∙ ap (λ us. option_list (note_of t) ++ us) (go k.0 k.1 k.3) ∙ more (note_of t) (notes_of ts)
       by go (inr wrong) = absurd (cc)
 
@@ -108,9 +108,9 @@ unfolding StepsLeaveTheirNotes StepBehind Closes
 steps_leave_their_notes sys a ev e c d ps h = by h.2 h.3 h.4 h.6
   where
     by : (mid : Option Config) → Does sys a (moment ev e) (step_plan a.chart c.leaf (names_of a c ev) ev.sig).tasks c h.0 mid → Closes e mid h.1
-        → Some d ≡ at_leaf (step_plan a.chart c.leaf (names_of a c ev) ev.sig).leaf mid → notes_in (bare ps) ≡ notes_of (step_plan a.chart c.leaf (names_of a c ev) ev.sig).tasks
+        → Some d ≡ at_leaf (step_plan a.chart c.leaf (names_of a c ev) ev.sig).leaf mid → notes_in (records_in ps) ≡ notes_of (step_plan a.chart c.leaf (names_of a c ev) ev.sig).tasks
     by None does closes ends = absurd (cc)
     by (Some f) does closes ends =
-        ap notes_in (ap bare h.5 ∙ bare-append h.0 (tell h.1) ∙ ap (λ us. bare h.0 ++ us) (bare-tell h.1))
-        ∙ notes-append (bare h.0) h.1 ∙ ap (λ us. notes_in (bare h.0) ++ us) (notes-usual h.1 (usual h.1 (calm-drops e h.1 closes))) ∙ append-nil (notes_in (bare h.0))
+        ap notes_in (ap records_in h.5 ∙ bare-append h.0 (tell h.1) ∙ ap (λ us. records_in h.0 ++ us) (bare-tell h.1))
+        ∙ notes-append (records_in h.0) h.1 ∙ ap (λ us. notes_in (records_in h.0) ++ us) (notes-usual h.1 (usual h.1 (calm-drops e h.1 closes))) ∙ append-nil (notes_in (records_in h.0))
         ∙ does-notes sys a (moment ev e) (step_plan a.chart c.leaf (names_of a c ev) ev.sig).tasks c f h.0 does

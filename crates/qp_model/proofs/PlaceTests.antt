@@ -5,7 +5,7 @@ use Rattle.qp_model.specs.declared.systems.System.{System}
 use Rattle.qp_model.specs.declared.bodies.Body.{Body}
 use Rattle.qp_model.specs.declared.bodies.Body.TheVariants as body
 use Rattle.qp_model.specs.Record.{Item, entry}
-use Rattle.qp_model.specs.Told.{Nothing, plain, taken, given, dropped, raised, same_in}
+use Rattle.qp_model.specs.Told.{Nothing, plain, told_took, told_new, dropped, raised, same_in}
 use Rattle.qp_model.specs.Places.{RecordPlace, must_precede, places, in_order, items_at}
 use Rattle.qp_model.specs.Knowing.{records_of}
 
@@ -95,9 +95,9 @@ life =
     ∷ i 1 (body.Took 1 0 3 (entry 0 9 0)) ∷ []
 
 told_of_one : records_of (record { sys = system; items = life }) 1 0 life
-    ≡ plain (body.Sub 5 0) ∷ given 1 0 0 0 5 (7 ∷ []) 2 ∷ plain (body.Inc 1 0 0) ∷ plain (body.Post 1 1 0 0 (entry 1 0 0)) ∷ plain (body.Inc 1 0 1) ∷ dropped 1 0 2 1 1
-    ∷ same_in 5 1 true ∷ raised 3 0 ∷ taken 1 0 1 (entry 1 0 0) (record { sig = 5; pars = 7 ∷ [] })
-    ∷ record { body = body.Took 1 0 2 (entry 1 1 0); known = Nothing } ∷ taken 1 0 3 (entry 0 9 0) (record { sig = 9; pars = [] }) ∷ []
+    ≡ plain (body.Sub 5 0) ∷ told_new 1 0 0 0 5 (7 ∷ []) 2 ∷ plain (body.Inc 1 0 0) ∷ plain (body.Post 1 1 0 0 (entry 1 0 0)) ∷ plain (body.Inc 1 0 1) ∷ dropped 1 0 2 1 1
+    ∷ same_in 5 1 true ∷ raised 3 0 ∷ told_took 1 0 1 (entry 1 0 0) (record { sig = 5; pars = 7 ∷ [] })
+    ∷ record { body = body.Took 1 0 2 (entry 1 1 0); known = Nothing } ∷ told_took 1 0 3 (entry 0 9 0) (record { sig = 9; pars = [] }) ∷ []
 unfolding records_of life system i
 told_of_one = refl
 

@@ -25,7 +25,7 @@ use Rattle.qp_model.specs.Lives.{edge_of, edges, is_empty, refs_at, edges_empty}
 use Rattle.qp_model.specs.Sites.{ring_of, blocks_of}
 use Rattle.qp_model.specs.WordLaw.{is_pool, is_block}
 use Rattle.qp_model.specs.Promises as promise
-use Rattle.qp_model.specs.Promises.{operations, NumberedOnce, posted_by, posted, taken_by, taken, is_lifo, queued, waiting_after, waiting, first_in_by, first_in, plainly_taken_by, plainly_taken, may_take, comes_and_goes}
+use Rattle.qp_model.specs.Promises.{operations, NumberedOnce, posted_by, posted, entry_taken, entries_taken, is_lifo, queued, waiting_after, waiting, first_in_by, first_in, plainly_taken_by, plainly_taken, may_take, comes_and_goes}
 use Rattle.qp_model.proofs.ListLemmas.{all_below_at, list_all-has}
 use Rattle.qp_model.proofs.MachineLemmas.{allowed_from-front, allowed_from-rest, is_allowed-at, is_allowed-front, is_allowed-rest, after-keeps, keeps-from}
 use Rattle.qp_model.proofs.LineLemmas.{line_is, same_number}
@@ -231,15 +231,15 @@ drop-drop n (x ∷ xs) = refl
 
 -- the entries so far and those posted are those taken and those left, in order, where none is posted last-in
 order_from : (ring : ℕ) (s : Line) (history : List Item) → allowed_from (line ring) s history ≡ true → list_any (λ i. is_lifo i.body) history ≡ false
-    → s.entries ++ posted history ≡ taken history ++ (after_from (line ring) s history).entries
-unfolding allowed_from after_from posted taken
+    → s.entries ++ posted history ≡ entries_taken history ++ (after_from (line ring) s history).entries
+unfolding allowed_from after_from posted entries_taken
 order_from ring s [] h none = append-nil s.entries
 order_from ring s (i ∷ is) h none = go i.body (and_parts _ _ h).0 (λ t allowed none. order_from ring t is allowed none) (and_parts _ _ h).1 none
   where
     go : (b : Body) → line_may ring s b ≡ true
-        → ((t : Line) → allowed_from (line ring) t is ≡ true → list_any (λ i. is_lifo i.body) is ≡ false → t.entries ++ posted is ≡ taken is ++ (after_from (line ring) t is).entries)
+        → ((t : Line) → allowed_from (line ring) t is ≡ true → list_any (λ i. is_lifo i.body) is ≡ false → t.entries ++ posted is ≡ entries_taken is ++ (after_from (line ring) t is).entries)
         → allowed_from (line ring) (line_next s b) is ≡ true → (is_lifo b || list_any (λ i. is_lifo i.body) is) ≡ false
-        → s.entries ++ cons_option (posted_by b) (posted is) ≡ cons_option (taken_by b) (taken is) ++ (after_from (line ring) (line_next s b) is).entries
+        → s.entries ++ cons_option (posted_by b) (posted is) ≡ cons_option (entry_taken b) (entries_taken is) ++ (after_from (line ring) (line_next s b) is).entries
     go (Post a f l m e) may later allowed none = sym (append_assoc s.entries (e ∷ []) (posted is)) ∙ later (line_next s (Post a f l m e)) allowed none
     go (Lifo f l m e) may later allowed none = cc
     go (Took f l m e) may later allowed none =
@@ -291,15 +291,15 @@ first_in_keep_order sys lanes words a h =
 
 -- the same in any order, also where some are posted last-in
 balance_from : (ring : ℕ) (s : Line) (history : List Item) → allowed_from (line ring) s history ≡ true
-    → IsPermutation (s.entries ++ posted history) (taken history ++ (after_from (line ring) s history).entries)
-unfolding allowed_from after_from posted taken
+    → IsPermutation (s.entries ++ posted history) (entries_taken history ++ (after_from (line ring) s history).entries)
+unfolding allowed_from after_from posted entries_taken
 balance_from ring s [] h = rw append-nil (IsPermutation-refl s.entries)
 balance_from ring s (i ∷ is) h = go i.body (and_parts _ _ h).0 (λ t allowed. balance_from ring t is allowed) (and_parts _ _ h).1
   where
     go : (b : Body) → line_may ring s b ≡ true
-        → ((t : Line) → allowed_from (line ring) t is ≡ true → IsPermutation (t.entries ++ posted is) (taken is ++ (after_from (line ring) t is).entries))
+        → ((t : Line) → allowed_from (line ring) t is ≡ true → IsPermutation (t.entries ++ posted is) (entries_taken is ++ (after_from (line ring) t is).entries))
         → allowed_from (line ring) (line_next s b) is ≡ true
-        → IsPermutation (s.entries ++ cons_option (posted_by b) (posted is)) (cons_option (taken_by b) (taken is) ++ (after_from (line ring) (line_next s b) is).entries)
+        → IsPermutation (s.entries ++ cons_option (posted_by b) (posted is)) (cons_option (entry_taken b) (entries_taken is) ++ (after_from (line ring) (line_next s b) is).entries)
     go (Post a f l m e) may later allowed = rw (← append_assoc s.entries (e ∷ []) (posted is)) (later (line_next s (Post a f l m e)) allowed)
     go (Lifo f l m e) may later allowed =
         IsPermutation-trans (s.entries ++ e ∷ posted is) (e ∷ s.entries ++ posted is) _ (moved e s.entries (posted is)) (later (line_next s (Lifo f l m e)) allowed)
@@ -310,7 +310,7 @@ balance_from ring s (i ∷ is) h = go i.body (and_parts _ _ h).0 (λ t allowed. 
             (IsPermutation-append_left ys (xs ++ e ∷ []) (e ∷ xs) (IsPermutation-append_comm xs (e ∷ [])))
     go (Took f l m e) may later allowed =
         let front : s.entries ≡ e ∷ drop 1 s.entries = front-is e s.entries (and_parts _ _ may).1 in
-        rw front (IsPermutation-cons e (drop 1 s.entries ++ posted is) (taken is ++ (after_from (line ring) (line_next s (Took f l m e)) is).entries) (later (line_next s (Took f l m e)) allowed))
+        rw front (IsPermutation-cons e (drop 1 s.entries ++ posted is) (entries_taken is ++ (after_from (line ring) (line_next s (Took f l m e)) is).entries) (later (line_next s (Took f l m e)) allowed))
     go _ may later allowed = cc
 
 pub queue_loses_nothing : promise.QueueLosesNothing

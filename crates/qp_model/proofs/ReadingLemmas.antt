@@ -2,13 +2,13 @@
 use Rattle.std.proofs.Common.{◌≡◌, ◌≤◌, ◌<◌, ℕ, List, [], ◌∷◌, length, get_or, refl, arith}
 use Rattle.qp_model.specs.declared.bodies.Body.{Body}
 use Rattle.qp_model.specs.declared.bodies.Body.TheVariants.{Malformed}
-use Rattle.qp_model.specs.Record.{bare, one, two, three, four, five, six, seven}
+use Rattle.qp_model.specs.Record.{plain_body, one, two, three, four, five, six, seven}
 
-pub is-bare : (x : Body) (nums : List ℕ) → length nums < 1 → x ≡ bare x nums
+pub is-bare : (x : Body) (nums : List ℕ) → length nums < 1 → x ≡ plain_body x nums
 is-bare x [] most = refl
 is-bare x (y ∷ more) most = absurd (omega arith)
 
-pub above-bare : (x : Body) (nums : List ℕ) → 1 ≤ length nums → Malformed ≡ bare x nums
+pub above-bare : (x : Body) (nums : List ℕ) → 1 ≤ length nums → Malformed ≡ plain_body x nums
 above-bare x [] many = absurd (omega arith)
 above-bare x (y ∷ more) many = refl
 

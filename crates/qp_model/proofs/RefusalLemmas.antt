@@ -21,7 +21,7 @@ use Rattle.qp_model.specs.Sites.{ring_of, blocks_of}
 use Rattle.qp_model.specs.WordLaw.{Keeps}
 use Rattle.qp_model.specs.Promises.{operations}
 use Rattle.qp_model.specs.Refusals as refusal
-use Rattle.qp_model.specs.Refusals.{Stands, HasCounts, line_at, pool_at, clock_at}
+use Rattle.qp_model.specs.Refusals.{IsRecorded, HasCounts, line_at, pool_at, clock_at}
 use Rattle.qp_model.proofs.MachineLemmas.{is_allowed-front}
 use Rattle.qp_model.proofs.LineLemmas.{IsLine, line_is, same_number}
 
@@ -31,7 +31,7 @@ list_all-at p (y ∷ xs) ys x h = list_all-at p xs ys x (and_parts _ _ h).1
 
 -- what a record says of the word that it shows, at its mark, which is within the word's history
 shown_there : {S : Type 0} (m : Machine S) (w : Word) (lanes : List (List Rec)) (o : ℕ) (b : Body) (n : ℕ) → Keeps S m w lanes
-    → Stands lanes o b → touch (record { of = o; body = b }) ≡ Shows w n → same_word w w ≡ true
+    → IsRecorded lanes o b → touch (record { of = o; body = b }) ≡ Shows w n → same_word w w ≡ true
     → (nat_le n (length (operations w lanes)) && m.says (after m (take n (operations w lanes))) b) ≡ true
 unfolding is_shown shown_by operations
 shown_there m w lanes o b n keeps stands shows same =
@@ -52,11 +52,11 @@ shown_there m w lanes o b n keeps stands shows same =
         opened same h = rw same at h
 
 says_there : {S : Type 0} (m : Machine S) (w : Word) (lanes : List (List Rec)) (o : ℕ) (b : Body) (n : ℕ) → Keeps S m w lanes
-    → Stands lanes o b → touch (record { of = o; body = b }) ≡ Shows w n → same_word w w ≡ true → m.says (after m (take n (operations w lanes))) b ≡ true
+    → IsRecorded lanes o b → touch (record { of = o; body = b }) ≡ Shows w n → same_word w w ≡ true → m.says (after m (take n (operations w lanes))) b ≡ true
 says_there m w lanes o b n keeps stands shows same = (and_parts _ _ (shown_there m w lanes o b n keeps stands shows same)).1
 
 stands_within : {S : Type 0} (m : Machine S) (w : Word) (lanes : List (List Rec)) (o : ℕ) (b : Body) (n : ℕ) → Keeps S m w lanes
-    → Stands lanes o b → touch (record { of = o; body = b }) ≡ Shows w n → same_word w w ≡ true → n ≤ length (operations w lanes)
+    → IsRecorded lanes o b → touch (record { of = o; body = b }) ≡ Shows w n → same_word w w ≡ true → n ≤ length (operations w lanes)
 stands_within m w lanes o b n keeps stands shows same =
     let test : nat_le n (length (operations w lanes)) ≡ true = (and_parts _ _ (shown_there m w lanes o b n keeps stands shows same)).0 in
     grind (arith, nat_tests)

@@ -8,11 +8,11 @@ use Rattle.qp_model.specs.declared.bodies.Entry.{Entry}
 use Rattle.qp_model.specs.declared.bodies.Body.TheVariants as item
 use Rattle.qp_model.specs.Told.{Told, Event, plain}
 use Rattle.qp_model.specs.Shapes.{Drops, Posts, PostsOne, PublishesLast, restoring}
-use Rattle.qp_model.specs.Pieces.{Piece, Point, bare, tell}
+use Rattle.qp_model.specs.Pieces.{Piece, Point, records_in, tell}
 use Rattle.qp_model.specs.Acts.{Config, Actor, Does}
-use Rattle.qp_model.specs.Step.{Publishing, GoesOnPublishing, Remainder, DoesLeft, GoesOn, Closes, at_leaf, moment, tasks_left}
+use Rattle.qp_model.specs.Step.{Publishing, GoesOnPublishing, Remainder, DoesLeft, StepGoesOn, Closes, at_leaf, moment, tasks_left}
 use Rattle.qp_model.specs.Course.{Starts, at_start}
-use Rattle.qp_model.specs.Standing.{Advances, Reaches}
+use Rattle.qp_model.specs.Standing.{Advances, AgendaReaches}
 use Rattle.qp_model.specs.Able.{task_able}
 use Rattle.qp_model.proofs.ReachLemmas.{reaches-done}
 use Rattle.qp_model.proofs.Completes.{completes, release, release_drops, again_any}
@@ -20,20 +20,20 @@ use Rattle.qp_model.proofs.Completes.{completes, release, release_drops, again_a
 module _ (sys : System) (a : Actor) (ev : Event) (e : Entry) where
   -- a step advances as its agenda reaches
   pub advances-reaches : (left later : Remainder) (c d : Config) (g : List Piece) → left.leaf ≡ later.leaf
-      → Reaches sys a (moment ev e) left c g later d → Advances sys a ev e left c g later d
-  unfolding Advances Reaches GoesOn
+      → AgendaReaches sys a (moment ev e) left c g later d → Advances sys a ev e left c g later d
+  unfolding Advances AgendaReaches StepGoesOn
   advances-reaches left later c d g same go qs end h =
       (g ++ h.0, h.1, h.2, go h.0 h.2 h.3, h.4, ap (λ us. g ++ us) h.5 ∙ sym (append_assoc g h.0 (tell h.1)), h.6 ∙ ap (λ leaf. at_leaf leaf h.2) (sym same))
 
   -- a step whose agenda ends in an assertion ends there
   pub goes_on-failed : (left : Remainder) (c : Config) (g : List Piece) → DoesLeft sys a (moment ev e) left.publishing left.posts left.tasks c g None
-      → GoesOn sys a ev e left c g None
-  unfolding GoesOn Closes
+      → StepGoesOn sys a ev e left c g None
+  unfolding StepGoesOn Closes
   goes_on-failed left c g does = (g, [], None, does, refl, sym (append-nil g), refl)
 
   -- nothing is left but the release
-  pub goes_on-done : (leaf : ℕ) (c : Config) (rel : List Told) → Drops e rel → GoesOn sys a ev e (tasks_left [] leaf) c (tell rel) (Some (record c { leaf = leaf }))
-  unfolding GoesOn Closes DoesLeft Does tasks_left
+  pub goes_on-done : (leaf : ℕ) (c : Config) (rel : List Told) → Drops e rel → StepGoesOn sys a ev e (tasks_left [] leaf) c (tell rel) (Some (record c { leaf = leaf }))
+  unfolding StepGoesOn Closes DoesLeft Does tasks_left
   goes_on-done leaf c rel drops = ([], rel, Some c, (refl, refl), drops, refl, refl)
 
 -- the last records that a publication may have
@@ -43,8 +43,8 @@ last_any o e former ms = (restoring o former ms ++ release e.pool e, (release e.
 
 -- a step under way can be brought to its end
 pub goes_on-completes : (sys : System) (a : Actor) (ev : Event) (e : Entry) (left : Remainder) (c : Config)
-    → list_all (task_able sys true) left.tasks ≡ true → length c.kept ≤ a.room → (qs : List Piece) × (end : Option Config) × GoesOn sys a ev e left c qs end
-unfolding GoesOn Closes DoesLeft GoesOnPublishing PostsOne Posts Drops
+    → list_all (task_able sys true) left.tasks ≡ true → length c.kept ≤ a.room → (qs : List Piece) × (end : Option Config) × StepGoesOn sys a ev e left c qs end
+unfolding StepGoesOn Closes DoesLeft GoesOnPublishing PostsOne Posts Drops
 goes_on-completes sys a ev e left c able within =
     let done = can left.publishing left.posts in
     let rel = closed done.0 done.1 in
@@ -75,17 +75,17 @@ pub starts-completes : (sys : System) (a : Actor) (first : Config) → list_all 
 unfolding Starts
 starts-completes sys a first able within =
     let done = completes sys a at_start (start_plan a.chart).tasks first able within in
-    (tell (bare done.0), at_leaf (start_plan a.chart).leaf done.1, (done.0, done.1, done.2, refl, refl))
+    (tell (records_in done.0), at_leaf (start_plan a.chart).leaf done.1, (done.0, done.1, done.2, refl, refl))
 
 -- a start whose agenda is done
 pub starts-reaches : (sys : System) (a : Actor) (first d : Config) (leaf : ℕ) (g : List Piece)
-    → Reaches sys a at_start (tasks_left (start_plan a.chart).tasks leaf) first g (tasks_left [] leaf) d
-    → Starts sys a first (tell (bare g)) (Some (record d { leaf = (start_plan a.chart).leaf }))
+    → AgendaReaches sys a at_start (tasks_left (start_plan a.chart).tasks leaf) first g (tasks_left [] leaf) d
+    → Starts sys a first (tell (records_in g)) (Some (record d { leaf = (start_plan a.chart).leaf }))
 unfolding Starts DoesLeft tasks_left
 starts-reaches sys a first d leaf g go = (g, Some d, reaches-done sys a at_start (tasks_left (start_plan a.chart).tasks leaf) leaf first d g go, refl, refl)
 
 -- a start whose agenda ends in an assertion
 pub starts-failed : (sys : System) (a : Actor) (first : Config) (g : List Piece) → DoesLeft sys a at_start None [] (start_plan a.chart).tasks first g None
-    → Starts sys a first (tell (bare g)) None
+    → Starts sys a first (tell (records_in g)) None
 unfolding Starts DoesLeft
 starts-failed sys a first g does = (g, None, does, refl, refl)

@@ -24,7 +24,7 @@ use Rattle.qp_model.specs.WordLaw.{Keeps, is_object}
 use Rattle.qp_model.specs.Kernels.{port}
 use Rattle.qp_model.specs.Home.{lane_at, home_of, by_object}
 use Rattle.qp_model.specs.Lawful.{Lawful, SourceLanes, facts_of, lanes_before}
-use Rattle.qp_model.specs.Laws.{taken_entry, taken_by, taken_in}
+use Rattle.qp_model.specs.Laws.{taken_entry, entries_taken_by, entries_taken_in}
 use Rattle.qp_model.specs.Lists.{never_falls}
 use Rattle.qp_model.specs.History.{Touch, Draws, touch, touch_of, same_word, drawn_as, drawn_below, mark_of, marks, numbered, lane_items, all_items, hist, total, is_numbered, marks_rise}
 use Rattle.qp_model.proofs.ListLemmas.{filter-none, list_all-middle}
@@ -236,8 +236,8 @@ none-in-sources sys j o some (l ∷ ls) n (ss ∷ more) at h len =
     ∙ rw (none-alone o (lane_items l) some alone, none-in-sources sys j o some ls (n + 1) more behind.1 h.1 shorter) refl
 
 -- what an object's own list takes
-pub told-takes : (w : Facts) (o c : ℕ) (is : List Item) → taken_in (records_of w o c is) ≡ filter_map (entry_for o) is
-unfolding taken_in records_of told
+pub told-takes : (w : Facts) (o c : ℕ) (is : List Item) → entries_taken_in (records_of w o c is) ≡ filter_map (entry_for o) is
+unfolding entries_taken_in records_of told
 told-takes w o c [] = refl
 told-takes w o c (i ∷ is) = go (i.of == o) (told-takes w o (ceiling_after c i.body) is)
   where
@@ -285,8 +285,8 @@ module _ (o ring : ℕ) (front : List (List Rec)) (lane : List Rec) (back : List
 
 -- under a kernel
 pub kernel_takes : (sys : System) (stimuli : List (List Stim)) (j : Journal) → Lawful sys stimuli j → j.kernel ≢ port → (o : ℕ) → 0 < o → IsTrue (is_object sys o)
-    → taken_in (by_object (facts_of sys j) j o) ≡ taken_by o (hist (word.Queue o) (all_items j.lanes))
-unfolding by_object taken_by home_of all_items facts_of
+    → entries_taken_in (by_object (facts_of sys j) j o) ≡ entries_taken_by o (hist (word.Queue o) (all_items j.lanes))
+unfolding by_object entries_taken_by home_of all_items facts_of
 kernel_takes sys stimuli j h other o some is = go (j.kernel == port) refl j.lanes refl
   where
     alone : (j.kernel == port) ≡ false → home_of sys j o ≡ 0
@@ -296,7 +296,7 @@ kernel_takes sys stimuli j h other o some is = go (j.kernel == port) refl j.lane
     one_before e = rw e refl
 
     go : (b : Bool) → (j.kernel == port) ≡ b → (lanes : List (List Rec)) → j.lanes ≡ lanes
-        → taken_in (by_object (facts_of sys j) j o) ≡ taken_by o (hist (word.Queue o) (all_items j.lanes))
+        → entries_taken_in (by_object (facts_of sys j) j o) ≡ entries_taken_by o (hist (word.Queue o) (all_items j.lanes))
     go true e lanes at = let is : j.kernel ≡ port = grind (arith, nat_tests, e) in absurd (other is)
     go false e [] at =
         let count : length j.lanes ≡ lanes_before sys j + length stimuli = grind (arith, nat_tests, h.sources.count) in

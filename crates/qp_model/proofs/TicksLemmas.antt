@@ -13,12 +13,12 @@ use Rattle.qp_model.specs.declared.systems.ObjectDef.{ObjectDef}
 use Rattle.qp_model.specs.declared.bodies.Entry.{Entry}
 use Rattle.qp_model.specs.declared.bodies.Body.{Body}
 use Rattle.qp_model.specs.declared.bodies.Body.TheVariants as item
-use Rattle.qp_model.specs.Told.{Told, plain, taken, raised}
+use Rattle.qp_model.specs.Told.{Told, plain, told_took, raised}
 use Rattle.qp_model.specs.Calls as call
 use Rattle.qp_model.specs.Calls.{Call, Answer, AtTicks, Deed, Sets, Says, Calls, deed_of, ok_after, is_assertion}
 use Rattle.qp_model.specs.Parts.{timer_number}
 use Rattle.qp_model.specs.Shapes.{Fits, NoBlockFor, Posts, PostsFront, PostsNew, PostsNewFront, Forwards, Publishes, Defers, Recalls, Subscribes, Unsubscribes, Arms, Rearms, Disarms, ticks_fit}
-use Rattle.qp_model.specs.Pieces.{Piece, Tell, Point, bare, tell, pieces_of}
+use Rattle.qp_model.specs.Pieces.{Piece, Tell, Point, records_in, tell, pieces_of}
 use Rattle.qp_model.specs.Acts.{Config, Actor, Moment, DoesDeed, DoesTask, Does, names_of}
 use Rattle.qp_model.specs.Step.{StepBehind, Step, Closes, moment}
 use Rattle.qp_model.specs.Course.{Cut, Whole, FollowsTo, Follows, FollowsAs, Course, Starts, Steps, actor, at_start, chart_at, first_config}
@@ -123,12 +123,12 @@ module _ (t ticks interval : ℕ) where
       refused-call sys o now x g (subst (λ r. Fits sys o now x r g) is h) k
 
   -- a record that is another stands in front
-  behind : (u : Told) (ps rest : List Piece) → (u.body ≡ item.BadTicks t ticks interval → ⊥) → ps ≡ Tell u ∷ rest → In (plain (item.BadTicks t ticks interval)) (bare ps)
-      → In (plain (item.BadTicks t ticks interval)) (bare rest)
-  unfolding bare
-  behind u ps rest other is k = go (subst (λ ps. In (plain (item.BadTicks t ticks interval)) (bare ps)) is k)
+  behind : (u : Told) (ps rest : List Piece) → (u.body ≡ item.BadTicks t ticks interval → ⊥) → ps ≡ Tell u ∷ rest → In (plain (item.BadTicks t ticks interval)) (records_in ps)
+      → In (plain (item.BadTicks t ticks interval)) (records_in rest)
+  unfolding records_in
+  behind u ps rest other is k = go (subst (λ ps. In (plain (item.BadTicks t ticks interval)) (records_in ps)) is k)
     where
-      go : In (plain (item.BadTicks t ticks interval)) (u ∷ bare rest) → In (plain (item.BadTicks t ticks interval)) (bare rest)
+      go : In (plain (item.BadTicks t ticks interval)) (u ∷ records_in rest) → In (plain (item.BadTicks t ticks interval)) (records_in rest)
       go (inl same) = absurd (other (ap (λ v. v.body) same))
       go (inr k) = k
 
@@ -164,13 +164,13 @@ module _ (t ticks interval : ℕ) where
     unfolding Does
     first c p ts h = record { done = []; action = p; left = ts; split = refl; reached = c; pieces = []; reaches = (refl, refl); refused = h }
 
-    module _ (ts : List Task) (end : Option Config) (ps : List Piece) (k : In (plain (item.BadTicks t ticks interval)) (bare ps))
-        (later : (d : Config) (rest : List Piece) → Does sys a at ts d rest end → In (plain (item.BadTicks t ticks interval)) (bare rest) → At d ts) where
+    module _ (ts : List Task) (end : Option Config) (ps : List Piece) (k : In (plain (item.BadTicks t ticks interval)) (records_in ps))
+        (later : (d : Config) (rest : List Piece) → Does sys a at ts d rest end → In (plain (item.BadTicks t ticks interval)) (records_in rest) → At d ts) where
       deed-step : (c : Config) (p : Plain) (deed : Deed) → deed_of (names_of a c at.event) p ≡ deed
           → DoesDeed sys a at.entry c (λ d rest. Does sys a at ts d rest end) (end ≡ None) deed ps → At c (Do p ∷ ts)
-      unfolding DoesDeed DoesTask bare
+      unfolding DoesDeed DoesTask records_in
       deed-step c p (Sets var value) is h =
-          let here = later (record c { vars = slice_set c.vars var value }) h.0 h.2 (subst (λ ps. In (plain (item.BadTicks t ticks interval)) (bare ps)) h.1 k) in
+          let here = later (record c { vars = slice_set c.vars var value }) h.0 h.2 (subst (λ ps. In (plain (item.BadTicks t ticks interval)) (records_in ps)) h.1 k) in
           further c (record c { vars = slice_set c.vars var value }) (Do p) ts here (Point ∷ here.pieces)
           (subst (λ deed. DoesDeed sys a at.entry c (λ d rest. Does sys a at here.done d rest (Some here.reached)) (Some here.reached ≡ None) deed (Point ∷ here.pieces)) (sym is) (here.pieces, refl, here.reaches))
       deed-step c p (Says value) is h =
@@ -187,11 +187,11 @@ module _ (t ticks interval : ℕ) where
               → MatchBool b ((ps ≡ pieces_of x g) × (end ≡ None))
               ((rest : List Piece) × (ps ≡ pieces_of x g ++ (Point ∷ rest)) × Does sys a at ts (record c { ok = ok_after answer c.ok; kept = kept }) rest end)
               → At c (Do p ∷ ts)
-          either true e h = refuses (subst (In (plain (item.BadTicks t ticks interval))) (ap bare h.0 ∙ bare-pieces_of x g) k)
+          either true e h = refuses (subst (In (plain (item.BadTicks t ticks interval))) (ap records_in h.0 ∙ bare-pieces_of x g) k)
           either false e (rest, split, does) =
-              elim (in-append (plain (item.BadTicks t ticks interval)) g (bare rest)
+              elim (in-append (plain (item.BadTicks t ticks interval)) g (records_in rest)
               (subst (In (plain (item.BadTicks t ticks interval)))
-              (ap bare split ∙ bare-append (pieces_of x g) (Point ∷ rest) ∙ ap (λ us. us ++ bare rest) (bare-pieces_of x g)) k)) [
+              (ap records_in split ∙ bare-append (pieces_of x g) (Point ∷ rest) ∙ ap (λ us. us ++ records_in rest) (bare-pieces_of x g)) k)) [
                 | inl own ↦ refuses own
                 | inr other ↦ passed (later (record c { ok = ok_after answer c.ok; kept = kept }) rest does other)
               ]
@@ -212,14 +212,14 @@ module _ (t ticks interval : ℕ) where
                   ))
 
       task-step : (c : Config) (task : Task) → DoesTask sys a at c (λ d rest. Does sys a at ts d rest end) (end ≡ None) task ps → At c (task ∷ ts)
-      unfolding DoesTask bare
+      unfolding DoesTask records_in
       task-step c (Do p) h = deed-step c p (deed_of (names_of a c at.event) p) refl h
       task-step c (Raise ceiling) (former, h) =
           let here = later (record c { former = former }) h.0 h.2 (behind (raised _ former) ps h.0 (λ e. absurd (cc)) h.1 k) in
           further c (record c { former = former }) (Raise ceiling) ts here (Tell (raised _ former) ∷ here.pieces) (former, (here.pieces, refl, here.reaches))
       task-step c Restore (more, is, (rest, point, does)) =
           let in_more = behind (plain (item.Unlock c.former)) ps more (λ e. absurd (cc)) is k in
-          let here = later c rest does (subst (λ ps. In (plain (item.BadTicks t ticks interval)) (bare ps)) point in_more) in
+          let here = later c rest does (subst (λ ps. In (plain (item.BadTicks t ticks interval)) (records_in ps)) point in_more) in
           further c c Restore ts here (Tell (plain (item.Unlock c.former)) ∷ Point ∷ here.pieces) (Point ∷ here.pieces, refl, (here.pieces, refl, here.reaches))
       task-step c Begin h =
           let here = later c h.0 h.2 (behind (plain item.Begin) ps h.0 (λ e. absurd (cc)) h.1 k) in
@@ -243,9 +243,9 @@ module _ (t ticks interval : ℕ) where
           let here = later c h.0 h.2 (behind (plain item.Done) ps h.0 (λ e. absurd (cc)) h.1 k) in
           further c c Done ts here (Tell (plain item.Done) ∷ here.pieces) (here.pieces, refl, here.reaches)
 
-    agenda-step : (ts : List Task) (c : Config) (ps : List Piece) (end : Option Config) → Does sys a at ts c ps end → In (plain (item.BadTicks t ticks interval)) (bare ps) → At c ts
-    unfolding Does bare
-    agenda-step [] c ps end h k = absurd (subst (λ ps. In (plain (item.BadTicks t ticks interval)) (bare ps)) h.0 k)
+    agenda-step : (ts : List Task) (c : Config) (ps : List Piece) (end : Option Config) → Does sys a at ts c ps end → In (plain (item.BadTicks t ticks interval)) (records_in ps) → At c ts
+    unfolding Does records_in
+    agenda-step [] c ps end h k = absurd (subst (λ ps. In (plain (item.BadTicks t ticks interval)) (records_in ps)) h.0 k)
     agenda-step (task ∷ ts) c ps end h k = task-step ts end ps k (λ d rest h k. agenda-step ts d rest end h k) c task h
 
   module _ (sys : System) (a : Actor) where
@@ -263,48 +263,48 @@ module _ (t ticks interval : ℕ) where
       refused = h.refused;
     }
 
-    start-refuses : (c : Config) (ps : List Piece) (end : Option Config) → Starts sys a c ps end → In (plain (item.BadTicks t ticks interval)) (bare ps) → WereRefused sys a t ticks interval
+    start-refuses : (c : Config) (ps : List Piece) (end : Option Config) → Starts sys a c ps end → In (plain (item.BadTicks t ticks interval)) (records_in ps) → WereRefused sys a t ticks interval
     unfolding Starts
     start-refuses c ps end (all, mid, does, is, last) k =
         in-agenda at_start c (start_plan a.chart).tasks (OfStart refl refl)
-        (agenda-step sys a at_start (start_plan a.chart).tasks c all mid does (subst (In (plain (item.BadTicks t ticks interval))) (ap bare is ∙ bare-tell (bare all)) k))
+        (agenda-step sys a at_start (start_plan a.chart).tasks c all mid does (subst (In (plain (item.BadTicks t ticks interval))) (ap records_in is ∙ bare-tell (records_in all)) k))
 
     not-released : (e : Entry) (mid : Option Config) (rel : List Told) → Closes e mid rel → In (plain (item.BadTicks t ticks interval)) rel → ⊥
     unfolding Closes
     not-released e None rel h k = subst (In (plain (item.BadTicks t ticks interval))) h k
     not-released e (Some c) rel h k = not-usual rel (usual rel (calm-drops e rel h)) k
 
-    step-refuses : (e : Entry) (c : Config) (ps : List Piece) (end : Option Config) → Step sys a e c ps end → In (plain (item.BadTicks t ticks interval)) (bare ps) → WereRefused sys a t ticks interval
+    step-refuses : (e : Entry) (c : Config) (ps : List Piece) (end : Option Config) → Step sys a e c ps end → In (plain (item.BadTicks t ticks interval)) (records_in ps) → WereRefused sys a t ticks interval
     unfolding Step StepBehind
     step-refuses e c ps end (f, l, m, ev, rest, is, (body, rel, mid, does, closes, split, last)) k =
-        let in_rest = behind (taken f l m e ev) ps rest (λ e. absurd (cc)) is k in
-        let both : bare rest ≡ bare body ++ rel = ap bare split ∙ bare-append body (tell rel) ∙ ap (λ us. bare body ++ us) (bare-tell rel) in
-        elim (in-append (plain (item.BadTicks t ticks interval)) (bare body) rel (subst (In (plain (item.BadTicks t ticks interval))) both in_rest)) [
+        let in_rest = behind (told_took f l m e ev) ps rest (λ e. absurd (cc)) is k in
+        let both : records_in rest ≡ records_in body ++ rel = ap records_in split ∙ bare-append body (tell rel) ∙ ap (λ us. records_in body ++ us) (bare-tell rel) in
+        elim (in-append (plain (item.BadTicks t ticks interval)) (records_in body) rel (subst (In (plain (item.BadTicks t ticks interval))) both in_rest)) [
           | inl own ↦ in-agenda (moment ev e) c (step_plan a.chart c.leaf (names_of a c ev) ev.sig).tasks (OfStep ev e refl refl)
               (agenda-step sys a (moment ev e) (step_plan a.chart c.leaf (names_of a c ev) ev.sig).tasks c body mid does own)
           | inr other ↦ absurd (not-released e mid rel closes other)
         ]
 
-    steps-refuse : (es : List Entry) (c : Option Config) (ps : List Piece) (end : Option Config) → Steps sys a es c ps end → In (plain (item.BadTicks t ticks interval)) (bare ps) → WereRefused sys a t ticks interval
-    unfolding Steps bare
-    steps-refuse [] c ps end h k = absurd (subst (λ ps. In (plain (item.BadTicks t ticks interval)) (bare ps)) h.0 k)
+    steps-refuse : (es : List Entry) (c : Option Config) (ps : List Piece) (end : Option Config) → Steps sys a es c ps end → In (plain (item.BadTicks t ticks interval)) (records_in ps) → WereRefused sys a t ticks interval
+    unfolding Steps records_in
+    steps-refuse [] c ps end h k = absurd (subst (λ ps. In (plain (item.BadTicks t ticks interval)) (records_in ps)) h.0 k)
     steps-refuse (e ∷ es) None ps end h k = absurd h
     steps-refuse (e ∷ es) (Some c) ps end (one, rest, mid, is, step, more) k =
-        elim (in-append (plain (item.BadTicks t ticks interval)) (bare one) (bare rest) (subst (In (plain (item.BadTicks t ticks interval))) (ap bare is ∙ bare-append one rest) k)) [
+        elim (in-append (plain (item.BadTicks t ticks interval)) (records_in one) (records_in rest) (subst (In (plain (item.BadTicks t ticks interval))) (ap records_in is ∙ bare-append one rest) k)) [
           | inl own ↦ step-refuses e c one mid step own
           | inr other ↦ steps-refuse es mid rest end more other
         ]
 
-    course-refuses : (c : Config) (es : List Entry) (ps : List Piece) (end : Option Config) → Course sys a c es ps end → In (plain (item.BadTicks t ticks interval)) (bare ps) → WereRefused sys a t ticks interval
+    course-refuses : (c : Config) (es : List Entry) (ps : List Piece) (end : Option Config) → Course sys a c es ps end → In (plain (item.BadTicks t ticks interval)) (records_in ps) → WereRefused sys a t ticks interval
     unfolding Course
     course-refuses c es ps end (start, rest, mid, is, starts, steps) k =
-        elim (in-append (plain (item.BadTicks t ticks interval)) (bare start) (bare rest) (subst (In (plain (item.BadTicks t ticks interval))) (ap bare is ∙ bare-append start rest) k)) [
+        elim (in-append (plain (item.BadTicks t ticks interval)) (records_in start) (records_in rest) (subst (In (plain (item.BadTicks t ticks interval))) (ap records_in is ∙ bare-append start rest) k)) [
           | inl own ↦ start-refuses c start mid starts own
           | inr other ↦ steps-refuse es mid rest end steps other
         ]
 
   module _ (sys : System) (d : ObjectDef) where
-    follows-refuses : (ps : List Piece) → Follows sys d ps → In (plain (item.BadTicks t ticks interval)) (bare ps)
+    follows-refuses : (ps : List Piece) → Follows sys d ps → In (plain (item.BadTicks t ticks interval)) (records_in ps)
         → (chart : Chart) × (chart_at sys d.chart ≡ Some chart) × WereRefused sys (actor d chart) t ticks interval
     unfolding Follows FollowsAs
     follows-refuses ps h k = by (chart_at sys d.chart) refl h
@@ -313,10 +313,10 @@ module _ (t ticks interval : ℕ) where
         by None is h = absurd h
         by (Some chart) is (es, end, course) = (chart, is, course-refuses sys (actor d chart) (first_config d) es ps end course k)
 
-    in-more : (ps back : List Piece) → In (plain (item.BadTicks t ticks interval)) (bare ps) → In (plain (item.BadTicks t ticks interval)) (bare (ps ++ back))
-    in-more ps back k = subst (In (plain (item.BadTicks t ticks interval))) (sym (bare-append ps back)) (in-front (plain (item.BadTicks t ticks interval)) (bare ps) (bare back) k)
+    in-more : (ps back : List Piece) → In (plain (item.BadTicks t ticks interval)) (records_in ps) → In (plain (item.BadTicks t ticks interval)) (records_in (ps ++ back))
+    in-more ps back k = subst (In (plain (item.BadTicks t ticks interval))) (sym (bare-append ps back)) (in-front (plain (item.BadTicks t ticks interval)) (records_in ps) (records_in back) k)
 
-    cut-refuses : (cut : Cut) (ps : List Piece) → FollowsTo sys d cut ps → In (plain (item.BadTicks t ticks interval)) (bare ps)
+    cut-refuses : (cut : Cut) (ps : List Piece) → FollowsTo sys d cut ps → In (plain (item.BadTicks t ticks interval)) (records_in ps)
         → (chart : Chart) × (chart_at sys d.chart ≡ Some chart) × WereRefused sys (actor d chart) t ticks interval
     unfolding FollowsTo
     cut-refuses Whole ps h k = follows-refuses ps (through-follows sys d ps h) k

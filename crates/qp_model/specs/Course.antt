@@ -6,7 +6,7 @@ use Rattle.qp_chart.specs.Agenda.{start_plan}
 use Rattle.qp_model.specs.declared.systems.System.{System}
 use Rattle.qp_model.specs.declared.systems.ObjectDef.{ObjectDef}
 use Rattle.qp_model.specs.declared.bodies.Entry.{Entry}
-use Rattle.qp_model.specs.Pieces.{Piece, bare, tell, ends_at_point, begins_at_point}
+use Rattle.qp_model.specs.Pieces.{Piece, records_in, tell, ends_at_point, begins_at_point}
 use Rattle.qp_model.specs.Acts.{Config, Actor, Moment, Does}
 use Rattle.qp_model.specs.Step.{Step, at_leaf}
 
@@ -16,10 +16,10 @@ at_start = record { event = record { sig = 0; pars = [] }; entry = None }
 
 -- the start, in which no row of looks stands
 unfoldable pub Starts : System → Actor → Config → List Piece → Option Config → Type 0
-unfolding Does bare start_plan
+unfolding Does records_in start_plan
 Starts sys a first ps end =
     (all : List Piece) × (mid : Option Config)
-    × Does sys a at_start (start_plan a.chart).tasks first all mid × (ps ≡ tell (bare all)) × (end ≡ at_leaf (start_plan a.chart).leaf mid)
+    × Does sys a at_start (start_plan a.chart).tasks first all mid × (ps ≡ tell (records_in all)) × (end ≡ at_leaf (start_plan a.chart).leaf mid)
 
 -- a step over each entry, in order, while nothing is asserted
 unfoldable pub Steps : System → Actor → List Entry → Option Config → List Piece → Option Config → Type 0

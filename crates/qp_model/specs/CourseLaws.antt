@@ -14,7 +14,7 @@ use Rattle.qp_model.specs.Calls.{Deed, Calls, deed_of}
 use Rattle.qp_model.specs.Parts.{timer_number}
 use Rattle.qp_model.specs.Shapes.{ticks_fit}
 use Rattle.qp_model.specs.Deferral.{kept_after}
-use Rattle.qp_model.specs.Pieces.{Piece, bare}
+use Rattle.qp_model.specs.Pieces.{Piece, records_in}
 use Rattle.qp_model.specs.Acts.{Actor, Config, names_of, Moment, Does}
 use Rattle.qp_model.specs.Step.{StepBehind, moment}
 use Rattle.qp_model.specs.Course.{Cut, Whole, Follows, FollowsTo, actor, at_start, chart_at}
@@ -23,32 +23,32 @@ use Rattle.qp_model.specs.StepNotes.{notes_of, notes_in}
 
 -- a step that runs to completion leaves just the notes of its agenda, in order
 unfoldable pub StepsLeaveTheirNotes : Type 0
-unfolding StepBehind bare notes_in notes_of step_plan
+unfolding StepBehind records_in notes_in notes_of step_plan
 StepsLeaveTheirNotes =
     (sys : System) (a : Actor) (ev : Event) (e : Entry) (c d : Config) (ps : List Piece) → StepBehind sys a ev e c ps (Some d)
-    → notes_in (bare ps) ≡ notes_of (step_plan a.chart c.leaf (names_of a c ev) ev.sig).tasks
+    → notes_in (records_in ps) ≡ notes_of (step_plan a.chart c.leaf (names_of a c ev) ev.sig).tasks
 
 -- no record of an object stands behind its assertion
 unfoldable pub NothingFollowsAnAssertion : Type 0
-unfolding FollowsTo asserts_last bare
-NothingFollowsAnAssertion = (sys : System) (d : ObjectDef) (cut : Cut) (ps : List Piece) → FollowsTo sys d cut ps → IsTrue (asserts_last (bare ps))
+unfolding FollowsTo asserts_last records_in
+NothingFollowsAnAssertion = (sys : System) (d : ObjectDef) (cut : Cut) (ps : List Piece) → FollowsTo sys d cut ps → IsTrue (asserts_last (records_in ps))
 
 -- a list is whole exactly where it is a course in which nothing was asserted
 unfoldable pub WholeListsAssertNothing : Type 0
-unfolding Follows FollowsTo bare
+unfolding Follows FollowsTo records_in
 WholeListsAssertNothing =
-    (sys : System) (d : ObjectDef) (ps : List Piece) → FollowsTo sys d Whole ps ↔ (Follows sys d ps × IsTrue (asserts_none (bare ps)))
+    (sys : System) (d : ObjectDef) (ps : List Piece) → FollowsTo sys d Whole ps ↔ (Follows sys d ps × IsTrue (asserts_none (records_in ps)))
 
 -- what follows an object's chart has the shape of an object's records, with the same cut
 unfoldable pub CoursesHaveTheirShape : Type 0
-unfolding FollowsTo bare
+unfolding FollowsTo records_in
 CoursesHaveTheirShape =
-    (sys : System) (d : ObjectDef) (nils : Bool) (cut : Cut) (ps : List Piece) → FollowsTo sys d cut ps → HasShape sys d.priority nils cut (bare ps)
+    (sys : System) (d : ObjectDef) (nils : Bool) (cut : Cut) (ps : List Piece) → FollowsTo sys d cut ps → HasShape sys d.priority nils cut (records_in ps)
 
 -- what follows an object's chart defers, recalls and flushes as its deferred list allows
 unfoldable pub CoursesKeepTheirList : Type 0
-unfolding FollowsTo bare kept_after
-CoursesKeepTheirList = (sys : System) (d : ObjectDef) (cut : Cut) (ps : List Piece) → FollowsTo sys d cut ps → IsTrue (is_some (kept_after d.defer [] (bare ps)))
+unfolding FollowsTo records_in kept_after
+CoursesKeepTheirList = (sys : System) (d : ObjectDef) (cut : Cut) (ps : List Piece) → FollowsTo sys d cut ps → IsTrue (is_some (kept_after d.defer [] (records_in ps)))
 
 -- `arm` or `rearm` of timer t of object o with these values, which no timer takes; `rearm` has no interval
 pub data RefusesTicks (sys : System) (o t ticks interval : ℕ) (deed : Deed) : Type 0 where
@@ -78,8 +78,8 @@ pub record WereRefused (sys : System) (a : Actor) (t ticks interval : ℕ) : Typ
 
 -- assertion 4 shows the values that were refused
 unfoldable pub AssertionShowsTicks : Type 0
-unfolding FollowsTo bare
+unfolding FollowsTo records_in
 AssertionShowsTicks =
     (sys : System) (d : ObjectDef) (cut : Cut) (ps : List Piece) → FollowsTo sys d cut ps
-    → (earlier later : List Told) (t ticks interval : ℕ) → bare ps ≡ earlier ++ plain (item.BadTicks t ticks interval) ∷ later
+    → (earlier later : List Told) (t ticks interval : ℕ) → records_in ps ≡ earlier ++ plain (item.BadTicks t ticks interval) ∷ later
     → (chart : Chart) × (chart_at sys d.chart ≡ Some chart) × WereRefused sys (actor d chart) t ticks interval

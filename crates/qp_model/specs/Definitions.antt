@@ -54,11 +54,11 @@ abbrev pub SOURCES : ℕ
 SOURCES = 20
 
 -- the end that is stated is that of the lanes
-abbrev pub END : ℕ
-END = 21
+abbrev pub END_HOLDS : ℕ
+END_HOLDS = 21
 
 -- all numbers, in their order
 abbrev pub definitions : List ℕ
 definitions =
     COURSE ∷ DRAWN_NUMBERS ∷ FREE_BLOCKS ∷ REFERENCES ∷ LIVES ∷ LINE ∷ SHOWN_NUMBERS
-    ∷ SHAPES ∷ SUBSCRIBERS ∷ DEFERRAL ∷ TIME_EVENTS ∷ KERNEL_LANE ∷ SOURCES ∷ END ∷ []
+    ∷ SHAPES ∷ SUBSCRIBERS ∷ DEFERRAL ∷ TIME_EVENTS ∷ KERNEL_LANE ∷ SOURCES ∷ END_HOLDS ∷ []

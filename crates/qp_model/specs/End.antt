@@ -19,12 +19,12 @@ use Rattle.qp_model.specs.References.{references}
 use Rattle.qp_model.specs.Line.{line}
 use Rattle.qp_model.specs.Sites.{ring_of, blocks_of}
 use Rattle.qp_model.specs.Home.{home_of}
-use Rattle.qp_model.specs.Ends.{is_assert, is_spent, is_spill, is_end, ends_last, quiet, asserted, spent}
+use Rattle.qp_model.specs.Ends.{is_assert, is_spent, is_spill, is_end, ends_last, quiet, end_asserted, spent}
 
 -- the end stated is that of the records: asserted where an `assert` stands, else spent where a `spent` or `spill` stands, else quiet
 abbrev pub end_of : List Item → ℕ
 end_of items =
-    if list_any (λ i. is_assert i.body) items then asserted else (if list_any (λ i. is_end i.body) items then spent else quiet)
+    if list_any (λ i. is_assert i.body) items then end_asserted else (if list_any (λ i. is_end i.body) items then spent else quiet)
 
 -- a `spill` states the number of records before it in its lane, which exceeds 999,992
 abbrev pub spill_states : ℕ → Body → Bool
@@ -62,14 +62,14 @@ took_count items o = count_by (takes_of o) items
 abbrev pub spent_right : System → Journal → ℕ → Item → Bool
 spent_right sys j n i = not (is_spent i.body) || ((home_of sys j i.of == n) && (took_count (all_items j.lanes) i.of == j.budget))
 
-abbrev pub is_object : ℕ → Option ℕ → Bool
-is_object o None = false
-is_object o (Some p) = p == o
+abbrev pub is_its_object : ℕ → Option ℕ → Bool
+is_its_object o None = false
+is_its_object o (Some p) = p == o
 
 -- each `spent o` comes right after a `seen` of the queue of o that shows an entry; `shown` is what the record before shows
 unfoldable pub spents_follow : Option ℕ → List Item → Bool
 spents_follow shown [] = true
-spents_follow shown (i ∷ is) = (not (is_spent i.body) || is_object i.of shown) && spents_follow (shown_entry i) is
+spents_follow shown (i ∷ is) = (not (is_spent i.body) || is_its_object i.of shown) && spents_follow (shown_entry i) is
 
 -- the `spent` records of the lanes from number n on
 unfoldable pub spents_hold : System → Journal → ℕ → List (List Rec) → Bool

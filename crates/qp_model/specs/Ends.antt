@@ -50,15 +50,15 @@ ends_last (i ∷ j ∷ is) = not (is_end i.body) && ends_last (j ∷ is)
 abbrev pub quiet : ℕ
 quiet = 0
 
-abbrev pub asserted : ℕ
-asserted = 3
+abbrev pub end_asserted : ℕ
+end_asserted = 3
 
 abbrev pub spent : ℕ
 spent = 4
 
 -- lists may be cut only where a run stopped early
 abbrev pub may_cut : ℕ → Bool
-may_cut end = (end == asserted) || (end == spent)
+may_cut end = (end == end_asserted) || (end == spent)
 
 -- a `spill` stands only as the last record of its lane, and only where the run stopped early
 unfoldable pub spills_cut : ℕ → List Item → Bool

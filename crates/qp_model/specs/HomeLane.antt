@@ -12,15 +12,15 @@ is_at_home o spent cut p (item.Seen q f l m) = (p == 0) && (q == o) && spent
 is_at_home o spent cut p (item.Spill len) = (p == 0) && cut
 is_at_home o spent cut p b = p == o
 
-abbrev pub taken_by : ℕ → Body → ℕ
-taken_by n (item.Took f l m e) = n + 1
-taken_by n b = n
+abbrev pub count_taken : ℕ → Body → ℕ
+count_taken n (item.Took f l m e) = n + 1
+count_taken n b = n
 
 -- each record is one of these; n events have been taken before them, and only the last record of a lane that may be cut cuts it
 unfoldable pub are_at_home : ℕ → ℕ → Bool → ℕ → List Item → Bool
 are_at_home o budget cuts n [] = true
 are_at_home o budget cuts n (i ∷ is) =
-    is_at_home o (n == budget) (cuts && (length is == 0)) i.of i.body && are_at_home o budget cuts (taken_by n i.body) is
+    is_at_home o (n == budget) (cuts && (length is == 0)) i.of i.body && are_at_home o budget cuts (count_taken n i.body) is
 
 abbrev pub nil_counts : Body → Option (ℕ × ℕ × ℕ)
 nil_counts (item.Nil f l m) = Some (f, l, m)

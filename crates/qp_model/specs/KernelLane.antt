@@ -219,5 +219,5 @@ is_over kernel Over = true
 is_over kernel Inside = kernel == qk
 is_over kernel _ = false
 
-abbrev pub is_whole : ℕ → Reading → Bool
-is_whole kernel k = (length k.unstarted == 0) && (length k.running == 0) && is_over kernel k.place
+abbrev pub is_whole_reading : ℕ → Reading → Bool
+is_whole_reading kernel k = (length k.unstarted == 0) && (length k.running == 0) && is_over kernel k.place

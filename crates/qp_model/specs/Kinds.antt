@@ -7,8 +7,8 @@ QP = 1
 abbrev pub LANE : ℕ
 LANE = 2
 
-abbrev pub END : ℕ
-END = 3
+abbrev pub END_LINE : ℕ
+END_LINE = 3
 
 abbrev pub BEGIN : ℕ
 BEGIN = 4
@@ -160,7 +160,7 @@ abbrev pub kinds : List Kind
 kinds =
     kind QP (codes "qp") Head
     ∷ kind LANE (codes "lane") Head
-    ∷ kind END (codes "end") Head
+    ∷ kind END_LINE (codes "end") Head
     ∷ kind BEGIN (codes "begin") Note
     ∷ kind TOOK (codes "took") Call
     ∷ kind NIL (codes "nil") Call

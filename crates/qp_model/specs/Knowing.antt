@@ -27,9 +27,9 @@ unfolding after hist
 free_before w p n = length (after (free_blocks (blocks_of w.sys p)) (take n (hist (word.Pool p) w.items))).free
 
 -- how many references stood after operation d of the block
-unfoldable pub left_after : Facts → ℕ → ℕ → ℕ → ℕ
+unfoldable pub references_after : Facts → ℕ → ℕ → ℕ → ℕ
 unfolding after hist
-left_after w p b d = length (after references (take (d + 1) (hist (word.Block p b) w.items))).names
+references_after w p b d = length (after references (take (d + 1) (hist (word.Block p b) w.items))).names
 
 -- the subscribers after the signal's first n operations
 unfoldable pub set_at : Facts → ℕ → ℕ → List ℕ
@@ -53,9 +53,9 @@ unfolding hist last_given
 life_event w p b r = if nat_lt r (length (hist (word.Block p b) w.items)) then last_given b r None (hist (word.Pool p) w.items) else None
 
 -- the event of an entry: its static signal, or the event of the life that holds its reference
-unfoldable pub event_of : Facts → Entry → Option Event
+unfoldable pub event_of_entry : Facts → Entry → Option Event
 unfolding life_event
-event_of w e = if e.pool == 0 then Some (record { sig = e.block; pars = [] }) else life_event w e.pool e.block e.name
+event_of_entry w e = if e.pool == 0 then Some (record { sig = e.block; pars = [] }) else life_event w e.pool e.block e.name
 
 abbrev pub event_known : Option Event → Known
 event_known None = Nothing
@@ -63,10 +63,10 @@ event_known (Some ev) = OfEvent ev
 
 -- what is known beside a record of object o; `ceiling` stood before it in its lane
 unfoldable pub known_of : Facts → ℕ → ℕ → Body → Known
-unfolding event_of free_before left_after set_at
-known_of w o ceiling (Took f l m e) = event_known (event_of w e)
+unfolding event_of_entry free_before references_after set_at
+known_of w o ceiling (Took f l m e) = event_known (event_of_entry w e)
 known_of w o ceiling (New p n b from sig pars) = Free (free_before w p n)
-known_of w o ceiling (Dec p b d k) = Left (left_after w p b d)
+known_of w o ceiling (Dec p b d k) = Left (references_after w p b d)
 known_of w o ceiling (Lock c) = Former ceiling
 known_of w o ceiling (Same sig n) = Member (has (set_at w sig n) o)
 known_of w o ceiling _ = Nothing

@@ -19,12 +19,12 @@ use Rattle.qp_model.specs.Knowing.{Facts}
 use Rattle.qp_model.specs.Kernels.{sim, qk, port, qv, has_one_order}
 use Rattle.qp_model.specs.Home.{lane_at, home_of, by_object, home_records}
 use Rattle.qp_model.specs.Deferral.{kept_after}
-use Rattle.qp_model.specs.Pieces.{Piece, bare}
+use Rattle.qp_model.specs.Pieces.{Piece, records_in}
 use Rattle.qp_model.specs.Course.{Cut, Whole, Stopped, Anywhere, FollowsTo}
 use Rattle.qp_model.specs.ObjectShape.{HasShape}
 use Rattle.qp_model.specs.HomeLane.{is_home_lane}
 use Rattle.qp_model.specs.Ends.{is_assert, is_turn_mark, is_spill, spills_in, may_cut, spills_cut}
-use Rattle.qp_model.specs.KernelLane.{Setting, Reading, lane_read, is_whole}
+use Rattle.qp_model.specs.KernelLane.{Setting, Reading, lane_read, is_whole_reading}
 use Rattle.qp_model.specs.Points.{lane_pieces}
 use Rattle.qp_model.specs.Sources.{AllDone, BeforeStimulus, InStimulus, SourceRuns, IsSourceLane, source_records}
 use Rattle.qp_model.specs.OneOrder.{OneThread, IsOneOrder, is_stim_at}
@@ -64,9 +64,9 @@ dispatched ts = filter (λ t. not (is_turn_mark t.body)) ts
 
 -- the records of an object's start and steps follow its chart
 unfoldable pub CourseHolds : System → Journal → ObjectDef → Type 0
-unfolding FollowsTo bare by_object cut_of facts_of
+unfolding FollowsTo records_in by_object cut_of facts_of
 CourseHolds sys j d =
-    (ps : List Piece) × (bare ps ≡ dispatched (by_object (facts_of sys j) j d.priority)) × FollowsTo sys d (cut_of sys j d.priority) ps
+    (ps : List Piece) × (records_in ps ≡ dispatched (by_object (facts_of sys j) j d.priority)) × FollowsTo sys d (cut_of sys j d.priority) ps
 
 -- what is asked of one object
 pub record ObjectHolds (sys : System) (j : Journal) (d : ObjectDef) : Type 0 where
@@ -102,7 +102,7 @@ abbrev pub reading_holds : Journal → List Item → ℕ → Option Reading → 
 reading_holds j lane settles None = false
 reading_holds j lane settles (Some k) =
     ((j.kernel == sim) || (j.kernel == qk) || (j.kernel == qv)) && nat_le k.idle (settles + 1) && spills_cut j.end lane
-    && (if may_cut j.end then ((length k.unstarted == 0) || list_any (λ i. is_assert i.body) lane) else is_whole j.kernel k)
+    && (if may_cut j.end then ((length k.unstarted == 0) || list_any (λ i. is_assert i.body) lane) else is_whole_reading j.kernel k)
 
 -- lane 0 is a kernel lane, and in each object's steps a row of looks stands after each action and each post of a publication
 pub record KernelHolds (sys : System) (j : Journal) : Type 0 where

@@ -21,7 +21,7 @@ use Rattle.qp_model.specs.References.{references}
 use Rattle.qp_model.specs.Line.{line}
 use Rattle.qp_model.specs.Sites.{ring_of, blocks_of}
 use Rattle.qp_model.specs.WordLaw.{is_block}
-use Rattle.qp_model.specs.Pieces.{Piece, bare}
+use Rattle.qp_model.specs.Pieces.{Piece, records_in}
 use Rattle.qp_model.specs.Acts.{Config}
 use Rattle.qp_model.specs.Course.{Course, first_config, actor, chart_at}
 use Rattle.qp_model.specs.Kernels.{port, qv}
@@ -85,12 +85,12 @@ taken_entry (body.Took f l m e) = Some e
 taken_entry _ = None
 
 -- the entries that o takes in these records, in order
-unfoldable pub taken_by : ℕ → List Item → List Entry
-taken_by o items = filter_map (λ i. if i.of == o then taken_entry i.body else None) items
+unfoldable pub entries_taken_by : ℕ → List Item → List Entry
+entries_taken_by o items = filter_map (λ i. if i.of == o then taken_entry i.body else None) items
 
 -- the entries taken in an object's own list
-unfoldable pub taken_in : List Told → List Entry
-taken_in ts = filter_map (λ t. taken_entry t.body) ts
+unfoldable pub entries_taken_in : List Told → List Entry
+entries_taken_in ts = filter_map (λ t. taken_entry t.body) ts
 
 -- each priority is below the later ones, and above 0
 abbrev pub Ascend : List ObjectDef → Type 0
@@ -101,7 +101,7 @@ Ascend (d ∷ ds) = (0 < d.priority) × AllByRecursion (λ x. d.priority < x.pri
 abbrev pub TakesWhatItsQueueGives : Type 0
 TakesWhatItsQueueGives =
     (sys : System) (stimuli : List (List Stim)) (j : Journal) → Lawful sys stimuli j → Ascend sys.objects
-    → AllByRecursion (λ d. taken_in (by_object (facts_of sys j) j d.priority) ≡ taken_by d.priority (hist (word.Queue d.priority) (all_items j.lanes))) sys.objects
+    → AllByRecursion (λ d. entries_taken_in (by_object (facts_of sys j) j d.priority) ≡ entries_taken_by d.priority (hist (word.Queue d.priority) (all_items j.lanes))) sys.objects
 
 -- an object's records are the front of a course over the entries that its queue gave, in order, and perhaps more; with end 0 they are
 -- the whole course over just these
@@ -112,8 +112,8 @@ pub record LivesByItsChart (sys : System) (j : Journal) (d : ObjectDef) : Type 0
   pub left : List Piece
   pub more : List Entry
   pub end : Option Config
-  pub records : bare done ≡ dispatched (by_object (facts_of sys j) j d.priority)
-  pub course : Course sys (actor d chart) (first_config d) (taken_by d.priority (hist (word.Queue d.priority) (all_items j.lanes)) ++ more) (done ++ left) end
+  pub records : records_in done ≡ dispatched (by_object (facts_of sys j) j d.priority)
+  pub course : Course sys (actor d chart) (first_config d) (entries_taken_by d.priority (hist (word.Queue d.priority) (all_items j.lanes)) ++ more) (done ++ left) end
   pub whole : j.end ≡ quiet → (left ≡ []) × (more ≡ [])
 
 -- each object's steps are the statechart meaning of the events that its queue gave, in order

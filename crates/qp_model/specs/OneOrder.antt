@@ -118,19 +118,19 @@ may_act rests (stim.Settle ∷ ss) = rests
 may_act rests (s ∷ ss) = true
 
 -- what each source has left after these records
-unfoldable pub left_after : List Placed → List (List Stim) → List (ℕ × List Stim)
+unfoldable pub stimuli_after : List Placed → List (List Stim) → List (ℕ × List Stim)
 unfolding begun
-left_after before stimuli = map (λ x. (x.0, drop (begun before x.0) x.1)) (enumerate_from 1 stimuli)
+stimuli_after before stimuli = map (λ x. (x.0, drop (begun before x.0) x.1)) (enumerate_from 1 stimuli)
 
 abbrev pub turned : {A : Type 0} → ℕ → List A → List A
 turned n xs = drop n xs ++ take n xs
 
 -- the stimulus that acts in a look: that of the first source that may act, in cyclic order after the one that acted last
 unfoldable pub acts_next : System → List (List Stim) → List Placed → Bool → Option Turn
-unfolding acted_last all_empty begun left_after
+unfolding acted_last all_empty begun stimuli_after
 acts_next sys stimuli before at_base =
     option_map (λ x. record { source = x.0; place = begun before x.0 + 1 })
-    (find (λ x. may_act (at_base && all_empty sys before) x.1) (turned (acted_last 0 before) (left_after before stimuli)))
+    (find (λ x. may_act (at_base && all_empty sys before) x.1) (turned (acted_last 0 before) (stimuli_after before stimuli)))
 
 abbrev pub is_turn : Option Turn → List Turn → Bool
 is_turn None [] = true

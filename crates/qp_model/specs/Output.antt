@@ -1,11 +1,11 @@
 -- A journal as the list of its items, which text and frames write one after another.
 use Rattle.std.specs.Prelude.{ℕ, ◌+◌, ◌==◌, nat_le, Bool, not, ◌&&◌, ◌||◌, List, [], ◌∷◌, ◌++◌, map, length, if◌then◌else◌}
 use Rattle.std.specs.List.{list_all}
-use Rattle.qp_model.specs.Kinds.{QP, LANE, END, BEGIN, LOOK, REST}
+use Rattle.qp_model.specs.Kinds.{QP, LANE, END_LINE, BEGIN, LOOK, REST}
 use Rattle.qp_model.specs.declared.record.Rec.{Rec}
 use Rattle.qp_model.specs.declared.journals.Journal.{Journal}
 use Rattle.qp_model.specs.Kernels.{port, qv}
-use Rattle.qp_model.specs.Ends.{quiet, asserted, spent}
+use Rattle.qp_model.specs.Ends.{quiet, end_asserted, spent}
 use Rattle.qp_model.specs.Vocabulary.{has_count}
 
 -- an item: its word by id, and the numbers after the word
@@ -34,7 +34,7 @@ abbrev pub head_item : ℕ → Journal → JournalItem
 head_item form j = item QP (form ∷ j.kernel ∷ j.budget ∷ [])
 
 abbrev pub end_item : Journal → JournalItem
-end_item j = item END (j.end ∷ [])
+end_item j = item END_LINE (j.end ∷ [])
 
 -- the items of a journal
 abbrev pub items_of : ℕ → Journal → List JournalItem
@@ -66,7 +66,7 @@ is_lane_in_range form lane = nat_le (length lane) 1000001 && list_all (is_record
 
 -- the statuses that a run may end with
 abbrev pub is_end_status : ℕ → Bool
-is_end_status n = (n == quiet) || (n == asserted) || (n == spent)
+is_end_status n = (n == quiet) || (n == end_asserted) || (n == spent)
 
 -- a journal in range for a form
 abbrev pub is_in_range : ℕ → Journal → Bool

@@ -18,7 +18,7 @@ use Rattle.qp_model.specs.Record.{Item}
 use Rattle.qp_model.specs.Told.{Told}
 use Rattle.qp_model.specs.History.{all_items}
 use Rattle.qp_model.specs.Home.{by_object}
-use Rattle.qp_model.specs.Pieces.{Piece, bare}
+use Rattle.qp_model.specs.Pieces.{Piece, records_in}
 use Rattle.qp_model.specs.Acts.{Config}
 use Rattle.qp_model.specs.Course.{Course, actor, chart_at, first_config}
 use Rattle.qp_model.specs.Lawful.{dispatched, facts_of}
@@ -27,27 +27,27 @@ abbrev pub is_took : Body → Bool
 is_took (body.Took f l m e) = true
 is_took _ = false
 
-abbrev pub is_done : Body → Bool
-is_done body.Done = true
-is_done _ = false
+abbrev pub is_done_record : Body → Bool
+is_done_record body.Done = true
+is_done_record _ = false
 
 -- how many events an object has taken
-abbrev pub taken_in : List Told → ℕ
-taken_in ts = count_by (λ t. is_took t.body) ts
+abbrev pub count_events_taken : List Told → ℕ
+count_events_taken ts = count_by (λ t. is_took t.body) ts
 
 -- a start and each step that began are done
 abbrev pub all_done : List Told → Bool
-all_done ts = count_by (λ t. is_done t.body) ts == taken_in ts + 1
+all_done ts = count_by (λ t. is_done_record t.body) ts == count_events_taken ts + 1
 
 -- the rest of a release, in which nothing begins
 abbrev pub begins_nothing : List Piece → Bool
-begins_nothing ps = list_all (λ t. not (is_took t.body)) (bare ps)
+begins_nothing ps = list_all (λ t. not (is_took t.body)) (records_in ps)
 
 -- the course of these records leaves the configuration; where a `spill` cut the last release, its rest is added
 unfoldable pub CourseLeaves : System → ObjectDef → Chart → List Told → Config → Type 0
-unfolding Course bare
+unfolding Course records_in
 CourseLeaves sys d chart ts c =
-    (ps back : List Piece) × (es : List Entry) × (bare ps ≡ dispatched ts) × (begins_nothing back ≡ true)
+    (ps back : List Piece) × (es : List Entry) × (records_in ps ≡ dispatched ts) × (begins_nothing back ≡ true)
     × Course sys (actor d chart) (first_config d) es (ps ++ back) (Some c)
 
 -- the name of a state
@@ -76,7 +76,7 @@ unfoldable pub IsObjectLine : System → Journal → ObjectDef → List ℕ → 
 unfolding IsStateText by_object chart_at facts_of
 IsObjectLine sys j d line =
     (text : List ℕ) × IsStateText sys d (chart_at sys d.chart) (by_object (facts_of sys j) j d.priority) text
-    × (line ≡ codes "object " ++ d.name ++ 32 ∷ decimal (taken_in (by_object (facts_of sys j) j d.priority)) ++ 32 ∷ text ++ codes "\n")
+    × (line ≡ codes "object " ++ d.name ++ 32 ∷ decimal (count_events_taken (by_object (facts_of sys j) j d.priority)) ++ 32 ∷ text ++ codes "\n")
 
 abbrev pub is_new_of : ℕ → Body → Bool
 is_new_of p (body.New pool n b from sig pars) = pool == p

@@ -12,10 +12,10 @@ pub data Piece : Type 0 where
   Point : Piece
 
 -- the records alone
-unfoldable pub bare : List Piece → List Told
-bare [] = []
-bare (Tell t ∷ ps) = t ∷ bare ps
-bare (Point ∷ ps) = bare ps
+unfoldable pub records_in : List Piece → List Told
+records_in [] = []
+records_in (Tell t ∷ ps) = t ∷ records_in ps
+records_in (Point ∷ ps) = records_in ps
 
 -- records without a point
 abbrev pub tell : List Told → List Piece

@@ -13,7 +13,7 @@ use Rattle.qp_model.specs.declared.bodies.Body.{Body}
 use Rattle.qp_model.specs.declared.bodies.Body.TheVariants.{New, Dec, Back, Post, Lifo, Took}
 use Rattle.qp_model.specs.Record.{Item, entry}
 use Rattle.qp_model.specs.Told.{Event}
-use Rattle.qp_model.specs.Knowing.{event_of}
+use Rattle.qp_model.specs.Knowing.{event_of_entry}
 use Rattle.qp_model.specs.History.{touch, drawn_as, total, hist, all_items}
 use Rattle.qp_model.specs.Machine.{after}
 use Rattle.qp_model.specs.FreeBlocks.{free_blocks}
@@ -81,7 +81,7 @@ pub record LiesInLife (p b r : ℕ) (ev : Event) (pool block : List Item) : Type
 abbrev pub EventIsOfItsLife : Type 0
 EventIsOfItsLife =
     (sys : System) (lanes : List (List Rec)) → Words sys lanes → (p b : ℕ) → IsTrue (is_block sys p b) → (r : ℕ) (ev : Event)
-    → (event_of (record { sys = sys; items = all_items lanes }) (entry p b r) ≡ Some ev)
+    → (event_of_entry (record { sys = sys; items = all_items lanes }) (entry p b r) ≡ Some ev)
     ↔ LiesInLife p b r ev (operations (word.Pool p) lanes) (operations (word.Block p b) lanes)
 
 -- The operations of a word are numbered 0, 1, 2 and so on: of the records of all lanes exactly one draws each number below their count,
@@ -112,12 +112,12 @@ unfoldable pub posted : List Item → List Entry
 posted history = filter_map (λ i. posted_by i.body) history
 
 -- the entries that were taken, in order
-abbrev pub taken_by : Body → Option Entry
-taken_by (Took f l m e) = Some e
-taken_by _ = None
+abbrev pub entry_taken : Body → Option Entry
+entry_taken (Took f l m e) = Some e
+entry_taken _ = None
 
-unfoldable pub taken : List Item → List Entry
-taken history = filter_map (λ i. taken_by i.body) history
+unfoldable pub entries_taken : List Item → List Entry
+entries_taken history = filter_map (λ i. entry_taken i.body) history
 
 abbrev pub is_lifo : Body → Bool
 is_lifo (Lifo f l m e) = true
@@ -133,13 +133,13 @@ abbrev pub QueueKeepsOrder : Type 0
 QueueKeepsOrder =
     (sys : System) (lanes : List (List Rec)) → Words sys lanes → (a : ℕ) → IsTrue (is_object sys a)
     → list_any (λ i. is_lifo i.body) (operations (word.Queue a) lanes) ≡ false
-    → posted (operations (word.Queue a) lanes) ≡ taken (operations (word.Queue a) lanes) ++ queued sys a lanes
+    → posted (operations (word.Queue a) lanes) ≡ entries_taken (operations (word.Queue a) lanes) ++ queued sys a lanes
 
 -- the entries taken and those still queued are the entries posted: none is lost, none comes twice
 abbrev pub QueueLosesNothing : Type 0
 QueueLosesNothing =
     (sys : System) (lanes : List (List Rec)) → Words sys lanes → (a : ℕ) → IsTrue (is_object sys a)
-    → IsPermutation (posted (operations (word.Queue a) lanes)) (taken (operations (word.Queue a) lanes) ++ queued sys a lanes)
+    → IsPermutation (posted (operations (word.Queue a) lanes)) (entries_taken (operations (word.Queue a) lanes) ++ queued sys a lanes)
 
 -- how many entries wait that were posted last-in: a take takes one of them first
 abbrev pub waiting_after : Body → ℕ → ℕ

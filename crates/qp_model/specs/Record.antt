@@ -15,9 +15,9 @@ abbrev pub never : List ℕ → Body
 never _ = Malformed
 
 -- a form with no number
-abbrev pub bare : Body → List ℕ → Body
-bare x [] = x
-bare x _ = Malformed
+abbrev pub plain_body : Body → List ℕ → Body
+plain_body x [] = x
+plain_body x _ = Malformed
 
 -- forms with one number, two, and so on
 abbrev pub one : (ℕ → Body) → List ℕ → Body
@@ -63,17 +63,17 @@ asserted _ = Malformed
 abbrev pub forms : List (List ℕ → Body)
 forms =
     never ∷ never ∷ never ∷ never
-    ∷ bare Begin
+    ∷ plain_body Begin
     ∷ six (λ f l m p b r. Took f l m (entry p b r))
     ∷ three Nil
     ∷ four Seen
     ∷ two Run
-    ∷ bare Unhandled
+    ∷ plain_body Unhandled
     ∷ one Exit
     ∷ one Enter
     ∷ one Init
     ∷ one Say
-    ∷ bare Done
+    ∷ plain_body Done
     ∷ given
     ∷ four Short
     ∷ three Inc
@@ -86,9 +86,9 @@ forms =
     ∷ one Lock
     ∷ one Unlock
     ∷ three (λ p b r. Defer (entry p b r))
-    ∷ bare NoDefer
+    ∷ plain_body NoDefer
     ∷ three (λ p b r. Recall (entry p b r))
-    ∷ bare NoRecall
+    ∷ plain_body NoRecall
     ∷ three (λ p b r. Flush (entry p b r))
     ∷ two Sub
     ∷ two Unsub
@@ -100,9 +100,9 @@ forms =
     ∷ three Tick
     ∷ three Fire
     ∷ two Stim
-    ∷ bare Settle
+    ∷ plain_body Settle
     ∷ asserted
-    ∷ bare Spent
+    ∷ plain_body Spent
     ∷ one Spill
     ∷ two Look
     ∷ one Rest

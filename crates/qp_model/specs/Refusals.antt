@@ -16,8 +16,8 @@ use Rattle.qp_model.specs.WordLaw.{Words, is_pool, is_object, is_timer}
 use Rattle.qp_model.specs.Promises.{operations}
 
 -- one of the lanes has the record of object o
-abbrev pub Stands : List (List Rec) → ℕ → Body → Type 0
-Stands lanes o b = (earlier : List Item) × (later : List Item) × (all_items lanes ≡ earlier ++ record { of = o; body = b } ∷ later)
+abbrev pub IsRecorded : List (List Rec) → ℕ → Body → Type 0
+IsRecorded lanes o b = (earlier : List Item) × (later : List Item) × (all_items lanes ≡ earlier ++ record { of = o; body = b } ∷ later)
 
 -- the queue of a after so many operations
 unfoldable pub line_at : System → List (List Rec) → ℕ → ℕ → Line
@@ -47,45 +47,45 @@ HasAtMost ring margin s = ring + 1 ≤ length s.entries + margin
 -- a `full` states the counts of its queue, which then had at most the margin free
 abbrev pub FullShows : Type 0
 FullShows =
-    (sys : System) (lanes : List (List Rec)) → Words sys lanes → (a : ℕ) → IsTrue (is_object sys a) → (o f l m margin : ℕ) → Stands lanes o (Full a f l m margin)
+    (sys : System) (lanes : List (List Rec)) → Words sys lanes → (a : ℕ) → IsTrue (is_object sys a) → (o f l m margin : ℕ) → IsRecorded lanes o (Full a f l m margin)
     → HasCounts f l m (line_at sys lanes a (f + l + m)) × HasAtMost (ring_of sys a) margin (line_at sys lanes a (f + l + m))
 
 -- assertions 1 and 5 state the counts of a queue that then was full
 abbrev pub NoEntryShows : Type 0
 NoEntryShows =
-    (sys : System) (lanes : List (List Rec)) → Words sys lanes → (a : ℕ) → IsTrue (is_object sys a) → (o f l m : ℕ) → Stands lanes o (NoEntry a f l m)
+    (sys : System) (lanes : List (List Rec)) → Words sys lanes → (a : ℕ) → IsTrue (is_object sys a) → (o f l m : ℕ) → IsRecorded lanes o (NoEntry a f l m)
     → HasCounts f l m (line_at sys lanes a (f + l + m)) × (length (line_at sys lanes a (f + l + m)).entries ≡ ring_of sys a + 1)
 
 abbrev pub NoLifoShows : Type 0
 NoLifoShows =
-    (sys : System) (lanes : List (List Rec)) → Words sys lanes → (a : ℕ) → IsTrue (is_object sys a) → (o f l m : ℕ) → Stands lanes o (NoLifo a f l m)
+    (sys : System) (lanes : List (List Rec)) → Words sys lanes → (a : ℕ) → IsTrue (is_object sys a) → (o f l m : ℕ) → IsRecorded lanes o (NoLifo a f l m)
     → HasCounts f l m (line_at sys lanes a (f + l + m)) × (length (line_at sys lanes a (f + l + m)).entries ≡ ring_of sys a + 1)
 
 -- a `nil` states the counts of a queue that then was empty
 abbrev pub NilShows : Type 0
 NilShows =
-    (sys : System) (lanes : List (List Rec)) → Words sys lanes → (a : ℕ) → IsTrue (is_object sys a) → (f l m : ℕ) → Stands lanes a (Nil f l m)
+    (sys : System) (lanes : List (List Rec)) → Words sys lanes → (a : ℕ) → IsTrue (is_object sys a) → (f l m : ℕ) → IsRecorded lanes a (Nil f l m)
     → HasCounts f l m (line_at sys lanes a (f + l + m)) × ((line_at sys lanes a (f + l + m)).entries ≡ [])
 
 -- a `short` stands at a place of its pool's history, and states the blocks that were free there, which are at most its reserve
 abbrev pub ShortShows : Type 0
 ShortShows =
-    (sys : System) (lanes : List (List Rec)) → Words sys lanes → (p : ℕ) → IsTrue (is_pool sys p) → (o n free reserve : ℕ) → Stands lanes o (Short p n free reserve)
+    (sys : System) (lanes : List (List Rec)) → Words sys lanes → (p : ℕ) → IsTrue (is_pool sys p) → (o n free reserve : ℕ) → IsRecorded lanes o (Short p n free reserve)
     → (n ≤ length (operations (word.Pool p) lanes)) × (length (pool_at sys lanes p n).free ≡ free) × (free ≤ reserve)
 
 -- assertion 2 stands at a place of its pool's history where no block was free, and states that number
 abbrev pub NoBlockShows : Type 0
 NoBlockShows =
-    (sys : System) (lanes : List (List Rec)) → Words sys lanes → (p : ℕ) → IsTrue (is_pool sys p) → (o n free : ℕ) → Stands lanes o (NoBlock p n free)
+    (sys : System) (lanes : List (List Rec)) → Words sys lanes → (p : ℕ) → IsTrue (is_pool sys p) → (o n free : ℕ) → IsRecorded lanes o (NoBlock p n free)
     → (n ≤ length (operations (word.Pool p) lanes)) × ((pool_at sys lanes p n).free ≡ []) × (free ≡ 0)
 
 -- assertion 3 states the counter of a time event that was armed at a place of its history, and `idle` stands where it wasn't
 abbrev pub ArmedShows : Type 0
 ArmedShows =
-    (sys : System) (lanes : List (List Rec)) → Words sys lanes → (t : ℕ) → IsTrue (is_timer sys t) → (o n counter : ℕ) → Stands lanes o (Armed t n counter)
+    (sys : System) (lanes : List (List Rec)) → Words sys lanes → (t : ℕ) → IsTrue (is_timer sys t) → (o n counter : ℕ) → IsRecorded lanes o (Armed t n counter)
     → (n ≤ length (operations (word.Timer t) lanes)) × ((clock_at lanes t n).counter ≡ counter) × (0 < counter)
 
 abbrev pub IdleShows : Type 0
 IdleShows =
-    (sys : System) (lanes : List (List Rec)) → Words sys lanes → (t : ℕ) → IsTrue (is_timer sys t) → (o n : ℕ) → Stands lanes o (Idle t n)
+    (sys : System) (lanes : List (List Rec)) → Words sys lanes → (t : ℕ) → IsTrue (is_timer sys t) → (o n : ℕ) → IsRecorded lanes o (Idle t n)
     → (n ≤ length (operations (word.Timer t) lanes)) × ((clock_at lanes t n).counter ≡ 0)

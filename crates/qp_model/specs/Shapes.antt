@@ -7,7 +7,7 @@ use Rattle.qp_model.specs.declared.systems.System.{System}
 use Rattle.qp_model.specs.declared.bodies.Entry.{Entry}
 use Rattle.qp_model.specs.declared.bodies.Body.TheVariants as item
 use Rattle.qp_model.specs.Record.{entry}
-use Rattle.qp_model.specs.Told.{Told, plain, given, dropped, raised, same_in}
+use Rattle.qp_model.specs.Told.{Told, plain, told_new, dropped, raised, same_in}
 use Rattle.qp_model.specs.Calls as call
 use Rattle.qp_model.specs.Calls.{Call, Answer, Granted, Refused, Flushed, AtQueue, AtPool, AtTimer, AtTicks, AtFront}
 use Rattle.qp_model.specs.Sites.{ring_of}
@@ -32,7 +32,7 @@ Drops e g = releases_by e.pool e g
 unfoldable pub MakesBlock : List ℕ → ℕ → List ℕ → Option ℕ → List Told → Entry → Type 0
 unfolding first_pool
 MakesBlock sizes sig pars reserve head e =
-    (p n b from free r : ℕ) × (head ≡ given p n b from sig pars free ∷ plain (item.Inc p b r) ∷ []) × (e ≡ entry p b r)
+    (p n b from free r : ℕ) × (head ≡ told_new p n b from sig pars free ∷ plain (item.Inc p b r) ∷ []) × (e ≡ entry p b r)
     × (first_pool sizes (length pars) ≡ Some p) × IsTrue (nat_lt (unwrap_or reserve 0) free)
 
 -- these records make the entry of a new event: none where its signal is static

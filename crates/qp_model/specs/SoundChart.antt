@@ -42,21 +42,21 @@ abbrev pub IsTimer : Chart → ℕ → Type 0
 IsTimer chart t = (1 ≤ t) × (t ≤ length chart.timer)
 
 -- the expression names variables of the chart, and parameters of the row's signal; there are none outside a row
-abbrev pub Reaches : Chart → Option ℕ → Bound → Type 0
-Reaches chart inside b = InRange (length chart.vars) (unwrap_or inside 0) b
+abbrev pub NamesKnown : Chart → Option ℕ → Bound → Type 0
+NamesKnown chart inside b = InRange (length chart.vars) (unwrap_or inside 0) b
 
 -- an event has as many parameters as its signal, and a reserve only where that has blocks
 pub record IsSoundEvent (sys : System) (chart : Chart) (inside : Option ℕ) (sig : ℕ) (pars : List Bound) (reserve : Option ℕ) : Type 0 where
   pub signal : SignalDef
   pub is_signal : IsSignal sys sig signal
   pub count : length pars ≡ signal.params
-  pub each : AllByRecursion (Reaches chart inside) pars
+  pub each : AllByRecursion (NamesKnown chart inside) pars
   pub reserve_pooled : signal.fixed ≡ true → reserve ≡ None
 
 -- a plain action; `inside` has the parameters of the row's signal, and is None outside a row
 unfoldable pub IsSoundPlain : System → Chart → Option ℕ → plain.Plain → Type 0
-IsSoundPlain sys chart inside (variant.Set v b) = (v < length chart.vars) × Reaches chart inside b
-IsSoundPlain sys chart inside (variant.Say b) = Reaches chart inside b
+IsSoundPlain sys chart inside (variant.Set v b) = (v < length chart.vars) × NamesKnown chart inside b
+IsSoundPlain sys chart inside (variant.Say b) = NamesKnown chart inside b
 IsSoundPlain sys chart inside (variant.Post to sig pars margin reserve) = IsReceiver sys to × IsSoundEvent sys chart inside sig pars reserve
 IsSoundPlain sys chart inside (variant.Lifo sig pars reserve) = IsSoundEvent sys chart inside sig pars reserve
 IsSoundPlain sys chart inside (variant.Forward to margin) = IsReceiver sys to × IsSome inside
@@ -66,8 +66,8 @@ IsSoundPlain sys chart inside variant.Recall = Unit {0}
 IsSoundPlain sys chart inside variant.Flush = Unit {0}
 IsSoundPlain sys chart inside (variant.Subscribe sig) = IsDeclared sys sig
 IsSoundPlain sys chart inside (variant.Unsubscribe sig) = IsDeclared sys sig
-IsSoundPlain sys chart inside (variant.Arm t ticks interval) = IsTimer chart t × Reaches chart inside ticks × Reaches chart inside interval
-IsSoundPlain sys chart inside (variant.Rearm t ticks) = IsTimer chart t × Reaches chart inside ticks
+IsSoundPlain sys chart inside (variant.Arm t ticks interval) = IsTimer chart t × NamesKnown chart inside ticks × NamesKnown chart inside interval
+IsSoundPlain sys chart inside (variant.Rearm t ticks) = IsTimer chart t × NamesKnown chart inside ticks
 IsSoundPlain sys chart inside (variant.Disarm t) = IsTimer chart t
 
 -- an action; a ceiling is 1 to 32

@@ -5,7 +5,7 @@ use Rattle.qp_chart.specs.Task.{Task}
 use Rattle.qp_chart.specs.Agenda.{step_plan}
 use Rattle.qp_model.specs.declared.systems.System.{System}
 use Rattle.qp_model.specs.declared.bodies.Entry.{Entry}
-use Rattle.qp_model.specs.Told.{Told, Event, taken}
+use Rattle.qp_model.specs.Told.{Told, Event, told_took}
 use Rattle.qp_model.specs.Calls.{Granted, AtQueue}
 use Rattle.qp_model.specs.Sites.{ring_of}
 use Rattle.qp_model.specs.Shapes.{Drops, PostsOne, PublishesLast}
@@ -38,7 +38,7 @@ StepBehind sys a ev e c ps end =
 -- a step over an entry
 unfoldable pub Step : System → Actor → Entry → Config → List Piece → Option Config → Type 0
 unfolding StepBehind
-Step sys a e c ps end = (f l m : ℕ) × (ev : Event) × (rest : List Piece) × (ps ≡ Tell (taken f l m e ev) ∷ rest) × StepBehind sys a ev e c rest end
+Step sys a e c ps end = (f l m : ℕ) × (ev : Event) × (rest : List Piece) × (ps ≡ Tell (told_took f l m e ev) ∷ rest) × StepBehind sys a ev e c rest end
 
 -- a publication under way: its own entry, the ceiling to be restored, and the members for whom it raised it
 pub record Publishing : Type 0 where
@@ -79,9 +79,9 @@ DoesLeft sys a at None posts ts c ps end = Does sys a at ts c ps end
 DoesLeft sys a at (Some p) posts ts c ps end = GoesOnPublishing sys a c p posts (λ d rest. Does sys a at ts d rest end) (end ≡ None) ps
 
 -- a step under way goes on to its end
-unfoldable pub GoesOn : System → Actor → Event → Entry → Remainder → Config → List Piece → Option Config → Type 0
+unfoldable pub StepGoesOn : System → Actor → Event → Entry → Remainder → Config → List Piece → Option Config → Type 0
 unfolding Closes DoesLeft
-GoesOn sys a ev e left c ps end =
+StepGoesOn sys a ev e left c ps end =
     (body : List Piece) × (rel : List Told) × (mid : Option Config)
     × DoesLeft sys a (moment ev e) left.publishing left.posts left.tasks c body mid × Closes e mid rel
     × (ps ≡ body ++ tell rel) × (end ≡ at_leaf left.leaf mid)

@@ -33,12 +33,12 @@ abbrev pub plain : Body → Told
 plain b = record { body = b; known = Nothing }
 
 -- a `took` with its event
-abbrev pub taken : ℕ → ℕ → ℕ → Entry → Event → Told
-taken f l m e ev = record { body = Took f l m e; known = OfEvent ev }
+abbrev pub told_took : ℕ → ℕ → ℕ → Entry → Event → Told
+told_took f l m e ev = record { body = Took f l m e; known = OfEvent ev }
 
 -- a `new` with the blocks that were free before it
-abbrev pub given : ℕ → ℕ → ℕ → ℕ → ℕ → List ℕ → ℕ → Told
-given p n b from sig pars free = record { body = New p n b from sig pars; known = Free free }
+abbrev pub told_new : ℕ → ℕ → ℕ → ℕ → ℕ → List ℕ → ℕ → Told
+told_new p n b from sig pars free = record { body = New p n b from sig pars; known = Free free }
 
 -- a `dec` with the references that it left
 abbrev pub dropped : ℕ → ℕ → ℕ → ℕ → ℕ → Told

@@ -31,7 +31,7 @@ word_of (Shows w mark) = fitting_word w
 word_of Neither = None
 
 -- the number drawn, or how many operations are shown
-abbrev pub number_of : Touch → Option ℕ
-number_of (Draws w mark) = number_before mark
-number_of (Shows w mark) = fitting_number mark
-number_of Neither = None
+abbrev pub number_shown : Touch → Option ℕ
+number_shown (Draws w mark) = number_before mark
+number_shown (Shows w mark) = fitting_number mark
+number_shown Neither = None

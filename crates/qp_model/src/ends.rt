@@ -1,7 +1,7 @@
 //! How a run ended, by the number that its journal states.
 
 ghost use Rattle.std.specs.Prelude.{◌≡◌, [], ◌∷◌};
-ghost use Rattle.qp_model.specs.Ends.{asserted, may_cut, quiet, spent};
+ghost use Rattle.qp_model.specs.Ends.{end_asserted, may_cut, quiet, spent};
 
 /// Nothing is left to be done.
 pub const QUIET: u8 = 0;
@@ -14,7 +14,7 @@ pub const SPENT: u8 = 4;
 
 /// The constants of this module are the ends of `specs/Ends`.
 pub fn constants_are_the_table()
-    ensures { QUIET ∷ ASSERTED ∷ SPENT ∷ [] ≡ quiet ∷ asserted ∷ spent ∷ [] }
+    ensures { QUIET ∷ ASSERTED ∷ SPENT ∷ [] ≡ quiet ∷ end_asserted ∷ spent ∷ [] }
 {}
 
 /// Whether lists may be cut where a run ended so: it stopped early.

@@ -4,7 +4,7 @@ ghost use Rattle.std.specs.Prelude.{◌≡◌, nat_lt, if◌then◌else◌};
 ghost use Rattle.qp_model.specs.Record.{item_of};
 ghost use Rattle.qp_model.specs.History.{touch};
 ghost use Rattle.qp_model.specs.Touches.{as_word};
-ghost use Rattle.qp_model.specs.WordOf.{word_of, number_of, fitting_word, fitting_number, number_before};
+ghost use Rattle.qp_model.specs.WordOf.{word_of, number_shown, fitting_word, fitting_number, number_before};
 
 use crate::record::Rec;
 use crate::touches::{Named, Touched};
@@ -35,7 +35,7 @@ impl Rec {
     /// where the number doesn't fit in 64 bits in place of the word.
     #[tactic(auto, unfolding(crate::specs::Record::item_of))]
     pub fn number(&self) -> Option<u64>
-        ensures { result ≡ number_of (touch (item_of self.now)) }
+        ensures { result ≡ number_shown (touch (item_of self.now)) }
     {
         match Touched::by(self) {
             Touched::Draws { mark, .. } => number_before(mark),

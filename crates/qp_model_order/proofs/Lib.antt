@@ -11,3 +11,6 @@ pub mod OrderLaws
 mod OrderLemmas
 mod PrefixLemmas
 mod Rests
+pub mod Records
+pub mod Orders
+pub mod LawLemmas

@@ -10,7 +10,7 @@ use Rattle.qp_model.specs.History.{Touch, Draws, Shows, Neither, touch, total, l
 use Rattle.qp_model.specs.Places.{is_next, in_order}
 use Rattle.qp_model.specs.declared.stimulus.Stim.{Stim}
 use Rattle.qp_model.specs.declared.systems.System.{System}
-use Rattle.qp_model.specs.OneOrder.{Placed, Turn, acts_next, begun, left_after, may_act, turned, all_empty, acted_last}
+use Rattle.qp_model.specs.OneOrder.{Placed, Turn, acts_next, begun, stimuli_after, may_act, turned, all_empty, acted_last}
 use Rattle.qp_model.proofs.ListLemmas.{mapped}
 use Rattle.qp_model.proofs.HistoryLemmas.{total-append}
 use Rattle.qp_model_order.specs.Laws.{AreNumbered}
@@ -67,7 +67,7 @@ pub acts-place : (sys : System) (stimuli : List (List Stim)) (xs : List Placed) 
 unfolding acts_next
 acts-place sys stimuli xs base t h =
     let x = mapped (λ (x : ℕ × List Stim). record { source = x.0; place = begun xs x.0 + 1 })
-    (find (λ x. may_act (base && all_empty sys xs) x.1) (turned (acted_last 0 xs) (left_after xs stimuli))) t h in
+    (find (λ x. may_act (base && all_empty sys xs) x.1) (turned (acted_last 0 xs) (stimuli_after xs stimuli))) t h in
     let place : t.place ≡ begun xs x.0.0 + 1 = ap (λ (z : Turn). z.place) (sym x.2) in
     let source : t.source ≡ x.0.0 = ap (λ (z : Turn). z.source) (sym x.2) in
     place ∙ ap (λ j. begun xs j + 1) (sym source)

@@ -5,7 +5,7 @@ use Rattle.qp_model.specs.Places.{in_order}
 use Rattle.qp_model.specs.OneOrder.{looks_right}
 use Rattle.qp_model.specs.Record.{item_of}
 use Rattle.qp_model.specs.History.{all_items}
-use Rattle.qp_model_order.specs.RunOrder.{items_of, thread_of}
+use Rattle.qp_model_order.specs.RunOrder.{items_ordered, thread_of}
 use Rattle.qp_model_order.specs.Laws.{OrderBegins, ZeroComesLast, FreeLookComesLast, StimulusComesLast, OrderEndsInZero, OrderEndsInStimulus, OrderEndsInFullLane, EndsAreOneOrder, SourceGoesOn, SourceStops, NumbersGoOn, StimuliAreTheirOwn, OneLookChanges}
 use Rattle.qp_model_order.proofs.StimulusForm.{stimulus-form, stimulus-items, cut-items}
 use Rattle.qp_model_order.proofs.StimLemmas.{stim-own, stim-other}
@@ -42,8 +42,8 @@ pub ends_are_one_order : EndsAreOneOrder
 ends_are_one_order sys stimuli lane0 sources cuts xs h numbers = record {
   placed = h.stand;
   turns = ap (looks_right (thread_of sys stimuli lane0 sources cuts) []) h.merged ∙ h.turns;
-  numbers = ap (λ ys. in_order [] (items_of ys)) h.merged ∙ numbers;
-  ends = ap (λ ys. ends_last (items_of ys)) h.merged ∙ h.ends;
+  numbers = ap (λ ys. in_order [] (items_ordered ys)) h.merged ∙ numbers;
+  ends = ap (λ ys. ends_last (items_ordered ys)) h.merged ∙ h.ends;
   free = h.free;
 }
 

@@ -4,3 +4,4 @@ pub mod SourceRun
 pub mod Stimulus
 pub mod Laws
 pub mod RestLaws
+pub mod LaneLaws

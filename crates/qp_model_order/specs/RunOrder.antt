@@ -13,8 +13,8 @@ abbrev pub placed : ℕ → Item → Placed
 placed lane i = record { lane = lane; item = i }
 
 -- the records of these, without their lanes
-abbrev pub items_of : List Placed → List Item
-items_of xs = map (λ x. x.item) xs
+abbrev pub items_ordered : List Placed → List Item
+items_ordered xs = map (λ x. x.item) xs
 
 -- a look has a stimulus where the lane of a source has a `stim` with its number
 abbrev pub has_stim : List (List Item) → ℕ → Bool
@@ -49,10 +49,10 @@ pub record RunsInOrder (sys : System) (stimuli : List (List Stim)) (looks : ℕ)
   pub merged : (cuts : Bool) → with_stimuli cuts sources lane0 ≡ xs
   pub turns : all_right sys stimuli sources [] xs ≡ true
   pub counted : up_to looks (look_numbers lane0) ≡ true
-  pub seen : up_to looks (look_numbers (items_of xs)) ≡ true
+  pub seen : up_to looks (look_numbers (items_ordered xs)) ≡ true
   pub stims : stims_up_to looks sources ≡ true
   pub stand : stims_placed (thread_of sys stimuli lane0 sources false) ≡ true
-  pub calm : list_any (λ i. is_end i.body) (items_of xs) ≡ false
+  pub calm : list_any (λ i. is_end i.body) (items_ordered xs) ≡ false
   pub quiet : list_any spills_in sources ≡ false
 
 -- A run has ended: these are its records in its order, which is that of its lanes; what follows a record that ends a lane is nothing.
@@ -60,5 +60,5 @@ pub record EndsInOrder (sys : System) (stimuli : List (List Stim)) (lane0 : List
   pub merged : order cuts lane0 sources ≡ xs
   pub stand : stims_placed (thread_of sys stimuli lane0 sources cuts) ≡ true
   pub turns : looks_right (thread_of sys stimuli lane0 sources cuts) [] xs ≡ true
-  pub ends : ends_last (items_of xs) ≡ true
+  pub ends : ends_last (items_ordered xs) ≡ true
   pub free : (cuts || not (list_any spills_in sources) || last_is_free (thread_of sys stimuli lane0 sources cuts) (look_numbers lane0)) ≡ true

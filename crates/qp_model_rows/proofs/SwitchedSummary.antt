@@ -2,7 +2,7 @@
 use Rattle.std.proofs.Common.{refl, ◌++◌, List, [], ◌∷◌}
 use Rattle.qp_model.specs.declared.bodies.Body.TheVariants as item
 use Rattle.qp_model.specs.Record.{entry}
-use Rattle.qp_model.specs.Told.{plain, taken}
+use Rattle.qp_model.specs.Told.{plain, told_took}
 use Rattle.qp_model.specs.Pieces.{Piece, Tell, tell}
 use Rattle.qp_model.specs.OutputSummary.{IsSummary, CourseLeaves}
 use Rattle.qp_model_rows.specs.Summaries.{named_lamp, switched_summary}
@@ -16,7 +16,7 @@ body = Tell (plain (item.Run 1 1)) ∷ Tell (plain (item.Exit 1)) ∷ Tell (plai
 
 step : List Piece
 unfolding body
-step = Tell (taken 1 0 1 (entry 0 4 0) (record { sig = 4; pars = [] })) ∷ (body ++ tell [])
+step = Tell (told_took 1 0 1 (entry 0 4 0) (record { sig = 4; pars = [] })) ∷ (body ++ tell [])
 
 pieces : List Piece
 unfolding start step

@@ -16,7 +16,7 @@ use Rattle.qp_calls.specs.declared.tokens.Fresh.{Fresh}
 use Rattle.qp_calls.specs.declared.answers.Give.TheVariants as give
 use Rattle.qp_calls.specs.declared.answers.Dec.TheVariants as dec
 use Rattle.qp_calls.specs.Tokens.{Hold, Held, Loose, stands}
-use Rattle.qp_calls.specs.Clauses.{Gives, Makes, MakesMore, LetsGo, GoesBack, StandsHold, StandsFresh, event_of, shortage_of}
+use Rattle.qp_calls.specs.Clauses.{GivesBlock, Makes, MakesMore, LetsGo, GoesBack, StandsHold, StandsFresh, event_of, shortage_of}
 use Rattle.qp_plain_words.specs.declared.block.BlockWord.{BlockWord}
 use Rattle.qp_plain_sound.specs.May.{May}
 use Rattle.qp_plain_sound.specs.Sound.{hands_in, is_event}
@@ -168,17 +168,17 @@ module _ (w : PlainWorld) (b : Book) (r : Rec) (gains : Gains r w.book b) (p n :
 
   module _ (less : b.here.spare + 1 ≡ w.book.here.spare) where
     pub give-short : (free : ℕ) (reserve : Option ℕ) (ev : Event) → free ≡ length q.free → free ≤ unwrap_or reserve 0 → item_of r ≡ record { of = w.by; body = shortage_of reserve p n free }
-        → Gives p reserve ev (world_view w) (view_with w b) (give.Short n free)
+        → GivesBlock p reserve ev (world_view w) (view_with w b) (give.Short n free)
     give-short free reserve ev free_is few says =
-        now-seen w b r gains (λ v. Gives p reserve ev (world_view w) v (give.Short n free))
+        now-seen w b r gains (λ v. GivesBlock p reserve ev (world_view w) v (give.Short n free))
         (give-refused (step_at w b r) p n free ev reserve (extends w b r w.by (shortage_of reserve p n free) gains less says)
         (record { pool = h; number = number_is; free_blocks = free_is ∙ ap (λ x. length x.free) q_is }) few)
 
     pub give-it : (k from : ℕ) (ev : Event) (reserve : Option ℕ) → IsTrue (is_block w.sys.now p k) → is_first k q.free ≡ true → from ≡ (refs_in (lists_of w.book) p k).count
         → IsTrue (is_event w.sys.now ev) → unwrap_or reserve 0 < length q.free → item_of r ≡ record { of = w.by; body = New p n k from ev.sig ev.pars }
-        → Gives p reserve ev (world_view w) (view_with w b) (give.Given (record { pool = p; block = k; used = false }))
+        → GivesBlock p reserve ev (world_view w) (view_with w b) (give.Given (record { pool = p; block = k; used = false }))
     give-it k from ev reserve block first since event enough says =
-        now-seen w b r gains (λ v. Gives p reserve ev (world_view w) v (give.Given (record { pool = p; block = k; used = false })))
+        now-seen w b r gains (λ v. GivesBlock p reserve ev (world_view w) v (give.Given (record { pool = p; block = k; used = false })))
         (give-done (step_at w b r) p n k from ev reserve (extends w b r w.by (New p n k from ev.sig ev.pars) gains less says)
         (record { block = block; number = number_is; lowest = subst (λ x. is_first k x.free ≡ true) q_is first; since = since; event = event })
         (subst (λ x. unwrap_or reserve 0 < length x.free) q_is enough))

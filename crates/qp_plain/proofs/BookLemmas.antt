@@ -6,7 +6,7 @@ use Rattle.qp_model.specs.declared.record.Rec.{Rec}
 use Rattle.qp_model.proofs.ListLemmas.{slice_set-twice}
 use Rattle.qp_plain_sound.specs.Step.{Grown}
 use Rattle.qp_calls_log.specs.declared.log.Log.{Log}
-use Rattle.qp_plain.specs.Books.{places_of, recs_of, all_logs, all_places}
+use Rattle.qp_plain.specs.Books.{places_of, log_recs, all_logs, all_places}
 use Rattle.qp_plain.specs.LaneLaws.{lists-are, lane-here}
 
 -- what the lane chosen has room for is a part of what all have
@@ -25,17 +25,17 @@ places-change others at here next lt =
     let b = sum_by-set places_of others at here here lt in
     omega (arith, a, b)
 
-pub grown-here : (others : List Log) (at : ℕ) (here next : Log) (r : Rec) (order longer : List ℕ) → at < length others → recs_of next ≡ recs_of here ++ r ∷ []
-    → longer ≡ order ++ at ∷ [] → Grown (map recs_of (all_logs others at here)) order at r (map recs_of (all_logs others at next)) longer
+pub grown-here : (others : List Log) (at : ℕ) (here next : Log) (r : Rec) (order longer : List ℕ) → at < length others → log_recs next ≡ log_recs here ++ r ∷ []
+    → longer ≡ order ++ at ∷ [] → Grown (map log_recs (all_logs others at here)) order at r (map log_recs (all_logs others at next)) longer
 grown-here others at here next r order longer lt is next_order = record {
-  within = rw (length-map (slice_set others at here) recs_of, length-set others at here) lt;
+  within = rw (length-map (slice_set others at here) log_recs, length-set others at here) lt;
   lanes_are =
-      lists-are others at next ∙ ap (slice_set (map recs_of others) at) is ∙ sym (slice_set-twice (map recs_of others) at (recs_of here) (recs_of here ++ r ∷ []))
-      ∙ ap (λ xs. slice_set xs at (recs_of here ++ r ∷ [])) (sym (lists-are others at here))
-      ∙ ap (λ (l : List Rec). slice_set (map recs_of (all_logs others at here)) at (l ++ r ∷ [])) (sym (lane-here others at here lt));
+      lists-are others at next ∙ ap (slice_set (map log_recs others) at) is ∙ sym (slice_set-twice (map log_recs others) at (log_recs here) (log_recs here ++ r ∷ []))
+      ∙ ap (λ xs. slice_set xs at (log_recs here ++ r ∷ [])) (sym (lists-are others at here))
+      ∙ ap (λ (l : List Rec). slice_set (map log_recs (all_logs others at here)) at (l ++ r ∷ [])) (sym (lane-here others at here lt));
   order_is = next_order;
 }
 
 -- where it holds the same records
-pub lists-same : (others : List Log) (at : ℕ) (here next : Log) → recs_of next ≡ recs_of here → map recs_of (all_logs others at next) ≡ map recs_of (all_logs others at here)
-lists-same others at here next is = lists-are others at next ∙ ap (slice_set (map recs_of others) at) is ∙ sym (lists-are others at here)
+pub lists-same : (others : List Log) (at : ℕ) (here next : Log) → log_recs next ≡ log_recs here → map log_recs (all_logs others at next) ≡ map log_recs (all_logs others at here)
+lists-same others at here next is = lists-are others at next ∙ ap (slice_set (map log_recs others) at) is ∙ sym (lists-are others at here)

@@ -17,21 +17,21 @@ use Rattle.qp_plain_sound.specs.WordStates.{pool_in, refs_in, line_in, set_in, c
 use Rattle.qp_plain_sound.proofs.Standing.{pool-count, refs-count, line-count, set-count, clock-count}
 use Rattle.qp_calls_log.specs.declared.log.Log.{Log}
 use Rattle.qp_plain.specs.declared.book.Book.{Book}
-use Rattle.qp_plain.specs.Books.{recs_of}
+use Rattle.qp_plain.specs.Books.{log_recs}
 use Rattle.qp_plain.specs.Book.{lists_of, logs_of}
 use Rattle.qp_calls_log.proofs.LogLemmas.{length-kinds}
 use Rattle.qp_model.proofs.HistoryLemmas.{total-length}
 
-one-lane : (g : Log) → length (lane_items (recs_of g)) ≤ 1000001
+one-lane : (g : Log) → length (lane_items (log_recs g)) ≤ 1000001
 one-lane g = let all = length-kinds (lane_items g.recs.items) in omega (arith, all, g.few, g.spills)
 
-all-lanes : (logs : List Log) → length (all_items (map recs_of logs)) ≤ length logs * 1000001
+all-lanes : (logs : List Log) → length (all_items (map log_recs logs)) ≤ length logs * 1000001
 unfolding all_items
 all-lanes [] = omega arith
 all-lanes (g ∷ gs) =
     let one = one-lane g in
     let more = all-lanes gs in
-    let both = length-append (lane_items (recs_of g)) (all_items (map recs_of gs)) in
+    let both = length-append (lane_items (log_recs g)) (all_items (map log_recs gs)) in
     omega (arith, one, more, both)
 
 pub records-few : (b : Book) → length (all_items (lists_of b)) ≤ 49000049

@@ -32,7 +32,7 @@ use Rattle.qp_plain_sound.proofs.NewLemmas.{new-sound, new-lane, hist-none}
 use Rattle.qp_plain_sound.proofs.Standing.{block-pool}
 use Rattle.qp_calls_log.specs.declared.log.Log.{Log}
 use Rattle.qp_plain.specs.declared.book.Book.{Book}
-use Rattle.qp_plain.specs.Books.{places_of, recs_of, all_places}
+use Rattle.qp_plain.specs.Books.{places_of, log_recs, all_places}
 use Rattle.qp_plain.specs.Book.{lists_of, logs_of, purses_of}
 use Rattle.qp_plain.specs.Fresh.{made, first_pool, first_queue, is_new, no_recs, IsNewBook}
 use Rattle.qp_plain.specs.Tables.{PoolsHold, BlocksHold, CellsHold, QueuesHold, SignalsHold, TimersHold, Limits, place, no_pool, no_block, no_queue, no_signal, no_clock}
@@ -116,11 +116,11 @@ new-parts g h =
 pub is-new : (g : Log) → g.recs.items ≡ [] → g.spare ≡ 0 → g.spilled ≡ false → g.stops.list ≡ [] → g.answered.list ≡ [] → is_new g ≡ true
 is-new g recs spare spilled stops answered = rw (recs, spare, spilled, stops, answered) refl
 
-lists-none : (logs : List Log) → list_all is_new logs ≡ true → map recs_of logs ≡ empty_lanes (length logs)
+lists-none : (logs : List Log) → list_all is_new logs ≡ true → map log_recs logs ≡ empty_lanes (length logs)
 lists-none [] h = refl
 lists-none (g ∷ gs) h =
     let new = new-parts g (and_parts _ _ h).0 in
-    ap (λ x. x ∷ map recs_of gs) new.recs ∙ ap (λ xs. [] ∷ xs) (lists-none gs (and_parts _ _ h).1)
+    ap (λ x. x ∷ map log_recs gs) new.recs ∙ ap (λ xs. [] ∷ xs) (lists-none gs (and_parts _ _ h).1)
 
 pub places-new : (logs : List Log) → list_all is_new logs ≡ true → all_places logs ≡ length logs
 places-new [] h = refl

@@ -7,10 +7,10 @@ use Rattle.qp_model.specs.Sites.{ring_of}
 use Rattle.qp_model.specs.WordLaw.{is_block, is_object, is_timer}
 use Rattle.std.proofs.lemmas.Option.{slice_get_within}
 use Rattle.qp_calls.specs.declared.tokens.Fresh.{Fresh}
-use Rattle.qp_calls.specs.declared.tokens.Entry.{Entry}
-use Rattle.qp_calls.specs.declared.tokens.Entry.TheVariants as token
+use Rattle.qp_calls.specs.declared.tokens.HeldEntry.{HeldEntry}
+use Rattle.qp_calls.specs.declared.tokens.HeldEntry.TheVariants as token
 use Rattle.qp_calls.specs.Tokens.{Hold, Held, Loose, stands}
-use Rattle.qp_calls.specs.Clauses.{Owns, Stands, StandsHold, StandsFresh, entry_of, refusal_of, shortage_of}
+use Rattle.qp_calls.specs.Clauses.{Owns, EntryStands, StandsHold, StandsFresh, entry_of, refusal_of, shortage_of}
 use Rattle.qp_plain_sound.specs.May.{May, IsOwned, IsPool, IsQueue}
 use Rattle.qp_plain_sound.specs.Sound.{hands_in, names_block, is_good}
 use Rattle.qp_calls.specs.Deferring.{is_named}
@@ -48,7 +48,7 @@ unfolding view_of
 fresh-stands w f stand = stand.1
 
 -- an entry that may be handed in may be posted
-pub owned : (w : PlainWorld) (e : Entry) → Stands e (world_view w) → IsOwned w.sys.now (hands_in w.sys.now (lists_of w.book) w.book.order.items) (entry_of e)
+pub owned : (w : PlainWorld) (e : HeldEntry) → EntryStands e (world_view w) → IsOwned w.sys.now (hands_in w.sys.now (lists_of w.book) w.book.order.items) (entry_of e)
 unfolding entry_of view_of
 owned w (token.Static sig) h = record { good = rw h refl; token = inl refl }
 owned w (token.Pool k) h = let block = held-block w k h in record { good = rw (not-zero k.pool h.0) block; token = inr h.1 }
@@ -85,7 +85,7 @@ owned-timer w t owns =
     and_from _ _ some within
 
 -- a token that stands names a pool
-pub stands-token : (w : PlainWorld) (e : Entry) → Stands e (world_view w) → is_token e ≡ true
+pub stands-token : (w : PlainWorld) (e : HeldEntry) → EntryStands e (world_view w) → is_token e ≡ true
 stands-token w (token.Static sig) h = refl
 stands-token w (token.Pool k) h = some k.pool h.0
   where
@@ -93,7 +93,7 @@ stands-token w (token.Pool k) h = some k.pool h.0
     some n lt = grind (arith, nat_tests)
 
 -- an entry of a queue names a static signal or a pool
-pub named-good : (w : PlainWorld) (e : Entry) → is_token e ≡ true → is_good w.sys.now (entry_of e) ≡ true → is_named w.sys.now e ≡ true
+pub named-good : (w : PlainWorld) (e : HeldEntry) → is_token e ≡ true → is_good w.sys.now (entry_of e) ≡ true → is_named w.sys.now e ≡ true
 unfolding entry_of
 named-good w (token.Static sig) t h = (and_parts _ _ h).0
 named-good w (token.Pool k) t h = t

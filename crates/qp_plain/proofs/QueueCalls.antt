@@ -12,12 +12,12 @@ use Rattle.qp_model.specs.Line.{line_next}
 use Rattle.qp_model.specs.declared.words.Word.{Word}
 use Rattle.qp_model.specs.Sites.{ring_of}
 use Rattle.qp_model.specs.WordLaw.{is_object}
-use Rattle.qp_calls.specs.declared.tokens.Entry.{Entry}
+use Rattle.qp_calls.specs.declared.tokens.HeldEntry.{HeldEntry}
 use Rattle.qp_calls.specs.declared.answers.Claim.TheVariants as claim
 use Rattle.qp_calls.specs.declared.answers.Take.TheVariants as take
 use Rattle.qp_calls.specs.declared.answers.Counts as counts
 use Rattle.qp_calls.specs.LaneView.{NotShown}
-use Rattle.qp_calls.specs.Clauses.{Claims, ClaimsFront, Takes, Sees, Stands, entry_of, refusal_of, last_nil, same_counts}
+use Rattle.qp_calls.specs.Clauses.{ClaimsEntry, ClaimsFront, Takes, Sees, EntryStands, entry_of, refusal_of, last_nil, same_counts}
 use Rattle.qp_plain_words.specs.Queue.{Queue, is_token}
 use Rattle.qp_plain_sound.specs.May.{May, IsQueue}
 use Rattle.qp_plain_sound.specs.Step.{MayCome}
@@ -75,7 +75,7 @@ module _ (w : PlainWorld) (b : Book) (r : Rec) (gains : Gains r w.book b) (a f l
   room-in : length q.line.entries ≤ q.ring → length (line_in w.sys.now (lists_of w.book) a).entries ≤ ring_of w.sys.now a
   room-in le = subst (λ x. length (line_in w.sys.now (lists_of w.book) a).entries ≤ x) ring_is (subst (λ x. length x.entries ≤ q.ring) line_is le)
 
-  pub claim-holds : (e : Entry) (next : Queue) → item_of r ≡ record { of = w.by; body = Post a (f + 1) l m (entry_of e) } → Stands e (world_view w) → length q.line.entries ≤ q.ring
+  pub claim-holds : (e : HeldEntry) (next : Queue) → item_of r ≡ record { of = w.by; body = Post a (f + 1) l m (entry_of e) } → EntryStands e (world_view w) → length q.line.entries ≤ q.ring
       → next.ring ≡ q.ring → next.line ≡ record q.line { entries = q.line.entries ++ entry_of e ∷ []; f = q.line.f + 1 } → With (slice_set w.queues.items a next)
   unfolding May
   claim-holds e next says stand room ring line =
@@ -88,7 +88,7 @@ module _ (w : PlainWorld) (b : Book) (r : Rec) (gains : Gains r w.book b) (a f l
       let all : length (line_in w.sys.now (lists_of w.book) a).entries ≡ ring_of w.sys.now a + 1 = ap (λ x. length x.entries) (sym line_is) ∙ full ∙ ap (λ x. x + 1) ring_is in
       quiet w b r gains w.by (NoLifo a f l m) says (now, omega (arith, all, is.counted)) (λ v. refl)
 
-  pub lifo-holds : (e : Entry) (next : Queue) → w.by ≡ a → item_of r ≡ record { of = w.by; body = Lifo f (l + 1) m (entry_of e) } → Stands e (world_view w) → length q.line.entries ≤ q.ring
+  pub lifo-holds : (e : HeldEntry) (next : Queue) → w.by ≡ a → item_of r ≡ record { of = w.by; body = Lifo f (l + 1) m (entry_of e) } → EntryStands e (world_view w) → length q.line.entries ≤ q.ring
       → next.ring ≡ q.ring → next.line ≡ record q.line { entries = entry_of e ∷ q.line.entries; l = q.line.l + 1 } → With (slice_set w.queues.items a next)
   unfolding May
   lifo-holds e next mine says stand room ring line =
@@ -98,7 +98,7 @@ module _ (w : PlainWorld) (b : Book) (r : Rec) (gains : Gains r w.book b) (a f l
   front-in : (e : model.Entry) (others : List model.Entry) → q.line.entries ≡ e ∷ others → (line_in w.sys.now (lists_of w.book) a).entries ≡ e ∷ others
   front-in e others front = ap (λ x. x.entries) (sym line_is) ∙ front
 
-  pub take-holds : (e : Entry) (next : Queue) → item_of r ≡ record { of = a; body = Took f l (m + 1) (entry_of e) } → q.line.entries ≡ entry_of e ∷ next.line.entries
+  pub take-holds : (e : HeldEntry) (next : Queue) → item_of r ≡ record { of = a; body = Took f l (m + 1) (entry_of e) } → q.line.entries ≡ entry_of e ∷ next.line.entries
       → next.ring ≡ q.ring → next.line ≡ record q.line { entries = next.line.entries; m = q.line.m + 1 } → With (slice_set w.queues.items a next)
   unfolding May
   take-holds e next says front ring line =
@@ -120,21 +120,21 @@ module _ (w : PlainWorld) (b : Book) (r : Rec) (gains : Gains r w.book b) (a f l
         (record { object = h; firsts = sym ff ∙ now.firsts; lasts = sym ll ∙ now.lasts; takes = sym mm ∙ now.takes }))
 
     -- an entry is posted
-    pub claim-it : (e : Entry) (margin : Option ℕ) → item_of r ≡ record { of = w.by; body = Post a (f + 1) l m (entry_of e) } → Stands e (world_view w)
-        → unwrap_or margin 0 < q.ring + 1 - length q.line.entries → Claims a e margin (world_view w) (view_with w b) claim.Done
+    pub claim-it : (e : HeldEntry) (margin : Option ℕ) → item_of r ≡ record { of = w.by; body = Post a (f + 1) l m (entry_of e) } → EntryStands e (world_view w)
+        → unwrap_or margin 0 < q.ring + 1 - length q.line.entries → ClaimsEntry a e margin (world_view w) (view_with w b) claim.Done
     claim-it e margin says stand enough =
-        now-seen w b r gains (λ v. Claims a e margin (world_view w) v claim.Done)
+        now-seen w b r gains (λ v. ClaimsEntry a e margin (world_view w) v claim.Done)
         (claim-done (step_at w b r) a f l m e margin (extends w b r w.by (Post a (f + 1) l m (entry_of e)) gains less says) stand now
         (subst (λ x. unwrap_or margin 0 < x + 1 - length (line_in w.sys.now (lists_of w.book) a).entries) ring_is (subst (λ x. unwrap_or margin 0 < q.ring + 1 - length x.entries) line_is enough)))
 
     -- or not
-    pub claim-not : (e : Entry) (margin : Option ℕ) → item_of r ≡ record { of = w.by; body = refusal_of margin a f l m }
-        → q.ring + 1 - length q.line.entries ≤ unwrap_or margin 0 → Claims a e margin (world_view w) (view_with w b) (claim.Short e f l m)
+    pub claim-not : (e : HeldEntry) (margin : Option ℕ) → item_of r ≡ record { of = w.by; body = refusal_of margin a f l m }
+        → q.ring + 1 - length q.line.entries ≤ unwrap_or margin 0 → ClaimsEntry a e margin (world_view w) (view_with w b) (claim.Short e f l m)
     claim-not e margin says few =
-        now-seen w b r gains (λ v. Claims a e margin (world_view w) v (claim.Short e f l m))
+        now-seen w b r gains (λ v. ClaimsEntry a e margin (world_view w) v (claim.Short e f l m))
         (claim-refused (step_at w b r) a f l m e margin (extends w b r w.by (refusal_of margin a f l m) gains less says) now (few-in margin few))
 
-    pub lifo-it : (e : Entry) → w.by ≡ a → item_of r ≡ record { of = w.by; body = Lifo f (l + 1) m (entry_of e) } → Stands e (world_view w)
+    pub lifo-it : (e : HeldEntry) → w.by ≡ a → item_of r ≡ record { of = w.by; body = Lifo f (l + 1) m (entry_of e) } → EntryStands e (world_view w)
         → length q.line.entries ≤ q.ring → ClaimsFront e (world_view w) (view_with w b) claim.Done
     lifo-it e mine says stand room =
         now-seen w b r gains (λ v. ClaimsFront e (world_view w) v claim.Done)
@@ -142,14 +142,14 @@ module _ (w : PlainWorld) (b : Book) (r : Rec) (gains : Gains r w.book b) (a f l
         (subst (λ x. IsQueue w.sys.now (lists_of w.book) x f l m) (sym mine) now)
         (subst (λ x. length (line_in w.sys.now (lists_of w.book) x).entries ≤ ring_of w.sys.now x) (sym mine) (room-in room)))
 
-    pub lifo-not : (e : Entry) → w.by ≡ a → item_of r ≡ record { of = w.by; body = NoLifo a f l m } → length q.line.entries ≡ q.ring + 1 → ClaimsFront e (world_view w) (view_with w b) (claim.Short e f l m)
+    pub lifo-not : (e : HeldEntry) → w.by ≡ a → item_of r ≡ record { of = w.by; body = NoLifo a f l m } → length q.line.entries ≡ q.ring + 1 → ClaimsFront e (world_view w) (view_with w b) (claim.Short e f l m)
     lifo-not e mine says full =
         now-seen w b r gains (λ v. ClaimsFront e (world_view w) v (claim.Short e f l m))
         (lifo-refused (step_at w b r) f l m e (extends w b r w.by (NoLifo w.by f l m) gains less (says ∙ ap (λ x. record { of = w.by; body = NoLifo x f l m }) (sym mine)))
         (subst (λ x. IsQueue w.sys.now (lists_of w.book) x f l m) (sym mine) now)
         (subst (λ x. length (line_in w.sys.now (lists_of w.book) x).entries ≡ ring_of w.sys.now x + 1) (sym mine) (ap (λ x. length x.entries) (sym line_is) ∙ full ∙ ap (λ x. x + 1) ring_is)))
 
-    pub take-it : (e : Entry) (others : List model.Entry) → is_token e ≡ true → item_of r ≡ record { of = a; body = Took f l (m + 1) (entry_of e) } → q.line.entries ≡ entry_of e ∷ others
+    pub take-it : (e : HeldEntry) (others : List model.Entry) → is_token e ≡ true → item_of r ≡ record { of = a; body = Took f l (m + 1) (entry_of e) } → q.line.entries ≡ entry_of e ∷ others
         → Takes a (world_view w) (view_with w b) (take.Taken e)
     take-it e others token says front =
         now-seen w b r gains (λ v. Takes a (world_view w) v (take.Taken e))

@@ -14,7 +14,7 @@ use Rattle.qp_model.specs.FreeBlocks.{Pool}
 use Rattle.qp_model.specs.Line.{Line}
 use Rattle.qp_model.specs.TimeEvents.{Clock, clock_next}
 use Rattle.qp_model.specs.Sites.{ring_of}
-use Rattle.qp_calls.specs.declared.tokens.Entry.{Entry}
+use Rattle.qp_calls.specs.declared.tokens.HeldEntry.{HeldEntry}
 use Rattle.qp_calls.specs.Clauses.{entry_of, event_of}
 use Rattle.qp_plain_words.specs.declared.block.BlockWord.{BlockWord}
 use Rattle.qp_plain_words.specs.declared.signal.SignalWord.{SignalWord}
@@ -85,7 +85,7 @@ module _ (w : PlainWorld) (b : Book) (r : Rec) (gains : Gains r w.book b) (next 
       (record { ops = ops ∙ ap (λ x. x + 1) q_is.ops; set = omega (arith, set, t.bits, q_is.set); members = t.members }))
 
   -- an entry comes at the end of a queue, or in front, or is taken
-  pub post-again : (a f l m : ℕ) (e : model.Entry) (x : Entry) (k : ℕ) (q after : Queue) → (item_of r).body ≡ Post a f l m e → k ≡ a
+  pub post-again : (a f l m : ℕ) (e : model.Entry) (x : HeldEntry) (k : ℕ) (q after : Queue) → (item_of r).body ≡ Post a f l m e → k ≡ a
       → q ≡ record { line = line_in w.sys.now (lists_of w.book) a; ring = ring_of w.sys.now a } → entry_of x ≡ e → after.ring ≡ q.ring
       → after.line ≡ record q.line { entries = q.line.entries ++ entry_of x ∷ []; f = q.line.f + 1 }
       → WorldHolds w.sys.now (lists_of b) b.order.items w.pools.items w.blocks.items w.cells.items (slice_set w.queues.items k after) w.signals.items w.timers.items
@@ -99,7 +99,7 @@ module _ (w : PlainWorld) (b : Book) (r : Rec) (gains : Gains r w.book b) (next 
       (moved-holds w b r gains a q.line.f q.line.l q.line.m q now.object q_is refl refl refl (item_of r).of (f + l + m) (Post a f l m e) after (says-of (Post a f l m e) says) (of-may (Post a f l m e) says) refl count ring
       (line ∙ ap (λ z. record q.line { entries = q.line.entries ++ z ∷ []; f = q.line.f + 1 }) entry))
 
-  pub lifo-again : (f l m : ℕ) (e : model.Entry) (x : Entry) (k : ℕ) (q after : Queue) → (item_of r).body ≡ Lifo f l m e → k ≡ (item_of r).of
+  pub lifo-again : (f l m : ℕ) (e : model.Entry) (x : HeldEntry) (k : ℕ) (q after : Queue) → (item_of r).body ≡ Lifo f l m e → k ≡ (item_of r).of
       → q ≡ record { line = line_in w.sys.now (lists_of w.book) (item_of r).of; ring = ring_of w.sys.now (item_of r).of } → entry_of x ≡ e → after.ring ≡ q.ring
       → after.line ≡ record q.line { entries = entry_of x ∷ q.line.entries; l = q.line.l + 1 }
       → WorldHolds w.sys.now (lists_of b) b.order.items w.pools.items w.blocks.items w.cells.items (slice_set w.queues.items k after) w.signals.items w.timers.items
@@ -113,12 +113,12 @@ module _ (w : PlainWorld) (b : Book) (r : Rec) (gains : Gains r w.book b) (next 
       (moved-holds w b r gains (item_of r).of q.line.f q.line.l q.line.m q now.object q_is refl refl refl (item_of r).of (f + l + m) (Lifo f l m e) after (says-of (Lifo f l m e) says) (of-may (Lifo f l m e) says) refl count ring
       (line ∙ ap (λ z. record q.line { entries = z ∷ q.line.entries; l = q.line.l + 1 }) entry))
 
-  taken : (q after : Line) (e : model.Entry) (others : List model.Entry) (x : Option Entry) → q.entries ≡ e ∷ others → TakesFront q after x
+  taken : (q after : Line) (e : model.Entry) (others : List model.Entry) (x : Option HeldEntry) → q.entries ≡ e ∷ others → TakesFront q after x
       → after ≡ record { entries = drop 1 q.entries; f = q.f; l = q.l; m = q.m + 1 }
   taken q after e others None front h = let wrong = sym h.0 ∙ front in absurd (cc)
   taken q after e others (Some y) front h = h.1 ∙ ap (λ z. record q { entries = z; m = q.m + 1 }) (sym (ap (drop 1) h.0))
 
-  pub take-again : (f l m : ℕ) (e : model.Entry) (x : Option Entry) (k : ℕ) (q after : Queue) → (item_of r).body ≡ Took f l m e → k ≡ (item_of r).of
+  pub take-again : (f l m : ℕ) (e : model.Entry) (x : Option HeldEntry) (k : ℕ) (q after : Queue) → (item_of r).body ≡ Took f l m e → k ≡ (item_of r).of
       → q ≡ record { line = line_in w.sys.now (lists_of w.book) (item_of r).of; ring = ring_of w.sys.now (item_of r).of } → after.ring ≡ q.ring → TakesFront q.line after.line x
       → WorldHolds w.sys.now (lists_of b) b.order.items w.pools.items w.blocks.items w.cells.items (slice_set w.queues.items k after) w.signals.items w.timers.items
   take-again f l m e x k q after says at q_is ring takes =

@@ -6,7 +6,7 @@ use Rattle.qp_model.specs.declared.record.Rec.{Rec}
 use Rattle.qp_model.specs.declared.bodies.Body.TheVariants.{Pub, Sub, Unsub, Same}
 use Rattle.qp_model.specs.Record.{item_of}
 use Rattle.qp_model.specs.WordLaw.{is_object, is_signal}
-use Rattle.qp_calls.specs.Clauses.{Subscribing, Unsubscribing, Reads}
+use Rattle.qp_calls.specs.Clauses.{Subscribing, Unsubscribing, ReadsSubscribers}
 use Rattle.qp_plain_words.specs.declared.signal.SignalWord.{SignalWord}
 use Rattle.qp_plain_words.proofs.SetLemmas.{has-bit, set-put, members-put, set-take}
 use Rattle.qp_plain_sound.specs.May.{May, IsSignal}
@@ -83,5 +83,5 @@ module _ (w : PlainWorld) (b : Book) (r : Rec) (gains : Gains r w.book b) (g n :
     pub take-not : item_of r ≡ record { of = w.by; body = Same g n } → has members w.by ≡ false → Unsubscribing g (world_view w) (view_with w b) false
     take-not says out = now-seen w b r gains (λ v. Unsubscribing g (world_view w) v false) (unsubscribe-keeps (step_at w b r) g n (extends w b r w.by (Same g n) gains less says) now out)
 
-    pub read-it : item_of r ≡ record { of = w.by; body = Pub g n q.set } → Reads g (world_view w) (view_with w b) q.set
-    read-it says = now-seen w b r gains (λ v. Reads g (world_view w) v q.set) (subscribers-read (step_at w b r) g n q.set (extends w b r w.by (Pub g n q.set) gains less says) now q_is.set)
+    pub read-it : item_of r ≡ record { of = w.by; body = Pub g n q.set } → ReadsSubscribers g (world_view w) (view_with w b) q.set
+    read-it says = now-seen w b r gains (λ v. ReadsSubscribers g (world_view w) v q.set) (subscribers-read (step_at w b r) g n q.set (extends w b r w.by (Pub g n q.set) gains less says) now q_is.set)

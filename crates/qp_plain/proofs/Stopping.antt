@@ -6,7 +6,7 @@ use Rattle.std.proofs.lemmas.Bool.Decides.{nat_tests}
 use Rattle.qp_calls.specs.LaneView.{Purse, no_code, is_codeless}
 use Rattle.qp_calls_log.specs.declared.log.Log.{Log}
 use Rattle.qp_plain.specs.declared.book.Book.{Book}
-use Rattle.qp_plain.specs.Book.{Hands, Answers, logs_of, purse_of, no_purse, purses_of}
+use Rattle.qp_plain.specs.Book.{Hands, BookAnswers, logs_of, purse_of, no_purse, purses_of}
 use Rattle.qp_plain.specs.Books.{all_logs}
 use Rattle.qp_plain.specs.World.{StopIs, fits_stop, was_handed, no_codes}
 use Rattle.qp_model.proofs.LineLemmas.{same_number}
@@ -101,7 +101,7 @@ stop-later stop code old new h set lt is = record {
     here = rw (nz, h.answered) (found stop old.here nz (all-at (fits_stop stop) old.others.items old.at old.here lt is.fits))
 
 -- What the lane chosen found is the code.
-pub stop-answered : (stop : ℕ) (old new : Book) → Answers stop old new → stop ≢ 0 → old.at < length old.others.items → StopIs stop (logs_of old) → StopIs stop (logs_of new)
+pub stop-answered : (stop : ℕ) (old new : Book) → BookAnswers stop old new → stop ≢ 0 → old.at < length old.others.items → StopIs stop (logs_of old) → StopIs stop (logs_of new)
 stop-answered stop old new h set lt is = record {
   few = is.few;
   fits = ap (list_all (fits_stop stop)) same ∙ all-put (fits_stop stop) (fits_stop stop) old.others.items old.at old.here new.here (λ g e. e) here is.fits;

@@ -7,13 +7,13 @@ use Rattle.qp_calls.specs.LaneView.{Purse}
 use Rattle.qp_plain_sound.specs.Step.{Grown}
 use Rattle.qp_calls_log.specs.declared.log.Log.{Log}
 use Rattle.qp_plain.specs.declared.book.Book.{Book}
-use Rattle.qp_plain.specs.Books.{recs_of, all_logs}
+use Rattle.qp_plain.specs.Books.{log_recs, all_logs}
 
 abbrev pub logs_of : Book → List Log
 logs_of b = all_logs b.others.items b.at b.here
 
 abbrev pub lists_of : Book → List (List Rec)
-lists_of b = map recs_of (logs_of b)
+lists_of b = map log_recs (logs_of b)
 
 abbrev pub purse_of : Log → Purse
 purse_of g = record { spare = g.spare; stops = g.stops.list; answered = g.answered.list }
@@ -58,7 +58,7 @@ pub record Hands (code : ℕ) (old new : Book) : Type 0 where
   pub stops : new.here.stops.list ≡ code ∷ old.here.stops.list
   pub answered : new.here.answered.list ≡ old.here.answered.list
 
-pub record Answers (code : ℕ) (old new : Book) : Type 0 where
+pub record BookAnswers (code : ℕ) (old new : Book) : Type 0 where
   pub lists : lists_of new ≡ lists_of old
   pub order : new.order.items ≡ old.order.items
   pub others : new.others.items ≡ old.others.items

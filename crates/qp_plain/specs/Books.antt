@@ -9,8 +9,8 @@ use Rattle.qp_calls_log.specs.Lane.{spill_place}
 abbrev pub places_of : Log → ℕ
 places_of g = g.spare + spill_place g.spilled
 
-abbrev pub recs_of : Log → List Rec
-recs_of g = g.recs.items
+abbrev pub log_recs : Log → List Rec
+log_recs g = g.recs.items
 
 -- all lanes: the one chosen stands apart
 abbrev pub all_logs : List Log → ℕ → Log → List Log

@@ -35,8 +35,8 @@ pub record MayRepeat (r : Rec) (w : PlainWorld) : Type 0 where
   pub goes_on : spills_in (lane_items (lane_in w)) ≡ false
 
 -- a lane has at most 1,000,000 records besides a `spill`
-abbrev pub IsWithin : Rec → PlainWorld → Type 0
-IsWithin r w = is_spill (item_of r).body ≡ false → length (lane_in w) < 1000000
+abbrev pub LaneIsWithin : Rec → PlainWorld → Type 0
+LaneIsWithin r w = is_spill (item_of r).body ≡ false → length (lane_in w) < 1000000
 
 -- the lane chosen has a place for the record; that of a `spill` is always kept
 abbrev pub HasPlace : Rec → PlainWorld → Type 0

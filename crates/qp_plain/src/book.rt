@@ -37,7 +37,7 @@ pub struct Book {
 }
 
 impl Book {
-    ghost use Rattle.qp_plain.specs.Book.{Answers, Gains, Hands, IsRoomFault, Keeps, lists_of, logs_of};
+    ghost use Rattle.qp_plain.specs.Book.{BookAnswers, Gains, Hands, IsRoomFault, Keeps, lists_of, logs_of};
     ghost use Rattle.qp_plain.specs.Fresh.{IsNewBook};
 
     /// Adds a record that is neither a `nil` nor a `spill` to the lane chosen.
@@ -132,7 +132,7 @@ impl Book {
 
     /// Notes a code that `stopped` answers to the lane chosen, in proofs alone.
     pub fn answer(&mut self, code: u8)
-        ensures { Answers code self.old self.new }
+        ensures { BookAnswers code self.old self.new }
     {
         self.here.answer(code);
     }

@@ -3,7 +3,7 @@
 use crate::records::{copy_of, place, refusal, shortage, stated};
 use crate::world::PlainWorld;
 use qp_base::{Ev, Steps};
-use qp_calls::{Arm, Claim, Counts, Dec, Entry, Fresh, Give, Hold, Ops, RoomFault, Take, Tick};
+use qp_calls::{Arm, Claim, Counts, Dec, Fresh, Give, HeldEntry, Hold, Ops, RoomFault, Take, Tick};
 use qp_model::{Rec, is_spill};
 use std::mem;
 use std::sync::Wait;
@@ -106,7 +106,7 @@ impl<'a> Ops for PlainWorld<'a> {
     fn claim<L: Ledger>(
         &mut self,
         to: u8,
-        e: Entry,
+        e: HeldEntry,
         margin: Option<u8>,
         steps: &mut Steps<L>,
     ) -> Claim {
@@ -128,7 +128,7 @@ impl<'a> Ops for PlainWorld<'a> {
         Claim::Done
     }
 
-    fn lifo<L: Ledger>(&mut self, e: Entry, steps: &mut Steps<L>) -> Claim {
+    fn lifo<L: Ledger>(&mut self, e: HeldEntry, steps: &mut Steps<L>) -> Claim {
         steps.step();
         let o = self.by;
         let word = &mut self.queues[usize::from(o)];
@@ -296,7 +296,7 @@ impl<'a> Ops for PlainWorld<'a> {
         Some(self.stop)
     }
 
-    fn leave(&mut self, _e: Entry) {}
+    fn leave(&mut self, _e: HeldEntry) {}
 
     fn leave_fresh(&mut self, _f: Fresh) {}
 

@@ -2,7 +2,7 @@
 
 ghost use Rattle.std.specs.Prelude.{◌≡◌, ◌+◌, ◌++◌, ◌≤◌, [], length, map, IfOk};
 ghost use Rattle.std.specs.Vec.{vec_capacity};
-ghost use Rattle.qp_plain.specs.Books.{recs_of};
+ghost use Rattle.qp_plain.specs.Books.{log_recs};
 
 use crate::world::PlainWorld;
 use qp_base::Memory;
@@ -31,7 +31,7 @@ impl Shelf {
 /// The records of the lanes, moved into the room.
 pub(crate) fn shelve(logs: Vec<Log>, room: Vec<Lane>) -> Vec<Lane>
     requires { length room.items + length logs.items ≤ vec_capacity room }
-    ensures { result.items ≡ room.items ++ map recs_of logs.items }
+    ensures { result.items ≡ room.items ++ map log_recs logs.items }
 {
     let mut lanes = room;
     for log in logs {

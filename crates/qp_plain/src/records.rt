@@ -10,7 +10,7 @@ ghost use Rattle.qp_plain_words.specs.Queue.{is_token};
 
 use arrayvec::ArrayVec;
 use qp_base::Ev;
-use qp_calls::{Counts, Entry, Hold};
+use qp_calls::{Counts, HeldEntry, Hold};
 use qp_model::Rec;
 
 /// The place of a block in the tables of blocks and events.
@@ -47,16 +47,16 @@ pub(crate) fn refusal(o: u8, to: u8, now: Counts, margin: Option<u8>) -> Rec
 
 /// An entry as records state it.
 #[tactic(auto, unfolding(qp_calls::specs::Clauses::entry_of))]
-pub(crate) fn stated(e: &Entry) -> qp_model::Entry
+pub(crate) fn stated(e: &HeldEntry) -> qp_model::Entry
     ensures { result ≡ entry_of e.now }
 {
     match e {
-        Entry::Static(sig) => qp_model::Entry {
+        HeldEntry::Static(sig) => qp_model::Entry {
             pool: 0,
             block: u64::from(*sig),
             name: 0,
         },
-        Entry::Pool(h) => qp_model::Entry {
+        HeldEntry::Pool(h) => qp_model::Entry {
             pool: u64::from(h.pool()),
             block: u64::from(h.block()),
             name: h.name(),
@@ -66,15 +66,15 @@ pub(crate) fn stated(e: &Entry) -> qp_model::Entry
 
 /// An entry that a record states, as a queue holds it.
 #[tactic(auto, unfolding(qp_calls::specs::Clauses::entry_of))]
-pub(crate) fn token_of(e: qp_model::Entry) -> Entry
+pub(crate) fn token_of(e: qp_model::Entry) -> HeldEntry
     requires { FitsToken e }
     ensures entry { entry_of result ≡ e }
     ensures token { is_token result ≡ true }
 {
     if e.pool == 0 {
-        Entry::Static(e.block as u16)
+        HeldEntry::Static(e.block as u16)
     } else {
-        Entry::Pool(Hold::of(e.pool as u8, e.block as u8, e.name))
+        HeldEntry::Pool(Hold::of(e.pool as u8, e.block as u8, e.name))
     }
 }
 

@@ -5,7 +5,7 @@ ghost use Rattle.qp_model.specs.declared.bodies.Entry as model;
 ghost use Rattle.qp_model.specs.Record.{item_of};
 ghost use Rattle.qp_model.specs.Sound.{IsSound};
 ghost use Rattle.qp_model.specs.declared.bodies.Body.TheVariants.{Arm, Back, Dec, Inc, Lifo, New, Nil, Post, Spill, Sub, Took, Unsub};
-ghost use Rattle.qp_plain.specs.Repeat.{CountsDown, HasPlace, IsWithin, MayRepeat, Remains, Repeats, SetsTo, is_still};
+ghost use Rattle.qp_plain.specs.Repeat.{CountsDown, HasPlace, LaneIsWithin, MayRepeat, Remains, Repeats, SetsTo, is_still};
 
 use crate::records::{place, token_of};
 use crate::world::PlainWorld;
@@ -16,7 +16,7 @@ use qp_model::{Body, Entry, Params, Rec, is_spill};
 impl PlainWorld<'_> {
     /// Makes a place for the record in the lane chosen, where there is none.
     pub fn place_for(&mut self, rec: &Rec) -> Result<(), Memory>
-        requires few { IsWithin rec.now self.old }
+        requires few { LaneIsWithin rec.now self.old }
         ensures ok { OnOk result (HasPlace rec.now self.new) }
         ensures keeps { Remains self.old self.new }
     {

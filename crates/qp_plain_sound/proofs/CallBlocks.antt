@@ -7,20 +7,20 @@ use Rattle.qp_chart.specs.StateTree.{has}
 use Rattle.qp_model.specs.declared.words.Word.TheVariants as word
 use Rattle.qp_model.specs.declared.bodies.Body.{Body}
 use Rattle.qp_model.specs.declared.bodies.Body.TheVariants.{New, Inc, Dec, Back}
-use Rattle.qp_model.specs.Told.{Event, plain, given, dropped}
+use Rattle.qp_model.specs.Told.{Event, plain, told_new, dropped}
 use Rattle.qp_model.specs.History.{Draws, touch_of, drawn_on, hist, total, all_items}
 use Rattle.qp_model.specs.Machine.{after}
 use Rattle.qp_model.specs.References.{references}
 use Rattle.qp_model.specs.FreeBlocks.{free_blocks}
 use Rattle.qp_model.specs.Sites.{blocks_of}
-use Rattle.qp_model.specs.Knowing.{free_before, left_after, known_of, told}
+use Rattle.qp_model.specs.Knowing.{free_before, references_after, known_of, told}
 use Rattle.qp_model.specs.WordLaw.{is_block, is_pool}
 use Rattle.qp_model.proofs.HistoryLemmas.{length-hist}
 use Rattle.qp_calls.specs.declared.tokens.Fresh.{Fresh}
 use Rattle.qp_calls.specs.declared.answers.Give.TheVariants as give
 use Rattle.qp_calls.specs.LaneView.{FreeBlocks, References}
 use Rattle.qp_calls.specs.Tokens.{Hold, Held, Loose, stands, take_out}
-use Rattle.qp_calls.specs.Clauses.{Gives, Makes, DropsOne, shortage_of, StandsHold, StandsFresh}
+use Rattle.qp_calls.specs.Clauses.{GivesBlock, Makes, DropsOne, shortage_of, StandsHold, StandsFresh}
 use Rattle.qp_plain_sound.specs.WordStates.{pool_in, refs_in}
 use Rattle.qp_plain_sound.specs.Sound.{SoundWorld, facts_in, hands_in, names_block}
 use Rattle.qp_plain_sound.specs.May.{May, MayGive, MayMake, IsPool}
@@ -63,9 +63,9 @@ module _ (s : Step) (p n b from : ℕ) (ev : Event) (ext : Extends s s.by (New p
       ap (take n) now ∙ take-append-le n (hist (word.Pool p) (all_items s.lanes)) _ (omega (arith, is_n)) ∙ take_all n (hist (word.Pool p) (all_items s.lanes)) (omega (arith, is_n)) in
       ap (λ h. length (after (free_blocks (blocks_of s.sys p)) h).free) front
 
-  told_is : (c : ℕ) → told (facts_in s.sys s.more) s.by c body ≡ given p n b from ev.sig ev.pars (length (pool_in s.sys s.lanes p).free)
+  told_is : (c : ℕ) → told (facts_in s.sys s.more) s.by c body ≡ told_new p n b from ev.sig ev.pars (length (pool_in s.sys s.lanes p).free)
   unfolding told known_of
-  told_is c = ap (λ x. given p n b from ev.sig ev.pars x) free_is
+  told_is c = ap (λ x. told_new p n b from ev.sig ev.pars x) free_is
 
   pool_after : length (pool_in s.sys s.more p).free + 1 ≡ length (pool_in s.sys s.lanes p).free
   unfolding pool_in
@@ -79,7 +79,7 @@ module _ (s : Step) (p n b from : ℕ) (ev : Event) (ext : Extends s s.by (New p
       ∙ (ext.world.sound.block p b m.block).idle (not-true _ (sym (free-life s.sys s.lanes ext.world.sound.words p b m.block) ∙ first-has b _ m.lowest))
 
   pub given-done : (reserve : Option ℕ) → unwrap_or reserve 0 < length (pool_in s.sys s.lanes p).free
-      → Gives p reserve ev (before s) (behind s) (give.Given (record { pool = p; block = b; used = false }))
+      → GivesBlock p reserve ev (before s) (behind s) (give.Given (record { pool = p; block = b; used = false }))
   unfolding view_of shown_in
   given-done reserve enough = record {
     number = n;
@@ -223,8 +223,8 @@ module _ (s : Step) (h : Hold) (d : ℕ) (ext : Extends s s.by (Dec h.pool h.blo
       ap (λ x. length x.names + 1) (refs-after s s.by dec_body ext.world ext.grown ext.says dec_may h.pool h.block block dec_draws)
       ∙ length-without_one (refs_in s.lanes h.pool h.block).names h.name (held-stands s.sys s.lanes (hands_before s) ext.world.sound h.pool h.block block h.name (hold_block s h ext.world stand).1)
 
-  left_is : left_after (facts_in s.sys s.more) h.pool h.block d ≡ length (refs_in s.more h.pool h.block).names
-  unfolding left_after refs_in
+  left_is : references_after (facts_in s.sys s.more) h.pool h.block d ≡ length (refs_in s.more h.pool h.block).names
+  unfolding references_after refs_in
   left_is =
       let now = hist-after s s.by dec_body ext.world ext.grown ext.says dec_may (word.Block h.pool h.block) self (ext.world.sound.words.blocks h.pool h.block block).numbers dec_draws in
       let long = length-hist (word.Block h.pool h.block) (all_items s.lanes) (ext.world.sound.words.blocks h.pool h.block block).numbers in

@@ -12,16 +12,16 @@ use Rattle.qp_model.specs.declared.bodies.Entry as model
 use Rattle.qp_model.specs.declared.bodies.Body.{Body}
 use Rattle.qp_model.specs.declared.bodies.Body.TheVariants.{Took}
 use Rattle.qp_model.specs.Record.{entry}
-use Rattle.qp_model.specs.Told.{Event, taken}
+use Rattle.qp_model.specs.Told.{Event, told_took}
 use Rattle.qp_model.specs.History.{Draws, touch_of, total, all_items}
 use Rattle.qp_model.specs.Line.{Line}
 use Rattle.qp_model.specs.Parts.{is_static}
-use Rattle.qp_model.specs.Knowing.{event_of, event_known, known_of, told}
+use Rattle.qp_model.specs.Knowing.{event_of_entry, event_known, known_of, told}
 use Rattle.qp_model.specs.WordLaw.{is_object, is_block}
-use Rattle.qp_calls.specs.declared.tokens.Entry.{Entry}
-use Rattle.qp_calls.specs.declared.tokens.Entry.TheVariants as token
+use Rattle.qp_calls.specs.declared.tokens.HeldEntry.{HeldEntry}
+use Rattle.qp_calls.specs.declared.tokens.HeldEntry.TheVariants as token
 use Rattle.qp_calls.specs.Tokens.{Hold, Held, stands, with_entry}
-use Rattle.qp_calls.specs.Clauses.{Stands, EventIs, IsEvent, entry_of, params_of}
+use Rattle.qp_calls.specs.Clauses.{EntryStands, EventIs, IsEvent, entry_of, params_of}
 use Rattle.qp_calls.specs.Deferring.{is_named}
 use Rattle.qp_calls.proofs.HandLemmas.{held-first}
 use Rattle.qp_calls.proofs.Releasing.{with-pool}
@@ -42,7 +42,7 @@ use Rattle.qp_model.proofs.LineLemmas.{same_number}
 -- an entry has an event of the system
 pub record HasEvent (sys : System) (lanes : List (List Rec)) (e : model.Entry) : Type 0 where
   pub its : Event
-  pub is_its : event_of (facts_in sys lanes) e ≡ Some its
+  pub is_its : event_of_entry (facts_in sys lanes) e ≡ Some its
   pub good : IsTrue (is_event sys its)
 
 pub event-from : (sys : System) (ev : Event) → IsTrue (is_event sys ev) → IsEvent sys ev
@@ -89,8 +89,8 @@ module _ (sys : System) (lanes : List (List Rec)) (order : List ℕ) (world : So
       record { its = e.0; is_its = (world.sound.event p b h).same n stands ∙ e.1; good = e.2 }
 
   -- the front entry of a queue has one
-  pub front-has : (a : ℕ) (e : Entry) (others : List model.Entry) → IsTrue (is_object sys a) → (line_in sys lanes a).entries ≡ entry_of e ∷ others → IsTrue (is_named sys e) → HasEvent sys lanes (entry_of e)
-  unfolding entry_of event_of
+  pub front-has : (a : ℕ) (e : HeldEntry) (others : List model.Entry) → IsTrue (is_object sys a) → (line_in sys lanes a).entries ≡ entry_of e ∷ others → IsTrue (is_named sys e) → HasEvent sys lanes (entry_of e)
+  unfolding entry_of event_of_entry
   front-has a (token.Static sig) others h front named =
       record { its = record { sig = sig; pars = [] }; is_its = refl; good = static-good sys sig (world.bare sig named) named }
   front-has a (token.Pool k) others h front named =
@@ -103,13 +103,13 @@ module _ (sys : System) (lanes : List (List Rec)) (order : List ℕ) (world : So
       let block = all-stands (names_block sys) (Held h.pool h.block h.name) (hands_in sys lanes order) world.sound.tokens stand in
       reference-event h.pool h.block h.name block (held-stands sys lanes (hands_in sys lanes order) world.sound h.pool h.block block h.name stand)
 
-  pub held-same : (h : Hold) → IsTrue (stands (Held h.pool h.block h.name) (hands_in sys lanes order)) → event_of (facts_in sys lanes) (entry h.pool h.block h.name) ≡ cell_in lanes h.pool h.block
+  pub held-same : (h : Hold) → IsTrue (stands (Held h.pool h.block h.name) (hands_in sys lanes order)) → event_of_entry (facts_in sys lanes) (entry h.pool h.block h.name) ≡ cell_in lanes h.pool h.block
   held-same h stand =
       let block = all-stands (names_block sys) (Held h.pool h.block h.name) (hands_in sys lanes order) world.sound.tokens stand in
       (world.sound.event h.pool h.block block).same h.name (held-stands sys lanes (hands_in sys lanes order) world.sound h.pool h.block block h.name stand)
 
 -- the event of an entry that has one
-pub event-its : (sys : System) (lanes : List (List Rec)) (e : model.Entry) (ev : Event) → event_of (facts_in sys lanes) e ≡ Some ev → event_in sys lanes e ≡ ev
+pub event-its : (sys : System) (lanes : List (List Rec)) (e : model.Entry) (ev : Event) → event_of_entry (facts_in sys lanes) e ≡ Some ev → event_in sys lanes e ≡ ev
 unfolding event_in
 event-its sys lanes e ev is = rw is refl
 
@@ -125,7 +125,7 @@ event-read sys lanes order at spare by stops answered purses h ev world stand ce
     (event-its sys lanes (entry h.pool h.block h.name) ev (held-same sys lanes order world h stand.1 ∙ cell), subst (IsEvent sys) same (event-from sys e.0 e.2))
 
 -- The front entry is taken.
-module _ (s : Step) (me f l m : ℕ) (e : Entry) (others : List model.Entry) (ext : Extends s me (Took f l (m + 1) (entry_of e))) (named : IsTrue (is_named s.sys e))
+module _ (s : Step) (me f l m : ℕ) (e : HeldEntry) (others : List model.Entry) (ext : Extends s me (Took f l (m + 1) (entry_of e))) (named : IsTrue (is_named s.sys e))
     (q : IsQueue s.sys s.lanes me f l m) (front : (line_in s.sys s.lanes me).entries ≡ entry_of e ∷ others) where
   abbrev took : Body
   took = Took f l (m + 1) (entry_of e)
@@ -142,7 +142,7 @@ module _ (s : Step) (me f l m : ℕ) (e : Entry) (others : List model.Entry) (ex
   has_event : HasEvent s.sys s.lanes (entry_of e)
   has_event = front-has s.sys s.lanes s.order ext.world me e others q.object front named
 
-  event_now : event_of (facts_in s.sys s.more) (entry_of e) ≡ Some has_event.its
+  event_now : event_of_entry (facts_in s.sys s.more) (entry_of e) ≡ Some has_event.its
   event_now =
       event_of-same s me took ext.world ext.grown ext.says may (entry_of e)
       (front-made s.sys s.lanes (hands_before s) ext.world.sound me (entry_of e) others q.object (ext.world.few me q.object) front)
@@ -151,9 +151,9 @@ module _ (s : Step) (me f l m : ℕ) (e : Entry) (others : List model.Entry) (ex
   event_is : event_in s.sys s.more (entry_of e) ≡ has_event.its
   event_is = event-its s.sys s.more (entry_of e) has_event.its event_now
 
-  took_told : (c : ℕ) → told (facts_in s.sys s.more) me c took ≡ taken f l (m + 1) (entry_of e) (event_in s.sys s.more (entry_of e))
+  took_told : (c : ℕ) → told (facts_in s.sys s.more) me c took ≡ told_took f l (m + 1) (entry_of e) (event_in s.sys s.more (entry_of e))
   unfolding told known_of
-  took_told c = ap (λ x. record { body = took; known = event_known x }) event_now ∙ ap (taken f l (m + 1) (entry_of e)) (sym event_is)
+  took_told c = ap (λ x. record { body = took; known = event_known x }) event_now ∙ ap (told_took f l (m + 1) (entry_of e)) (sym event_is)
 
   took_line : line_in s.sys s.more me ≡ record { entries = (line_in s.sys s.more me).entries; f = f; l = l; m = m + 1 }
   took_line = with_counts (line-after s me took ext.world ext.grown ext.says may me q.object draws)
@@ -167,15 +167,15 @@ module _ (s : Step) (me f l m : ℕ) (e : Entry) (others : List model.Entry) (ex
   unfolding known_of
   hands_now = hands-after s me took ext.world ext.grown ext.says may
 
-took-stands : (s : Step) (e : Entry) → IsTrue (is_named s.sys e) → hands_in s.sys s.more s.longer ≡ with_entry (entry_of e) (hands_before s) → Stands e (behind s)
+took-stands : (s : Step) (e : HeldEntry) → IsTrue (is_named s.sys e) → hands_in s.sys s.more s.longer ≡ with_entry (entry_of e) (hands_before s) → EntryStands e (behind s)
 unfolding view_of entry_of
 took-stands s (token.Static sig) named hands = named
 took-stands s (token.Pool h) named hands =
     let some : 0 < h.pool = grind (arith, nat_tests) in
     (some, subst (λ ts. IsTrue (stands (Held h.pool h.block h.name) ts)) (sym (hands ∙ with-pool h.pool h.block h.name (hands_before s) some)) (held-first h.pool h.block h.name (hands_before s)))
 
-took-fixed : (s : Step) (e : Entry) → EventIs e (behind s)
-unfolding view_of event_in event_of
+took-fixed : (s : Step) (e : HeldEntry) → EventIs e (behind s)
+unfolding view_of event_in event_of_entry
 took-fixed s (token.Static sig) = refl
 took-fixed s (token.Pool h) = tt
 

@@ -11,7 +11,7 @@ use Rattle.qp_model.specs.History.{Draws, touch_of, same_word, mark_of, drawn_on
 use Rattle.qp_model.specs.Line.{line_next}
 use Rattle.qp_model.specs.FreeBlocks.{pool_next}
 use Rattle.qp_model.specs.References.{refs_next}
-use Rattle.qp_model.specs.Knowing.{event_of, known_of, told}
+use Rattle.qp_model.specs.Knowing.{event_of_entry, known_of, told}
 use Rattle.qp_model.specs.WordLaw.{is_object, is_block, is_pool}
 use Rattle.qp_calls.specs.LaneView.{Gains, AddsOf, mark_or, ceiling_in}
 use Rattle.qp_calls.specs.Tokens.{hands_of}
@@ -94,6 +94,6 @@ module _ (s : Step) (o : ℕ) (b : Body) (world : SoundWorld s.sys s.lanes s.ord
   set-same g k =
       after_lanes (λ ls. hist (word.Signal g) (all_items ls) ≡ hist (word.Signal g) (all_items s.lanes)) (set-still s.sys s.lanes s.order s.at s.rec o b world grown.within says may g k)
 
-  pub event_of-same : (e : Entry) → is_made (all_items s.lanes) e ≡ true → event_of (facts_in s.sys s.more) e ≡ event_of (facts_in s.sys s.lanes) e
+  pub event_of-same : (e : Entry) → is_made (all_items s.lanes) e ≡ true → event_of_entry (facts_in s.sys s.more) e ≡ event_of_entry (facts_in s.sys s.lanes) e
   event_of-same e made =
-      after_lanes (λ ls. event_of (facts_in s.sys ls) e ≡ event_of (facts_in s.sys s.lanes) e) (event_of-still s.sys s.lanes s.order s.at s.rec o b world grown.within says may e made)
+      after_lanes (λ ls. event_of_entry (facts_in s.sys ls) e ≡ event_of_entry (facts_in s.sys s.lanes) e) (event_of-still s.sys s.lanes s.order s.at s.rec o b world grown.within says may e made)

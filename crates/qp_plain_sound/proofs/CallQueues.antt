@@ -13,11 +13,11 @@ use Rattle.qp_model.specs.Line.{Line}
 use Rattle.qp_model.specs.Sites.{ring_of}
 use Rattle.qp_model.specs.Parts.{room_before}
 use Rattle.qp_model.specs.Knowing.{known_of, told}
-use Rattle.qp_calls.specs.declared.tokens.Entry.{Entry}
-use Rattle.qp_calls.specs.declared.tokens.Entry.TheVariants as token
+use Rattle.qp_calls.specs.declared.tokens.HeldEntry.{HeldEntry}
+use Rattle.qp_calls.specs.declared.tokens.HeldEntry.TheVariants as token
 use Rattle.qp_calls.specs.LaneView.{LaneView, Purse, Counts, Looks}
 use Rattle.qp_calls.specs.Tokens.{Held}
-use Rattle.qp_calls.specs.Clauses.{Stands, ShowsQueue, entry_of, refusal_of}
+use Rattle.qp_calls.specs.Clauses.{EntryStands, ShowsQueue, entry_of, refusal_of}
 use Rattle.qp_plain_sound.specs.WordStates.{line_in}
 use Rattle.qp_plain_sound.specs.Sound.{SoundWorld, facts_in, hands_in, names_block}
 use Rattle.qp_plain_sound.specs.May.{May, IsQueue, IsOwned}
@@ -32,7 +32,7 @@ use Rattle.qp_model.proofs.LineLemmas.{same_number}
 use Rattle.qp_model.proofs.NumberLemmas.{not-zero}
 
 -- an entry that may be handed in may be posted
-owned : (s : Step) (e : Entry) → SoundWorld s.sys s.lanes s.order → Stands e (before s) → IsOwned s.sys (hands_before s) (entry_of e)
+owned : (s : Step) (e : HeldEntry) → SoundWorld s.sys s.lanes s.order → EntryStands e (before s) → IsOwned s.sys (hands_before s) (entry_of e)
 unfolding entry_of view_of
 owned s (token.Static sig) world h = record { good = rw h refl; token = inl refl }
 owned s (token.Pool k) world h =
@@ -56,7 +56,7 @@ shows s a f l m sys lanes order spare is = record {
 }
 
 -- An entry is posted.
-module _ (s : Step) (to f l m : ℕ) (e : Entry) (ext : Extends s s.by (Post to (f + 1) l m (entry_of e))) (stand : Stands e (before s)) (q : IsQueue s.sys s.lanes to f l m)
+module _ (s : Step) (to f l m : ℕ) (e : HeldEntry) (ext : Extends s s.by (Post to (f + 1) l m (entry_of e))) (stand : EntryStands e (before s)) (q : IsQueue s.sys s.lanes to f l m)
     (room : length (line_in s.sys s.lanes to).entries ≤ ring_of s.sys to) where
   abbrev post : Body
   post = Post to (f + 1) l m (entry_of e)
@@ -132,7 +132,7 @@ claim-refused s to f l m e margin ext q few =
     }
 
 -- An entry is posted last-in.
-module _ (s : Step) (f l m : ℕ) (e : Entry) (ext : Extends s s.by (Lifo f (l + 1) m (entry_of e))) (stand : Stands e (before s)) (q : IsQueue s.sys s.lanes s.by f l m)
+module _ (s : Step) (f l m : ℕ) (e : HeldEntry) (ext : Extends s s.by (Lifo f (l + 1) m (entry_of e))) (stand : EntryStands e (before s)) (q : IsQueue s.sys s.lanes s.by f l m)
     (room : length (line_in s.sys s.lanes s.by).entries ≤ ring_of s.sys s.by) where
   abbrev front : Body
   front = Lifo f (l + 1) m (entry_of e)

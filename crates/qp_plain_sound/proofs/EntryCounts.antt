@@ -19,7 +19,7 @@ use Rattle.qp_model.specs.Sites.{ring_of}
 use Rattle.qp_model.specs.WordLaw.{is_object}
 use Rattle.qp_model.proofs.HistoryLemmas.{drawn_as-on, filtered-pass}
 use Rattle.qp_calls.specs.Counting.{one, times}
-use Rattle.qp_plain_sound.specs.Log.{log_of, items_of}
+use Rattle.qp_plain_sound.specs.Log.{log_of, items_placed}
 use Rattle.qp_plain_sound.specs.Sound.{SoundWorld}
 use Rattle.qp_plain_sound.specs.WordStates.{line_in}
 use Rattle.qp_plain_sound.proofs.LogTotals.{times-log}
@@ -169,7 +169,7 @@ filtered-times p (x ∷ xs) = go (p x) refl (filtered-times p xs)
 pub count-times : {X : Type 0} (p : X → Bool) (xs : List X) → count_by p xs ≡ times p xs
 count-times p xs = sym (length-filter p xs) ∙ filtered-times p xs
 
-items-times : (p : Item → Bool) (log : List Placed) → times (λ x. p x.item) log ≡ times p (items_of log)
+items-times : (p : Item → Bool) (log : List Placed) → times (λ x. p x.item) log ≡ times p (items_placed log)
 unfolding times
 items-times p [] = refl
 items-times p (x ∷ log) = ap (λ n. one (p x.item) + n) (items-times p log)

@@ -16,7 +16,7 @@ use Rattle.qp_model.specs.History.{hist}
 use Rattle.qp_model.specs.Machine.{after, is_allowed}
 use Rattle.qp_model.specs.References.{Refs, references, refs_may, refs_next}
 use Rattle.qp_model.specs.Lives.{edge_of, edges, is_empty, refs_at, HasLives, edges_empty}
-use Rattle.qp_model.specs.Knowing.{Facts, given_by, last_given, event_of, known_of, life_event}
+use Rattle.qp_model.specs.Knowing.{Facts, given_by, last_given, event_of_entry, known_of, life_event}
 use Rattle.qp_model.specs.Settled.{Settled}
 use Rattle.qp_model.proofs.MachineLemmas.{after-keeps}
 use Rattle.qp_model.proofs.KnowingLemmas.{IsLater, known-stays}
@@ -116,13 +116,13 @@ cell-append b e (x ∷ xs) i = cell-append b (cell_next b e x.body) xs i
 -- the event of an entry stays, where it is static or its reference was made
 pub event-stays : (sys : System) (xs : List Item) (i : Item) (ys : List Item) → IsLater xs i ys → (e : Entry)
     → (e.pool ≡ 0) ⊎ (e.name < length (hist (word.Block e.pool e.block) (xs ++ ys)))
-    → event_of (record { sys = sys; items = xs ++ i ∷ ys }) e ≡ event_of (record { sys = sys; items = xs ++ ys }) e
+    → event_of_entry (record { sys = sys; items = xs ++ i ∷ ys }) e ≡ event_of_entry (record { sys = sys; items = xs ++ ys }) e
 unfolding known_of Settled
 event-stays sys xs i ys later e made = event_known-same _ _ (known-stays sys xs i ys later 0 0 (Took 0 0 0 e) made)
 
 -- the event of a reference below the end of its block's history
-pub event-life : (w : Facts) (p b r : ℕ) → 0 < p → r < length (hist (word.Block p b) w.items) → event_of w (entry p b r) ≡ last_given b r None (hist (word.Pool p) w.items)
-unfolding event_of life_event
+pub event-life : (w : Facts) (p b r : ℕ) → 0 < p → r < length (hist (word.Block p b) w.items) → event_of_entry w (entry p b r) ≡ last_given b r None (hist (word.Pool p) w.items)
+unfolding event_of_entry life_event
 event-life w p b r some lt =
     let pooled : (p == 0) ≡ false = grind (arith, nat_tests) in
     let below : nat_lt r (length (hist (word.Block p b) w.items)) ≡ true = grind (arith, nat_tests) in

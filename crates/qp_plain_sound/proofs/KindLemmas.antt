@@ -20,7 +20,7 @@ use Rattle.qp_model.specs.Subscribers.{Subscribers, subscribers}
 use Rattle.qp_model.specs.TimeEvents.{Clock, time_event}
 use Rattle.qp_model.specs.Line.{Line, line}
 use Rattle.qp_model.specs.Sites.{ring_of, blocks_of}
-use Rattle.qp_model.specs.Knowing.{known_of, left_after}
+use Rattle.qp_model.specs.Knowing.{known_of, references_after}
 use Rattle.qp_model.specs.WordLaw.{is_object, is_pool, is_signal, is_timer}
 use Rattle.qp_model.proofs.WordLemmas.{Held as HeldWord}
 use Rattle.qp_model.proofs.LineLemmas.{held-seen, held-nil, held-full, held-no_entry, held-no_lifo}
@@ -78,8 +78,8 @@ module _ (sys : System) (before : List (List Rec)) (lane : List Rec) (behind : L
       go (inr held) = sound-again sys before lane behind r hands old p b m.block held.0 o says held.1
 
   -- after the record so many references are left
-  pub left-now : (o p b d k : ℕ) → Says o (Dec p b d k) → MayDrop sys old_lanes hands p b d k → left_after (facts_in sys new_lanes) p b d ≡ length (without_one k (refs_in old_lanes p b).names)
-  unfolding left_after refs_in
+  pub left-now : (o p b d k : ℕ) → Says o (Dec p b d k) → MayDrop sys old_lanes hands p b d k → references_after (facts_in sys new_lanes) p b d ≡ length (without_one k (refs_in old_lanes p b).names)
+  unfolding references_after refs_in
   left-now o p b d k is m =
       let long = refs-long sys old_lanes old.words p b m.block in
       let now = dec-refs sys before lane behind r hands old p b m.block k o (is ∙ ap (λ x. record { of = o; body = Dec p b x k }) m.number) m.token in
@@ -90,7 +90,7 @@ module _ (sys : System) (before : List (List Rec)) (lane : List Rec) (behind : L
       ap (λ h. length (after references h).names) whole ∙ ap (λ x. length x.names) now
 
   keeps-dec : (o p b d k : ℕ) → Says o (Dec p b d k) → MayDrop sys old_lanes hands p b d k
-      → Sound sys new_lanes (with_left p b (Left (left_after (facts_in sys new_lanes) p b d)) (take_out (Held p b k) hands))
+      → Sound sys new_lanes (with_left p b (Left (references_after (facts_in sys new_lanes) p b d)) (take_out (Held p b k) hands))
   keeps-dec o p b d k is m =
       subst (λ x. Sound sys new_lanes (with_left p b (Left x) (take_out (Held p b k) hands))) (sym (left-now o p b d k is m))
       (sound-dec sys before lane behind r hands old p b m.block k o (is ∙ ap (λ x. record { of = o; body = Dec p b x k }) m.number) m.token)

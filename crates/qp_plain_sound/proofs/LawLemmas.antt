@@ -21,7 +21,7 @@ use Rattle.qp_calls.specs.LaneView.{Gains, LaneView, ceiling_in, is_known, mark_
 use Rattle.qp_calls.specs.LaneLaws.{is_caused}
 use Rattle.qp_calls.specs.Notes.{IsNote, MayNote, told_as, told_note, stop_code, last_code}
 use Rattle.qp_calls.specs.Tokens.{Token, hands_after}
-use Rattle.qp_plain_sound.specs.Log.{lane_of, log_of, items_of, first_placed, with_record}
+use Rattle.qp_plain_sound.specs.Log.{lane_of, log_of, items_placed, first_placed, with_record}
 use Rattle.qp_plain_sound.specs.Sound.{SoundWorld, facts_in, hands_in, is_made}
 use Rattle.qp_plain_sound.specs.May.{May}
 use Rattle.qp_plain_sound.specs.View.{view_of, event_in}
@@ -206,20 +206,20 @@ causes-stay items more (code ∷ codes) h = and_from _ _ (go (code == 7) (nat_lt
 
 -- No word has had more operations than the world has records.
 
-log-short : (lanes : List (List Rec)) (order : List ℕ) → length (items_of (log_of lanes order)) ≤ length order
+log-short : (lanes : List (List Rec)) (order : List ℕ) → length (items_placed (log_of lanes order)) ≤ length order
 unfolding log_of
 log-short lanes [] = omega arith
 log-short lanes (x ∷ order) = go (lane_of lanes x) (log-short (slice_set lanes x (drop 1 (lane_of lanes x))) order)
   where
-    go : (l : List Rec) → length (items_of (log_of (slice_set lanes x (drop 1 (lane_of lanes x))) order)) ≤ length order
-        → length (items_of (first_placed x l (log_of (slice_set lanes x (drop 1 (lane_of lanes x))) order))) ≤ suc (length order)
+    go : (l : List Rec) → length (items_placed (log_of (slice_set lanes x (drop 1 (lane_of lanes x))) order)) ≤ length order
+        → length (items_placed (first_placed x l (log_of (slice_set lanes x (drop 1 (lane_of lanes x))) order))) ≤ suc (length order)
     go [] later = omega (arith, later)
     go (r ∷ rs) later = omega (arith, later)
 
 pub words-few : WordsAreFew
 words-few lanes order orders w =
     let same = total-log w lanes order orders in
-    let few = total-length w (items_of (log_of lanes order)) in
+    let few = total-length w (items_placed (log_of lanes order)) in
     let short = log-short lanes order in
     omega (arith, same, few, short)
 

@@ -9,7 +9,7 @@ use Rattle.qp_model.specs.Places.{is_next, in_order}
 use Rattle.qp_model.proofs.LineLemmas.{same_number}
 use Rattle.qp_model.proofs.WordLemmas.{all_items-split}
 use Rattle.qp_calls.specs.Counting.{one, times}
-use Rattle.qp_plain_sound.specs.Log.{Orders, lane_of, log_of, items_of, first_placed}
+use Rattle.qp_plain_sound.specs.Log.{Orders, lane_of, log_of, items_placed, first_placed}
 use Rattle.qp_plain_sound.proofs.Marks.{Next, Drawing, Showing, Silent}
 use Rattle.qp_plain_sound.proofs.Times.{times-append}
 use Rattle.qp_plain_sound.proofs.Logs.{lane-there, orders-rest, some-first, without_first, lanes-split, lanes-grown}
@@ -30,15 +30,15 @@ same-place p xs i ys zs same = omega (arith, same, times-append p xs ys, times-a
 
 -- the first record of the log stands at the front of its lane
 module _ (p : Item → Bool) (lanes : List (List Rec)) (x : ℕ) (order : List ℕ) (orders : Orders lanes (x ∷ order))
-    (later : times p (items_of (log_of (without_first lanes x order orders) order)) ≡ times p (all_items (without_first lanes x order orders))) where
+    (later : times p (items_placed (log_of (without_first lanes x order orders) order)) ≡ times p (all_items (without_first lanes x order orders))) where
   there : x < length lanes
   there = lane-there lanes x (some-first lanes x order orders)
 
-  times-cons : times p (items_of (log_of lanes (x ∷ order))) ≡ times p (all_items lanes)
+  times-cons : times p (items_placed (log_of lanes (x ∷ order))) ≡ times p (all_items lanes)
   unfolding log_of lane_items
   times-cons = go (lane_of lanes x) refl (some-first lanes x order orders)
     where
-      go : (l : List Rec) → lane_of lanes x ≡ l → 0 < length l → times p (items_of (first_placed x l (log_of (without_first lanes x order orders) order))) ≡ times p (all_items lanes)
+      go : (l : List Rec) → lane_of lanes x ≡ l → 0 < length l → times p (items_placed (first_placed x l (log_of (without_first lanes x order orders) order))) ≡ times p (all_items lanes)
       go [] e some = absurd (omega (arith, some))
       go (r ∷ rs) e some =
           let whole : all_items lanes ≡ all_items (take x lanes) ++ item_of r ∷ (map item_of rs ++ all_items (drop (suc x) lanes)) =
@@ -49,11 +49,11 @@ module _ (p : Item → Bool) (lanes : List (List Rec)) (x : ℕ) (order : List �
           ap all_items (lanes-grown lanes x (drop 1 (lane_of lanes x)) there) ∙ all_items-split (take x lanes) (drop 1 (lane_of lanes x)) (drop (suc x) lanes)
           ∙ ap (λ l. (all_items (take x lanes) ++ map item_of (drop 1 l)) ++ all_items (drop (suc x) lanes)) e
           ∙ append_assoc (all_items (take x lanes)) (map item_of rs) (all_items (drop (suc x) lanes)) in
-          same-place p (all_items (take x lanes)) (item_of r) (map item_of rs ++ all_items (drop (suc x) lanes)) (items_of (log_of (without_first lanes x order orders) order)) (later ∙ ap (times p) rest)
+          same-place p (all_items (take x lanes)) (item_of r) (map item_of rs ++ all_items (drop (suc x) lanes)) (items_placed (log_of (without_first lanes x order orders) order)) (later ∙ ap (times p) rest)
           ∙ sym (ap (times p) whole)
 
 -- any test counts alike in the log and in the lanes
-pub times-log : (p : Item → Bool) (lanes : List (List Rec)) (order : List ℕ) → Orders lanes order → times p (items_of (log_of lanes order)) ≡ times p (all_items lanes)
+pub times-log : (p : Item → Bool) (lanes : List (List Rec)) (order : List ℕ) → Orders lanes order → times p (items_placed (log_of lanes order)) ≡ times p (all_items lanes)
 unfolding times log_of
 times-log p lanes [] orders = sym (ap (times p) (none-left lanes orders))
 times-log p lanes (x ∷ order) orders = times-cons p lanes x order orders (times-log p (without_first lanes x order orders) order (orders-rest lanes x order orders))
@@ -67,9 +67,9 @@ total-times w (i ∷ items) = go (drawn_on w (touch i)) refl (total-times w item
     go true h ih = rw h (omega (arith, ih))
     go false h ih = rw h (omega (arith, ih))
 
-pub total-log : (w : Word) (lanes : List (List Rec)) (order : List ℕ) → Orders lanes order → total w (items_of (log_of lanes order)) ≡ total w (all_items lanes)
+pub total-log : (w : Word) (lanes : List (List Rec)) (order : List ℕ) → Orders lanes order → total w (items_placed (log_of lanes order)) ≡ total w (all_items lanes)
 total-log w lanes order orders =
-    total-times w (items_of (log_of lanes order)) ∙ times-log (λ i. drawn_on w (touch i)) lanes order orders ∙ sym (total-times w (all_items lanes))
+    total-times w (items_placed (log_of lanes order)) ∙ times-log (λ i. drawn_on w (touch i)) lanes order orders ∙ sym (total-times w (all_items lanes))
 
 -- One record more in an order: its number is that of the operations before it.
 

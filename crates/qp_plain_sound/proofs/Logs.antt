@@ -9,7 +9,7 @@ use Rattle.qp_model.specs.OneOrder.{Placed}
 use Rattle.qp_model.specs.History.{lane_items}
 use Rattle.qp_model.proofs.ListLemmas.{slice_set-twice}
 use Rattle.qp_calls.specs.Counting.{one, times}
-use Rattle.qp_plain_sound.specs.Log.{lane_of, first_placed, log_of, items_of, Orders, with_record}
+use Rattle.qp_plain_sound.specs.Log.{lane_of, first_placed, log_of, items_placed, Orders, with_record}
 use Rattle.qp_plain_sound.specs.Step.{Grown}
 use Rattle.qp_plain_sound.proofs.Times.{times-append}
 
@@ -195,7 +195,7 @@ orders-more lanes order at r orders lt a = go (at == a) refl
         rw now (omega (arith, z, split, n))
 
 -- Each lane is what the log has of it.
-pub lanes-log : (lanes : List (List Rec)) (order : List ℕ) → Orders lanes order → (a : ℕ) → items_of (filter (λ x. x.lane == a) (log_of lanes order)) ≡ lane_items (lane_of lanes a)
+pub lanes-log : (lanes : List (List Rec)) (order : List ℕ) → Orders lanes order → (a : ℕ) → items_placed (filter (λ x. x.lane == a) (log_of lanes order)) ≡ lane_items (lane_of lanes a)
 unfolding log_of times lane_items
 lanes-log lanes [] orders a = none (lane_of lanes a) (sym (orders a))
   where
@@ -206,13 +206,13 @@ lanes-log lanes (x ∷ order) orders a =
     go (lane_of lanes x) refl (some-first lanes x order orders) (lanes-log (without_first lanes x order orders) order (orders-rest lanes x order orders) a)
   where
     go : (l : List Rec) → lane_of lanes x ≡ l → 0 < length l
-        → items_of (filter (λ y. y.lane == a) (log_of (without_first lanes x order orders) order)) ≡ map item_of (lane_of (without_first lanes x order orders) a)
-        → items_of (filter (λ y. y.lane == a) (first_placed x l (log_of (without_first lanes x order orders) order))) ≡ map item_of (lane_of lanes a)
+        → items_placed (filter (λ y. y.lane == a) (log_of (without_first lanes x order orders) order)) ≡ map item_of (lane_of (without_first lanes x order orders) a)
+        → items_placed (filter (λ y. y.lane == a) (first_placed x l (log_of (without_first lanes x order orders) order))) ≡ map item_of (lane_of lanes a)
     go [] e some later = absurd (omega (arith, some))
     go (r ∷ rs) e some later = split (x == a) refl
       where
         split : (u : Bool) → (x == a) ≡ u
-            → items_of (cond u (record { lane = x; item = item_of r } ∷ filter (λ y. y.lane == a) (log_of (without_first lanes x order orders) order)) (filter (λ y. y.lane == a) (log_of (without_first lanes x order orders) order)))
+            → items_placed (cond u (record { lane = x; item = item_of r } ∷ filter (λ y. y.lane == a) (log_of (without_first lanes x order orders) order)) (filter (λ y. y.lane == a) (log_of (without_first lanes x order orders) order)))
             ≡ map item_of (lane_of lanes a)
         split true k =
             let is : x ≡ a = eqb-true x a k in

@@ -14,7 +14,7 @@ use Rattle.qp_model.specs.Lists.{without_one}
 use Rattle.qp_model.specs.History.{Draws, hist, all_items, lane_items}
 use Rattle.qp_model.specs.Machine.{after}
 use Rattle.qp_model.specs.Lives.{life_of, edges}
-use Rattle.qp_model.specs.Knowing.{event_of, last_given}
+use Rattle.qp_model.specs.Knowing.{event_of_entry, last_given}
 use Rattle.qp_model.specs.WordLaw.{Words, is_block}
 use Rattle.qp_model.proofs.WordLemmas.{hist-stays}
 use Rattle.qp_model.proofs.KnowingLemmas.{IsLater}
@@ -95,7 +95,7 @@ module _ (sys : System) (before : List (List Rec)) (lane : List Rec) (behind : L
           held_other n = rw (flipped p b q c other) refl
 
       -- The new reference has the event of the block.
-      made-event : event_of (facts_in sys new_lanes) (entry p b refs_now) ≡ cell_in new_lanes p b
+      made-event : event_of_entry (facts_in sys new_lanes) (entry p b refs_now) ≡ cell_in new_lanes p b
       unfolding cell_in
       made-event =
           let long = refs-long sys new_lanes made-words p b h in
@@ -129,8 +129,8 @@ module _ (sys : System) (before : List (List Rec)) (lane : List Rec) (behind : L
             same = λ n has_it. each n (refs_now == n) refl (subst (λ x. IsTrue (has x.names n)) made-refs has_it);
           }
             where
-              each : (n : ℕ) (u : Bool) → (refs_now == n) ≡ u → (u || has (refs_in old_lanes p b).names n) ≡ true → event_of (facts_in sys new_lanes) (entry p b n) ≡ cell_in new_lanes p b
-              each n true e k = let at : refs_now ≡ n = grind (arith, nat_tests) in subst (λ x. event_of (facts_in sys new_lanes) (entry p b x) ≡ cell_in new_lanes p b) at made-event
+              each : (n : ℕ) (u : Bool) → (refs_now == n) ≡ u → (u || has (refs_in old_lanes p b).names n) ≡ true → event_of_entry (facts_in sys new_lanes) (entry p b n) ≡ cell_in new_lanes p b
+              each n true e k = let at : refs_now ≡ n = grind (arith, nat_tests) in subst (λ x. event_of_entry (facts_in sys new_lanes) (entry p b x) ≡ cell_in new_lanes p b) at made-event
               each n false e k =
                   event_of-stays sys before lane behind r _ is made-later hands old p b n h k ∙ (old.event p b h).same n k
                   ∙ sym (cell-stays sys before lane behind r _ is p b refl)

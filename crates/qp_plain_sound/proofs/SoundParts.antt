@@ -9,7 +9,7 @@ use Rattle.qp_model.specs.declared.systems.System.{System}
 use Rattle.qp_model.specs.Record.{Item, item_of, entry}
 use Rattle.qp_model.specs.Told.{Event}
 use Rattle.qp_model.specs.History.{Draws, touch, hist, total, is_numbered, all_items, lane_items}
-use Rattle.qp_model.specs.Knowing.{event_of, given_by}
+use Rattle.qp_model.specs.Knowing.{event_of_entry, given_by}
 use Rattle.qp_model.specs.WordLaw.{is_block}
 use Rattle.qp_model.proofs.WordLemmas.{all_items-split, all_items-grown}
 use Rattle.qp_model.proofs.KnowingLemmas.{IsLater, later-draws}
@@ -78,16 +78,16 @@ module _ (sys : System) (before : List (List Rec)) (lane : List Rec) (behind : L
   module _ (later : Later) (hands : List Token) (old : Sound sys old_lanes hands) where
     -- the event of a reference that stands stays
     pub event_of-stays : (q c n : ℕ) → IsTrue (is_block sys q c) → IsTrue (has (refs_in old_lanes q c).names n)
-        → event_of (facts_in sys new_lanes) (entry q c n) ≡ event_of (facts_in sys old_lanes) (entry q c n)
+        → event_of_entry (facts_in sys new_lanes) (entry q c n) ≡ event_of_entry (facts_in sys old_lanes) (entry q c n)
     event_of-stays q c n k stands =
         let below = (names-in sys old_lanes old.words q c k).below n stands in
         let long = refs-long sys old_lanes old.words q c k in
         let made : n < length (hist (word.Block q c) (all_items old_lanes)) = omega (arith, below, long) in
         let split : all_items old_lanes ≡ front ++ back = all_items-split before lane behind in
         let grown : all_items new_lanes ≡ front ++ i ∷ back = all_items-grown before lane behind r i is in
-        ap (λ z. event_of (record { sys = sys; items = z }) (entry q c n)) grown
+        ap (λ z. event_of_entry (record { sys = sys; items = z }) (entry q c n)) grown
         ∙ event-stays sys front i back later (entry q c n) (inr (subst (λ z. n < length (hist (word.Block q c) z)) split made))
-        ∙ sym (ap (λ z. event_of (record { sys = sys; items = z }) (entry q c n)) split)
+        ∙ sym (ap (λ z. event_of_entry (record { sys = sys; items = z }) (entry q c n)) split)
 
     -- so the events of a block that gets no reference stay
     pub event-kept : (q c : ℕ) → IsTrue (is_block sys q c) → life_in new_lanes q c ≡ life_in old_lanes q c → cell_in new_lanes q c ≡ cell_in old_lanes q c

@@ -19,7 +19,7 @@ use Rattle.qp_model.specs.Machine.{after}
 use Rattle.qp_model.specs.FreeBlocks.{free_blocks, pool_next}
 use Rattle.qp_model.specs.References.{references, refs_next}
 use Rattle.qp_model.specs.Line.{line, line_next}
-use Rattle.qp_model.specs.Knowing.{Facts, event_of, known_of, told, told_lane, ceiling_after, ceiling_over}
+use Rattle.qp_model.specs.Knowing.{Facts, event_of_entry, known_of, told, told_lane, ceiling_after, ceiling_over}
 use Rattle.qp_model.specs.Settled.{AllSettled, is_settled, all_settled, Settled}
 use Rattle.qp_model.specs.Sites.{ring_of, blocks_of}
 use Rattle.qp_model.specs.WordLaw.{is_object, is_block, is_pool}
@@ -378,11 +378,11 @@ module _ (sys : System) (lanes : List (List Rec)) (order : List ℕ) (at : ℕ) 
   unfolding is_made is_settled Settled
   made-before e h = settled-from (front ++ rest) (Took 0 0 0 e) h
 
-  pub event_of-still : (e : Entry) → is_made (all_items lanes) e ≡ true → event_of (facts_in sys more) e ≡ event_of (facts_in sys lanes) e
+  pub event_of-still : (e : Entry) → is_made (all_items lanes) e ≡ true → event_of_entry (facts_in sys more) e ≡ event_of_entry (facts_in sys lanes) e
   event_of-still e made =
-      ap (λ z. event_of (record { sys = sys; items = z }) e) items_after
+      ap (λ z. event_of_entry (record { sys = sys; items = z }) e) items_after
       ∙ event-stays sys front this rest (world.later sys lanes order at r o b old within is may) e (made-before e (subst (λ z. is_made z e ≡ true) items_before made))
-      ∙ sym (ap (λ z. event_of (record { sys = sys; items = z }) e) items_before)
+      ∙ sym (ap (λ z. event_of_entry (record { sys = sys; items = z }) e) items_before)
 
   event-still : (e : Entry) → is_made (all_items lanes) e ≡ true → event_in sys more e ≡ event_in sys lanes e
   unfolding event_in

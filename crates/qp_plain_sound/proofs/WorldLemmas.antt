@@ -19,7 +19,7 @@ use Rattle.qp_model.proofs.KnowingLemmas.{IsLater, known-stays, all_settled-stay
 use Rattle.qp_model.proofs.SettledLemmas.{all_settled-from, all_settled-to}
 use Rattle.qp_calls.specs.Tokens.{Token, hands_of, hands_by, hands_after}
 use Rattle.qp_calls.proofs.HandLemmas.{hands-append}
-use Rattle.qp_plain_sound.specs.Log.{lane_of, log_of, items_of, with_record}
+use Rattle.qp_plain_sound.specs.Log.{lane_of, log_of, items_placed, with_record}
 use Rattle.qp_plain_sound.specs.Sound.{Sound, SoundWorld, facts_in, hands_in, told_log, all_made, handles_made}
 use Rattle.qp_plain_sound.specs.May.{May}
 use Rattle.qp_plain_sound.proofs.Logs.{log-grows, orders-more, lanes-split, lanes-grown}
@@ -30,7 +30,7 @@ use Rattle.qp_plain_sound.proofs.LaterLemmas.{later-of, all_made-stays, settled-
 use Rattle.qp_model.proofs.ListLemmas.{all-push}
 
 -- what is told of a log stays
-pub told_log-stays : (sys : System) (xs : List Item) (i : Item) (ys : List Item) → IsLater xs i ys → (log : List Placed) → AllSettled (xs ++ ys) (items_of log)
+pub told_log-stays : (sys : System) (xs : List Item) (i : Item) (ys : List Item) → IsLater xs i ys → (log : List Placed) → AllSettled (xs ++ ys) (items_placed log)
     → told_log (record { sys = sys; items = xs ++ i ∷ ys }) log ≡ told_log (record { sys = sys; items = xs ++ ys }) log
 unfolding told_log told AllSettled
 told_log-stays sys xs i ys later [] settled = refl
@@ -105,8 +105,8 @@ module _ (sys : System) (lanes : List (List Rec)) (order : List ℕ) (at : ℕ) 
   words_grown = subst (λ ls. Words sys ls) is_grown sound_now.words
 
   -- The hands of the world.
-  logged_then : AllSettled (front ++ rest) (items_of (log_of lanes order))
-  logged_then = subst (λ z. AllSettled z (items_of (log_of lanes order))) items_before (all_settled-from (all_items lanes) (items_of (log_of lanes order)) world.logged)
+  logged_then : AllSettled (front ++ rest) (items_placed (log_of lanes order))
+  logged_then = subst (λ z. AllSettled z (items_placed (log_of lanes order))) items_before (all_settled-from (all_items lanes) (items_placed (log_of lanes order)) world.logged)
 
   told_then : told_log (facts_in sys (with_record lanes at r)) (log_of lanes order) ≡ told_log (facts_in sys lanes) (log_of lanes order)
   told_then =
@@ -138,13 +138,13 @@ module _ (sys : System) (lanes : List (List Rec)) (order : List ℕ) (at : ℕ) 
       subst (λ ls. handles_made (all_items ls) b ≡ true) (sym is_grown)
       (handled-now sys before lane behind r o b is hands sound_split world.few may_split words_grown)
 
-  next_now : is_next (items_of (log_of lanes order)) (touch_of o b) ≡ true
+  next_now : is_next (items_placed (log_of lanes order)) (touch_of o b) ≡ true
   next_now =
-      next-is (all_items lanes) (items_of (log_of lanes order)) (touch_of o b) (λ w. total-log w lanes order world.orders)
+      next-is (all_items lanes) (items_placed (log_of lanes order)) (touch_of o b) (λ w. total-log w lanes order world.orders)
       (next-of sys lanes world.sound.words hands o b may)
 
-  items_log : items_of (log_of (with_record lanes at r) (order ++ at ∷ [])) ≡ items_of (log_of lanes order) ++ this ∷ []
-  items_log = ap items_of log_now ∙ map-append (λ x. x.item) (log_of lanes order) (record { lane = at; item = this } ∷ [])
+  items_log : items_placed (log_of (with_record lanes at r) (order ++ at ∷ [])) ≡ items_placed (log_of lanes order) ++ this ∷ []
+  items_log = ap items_placed log_now ∙ map-append (λ x. x.item) (log_of lanes order) (record { lane = at; item = this } ∷ [])
 
   settled_all : (js : List Item) → IsTrue (all_settled (all_items lanes) js) → all_settled (front ++ this ∷ rest) js ≡ true
   settled_all js h =
@@ -161,12 +161,12 @@ module _ (sys : System) (lanes : List (List Rec)) (order : List ℕ) (at : ℕ) 
         (all-insert (λ j. is_settled (front ++ this ∷ rest) j.body) front this rest
         (subst (λ z. all_settled (front ++ this ∷ rest) z ≡ true) items_before (settled_all (all_items lanes) world.settled))
         (subst (λ z. is_settled z b ≡ true) items_after settled_this));
-    numbered = subst (λ is. in_order [] is ≡ true) (sym items_log) (in_order-push [] (items_of (log_of lanes order)) this world.numbered next_now);
+    numbered = subst (λ is. in_order [] is ≡ true) (sym items_log) (in_order-push [] (items_placed (log_of lanes order)) this world.numbered next_now);
     logged =
         subst (λ is. all_settled (all_items (with_record lanes at r)) is ≡ true) (sym items_log)
-        (subst (λ z. all_settled z (items_of (log_of lanes order) ++ this ∷ []) ≡ true) (sym items_after)
-        (all-push (λ j. is_settled (front ++ this ∷ rest) j.body) (items_of (log_of lanes order)) this
-        (settled_all (items_of (log_of lanes order)) world.logged) (subst (λ z. is_settled z b ≡ true) items_after settled_this)));
+        (subst (λ z. all_settled z (items_placed (log_of lanes order) ++ this ∷ []) ≡ true) (sym items_after)
+        (all-push (λ j. is_settled (front ++ this ∷ rest) j.body) (items_placed (log_of lanes order)) this
+        (settled_all (items_placed (log_of lanes order)) world.logged) (subst (λ z. is_settled z b ≡ true) items_after settled_this)));
     made =
         subst (λ z. all_made z z ≡ true) (sym items_after)
         (all-insert (λ j. handles_made (front ++ this ∷ rest) j.body) front this rest

@@ -14,7 +14,7 @@ use Rattle.qp_model.specs.Subscribers.{bits_of_set}
 use Rattle.qp_model.specs.WordLaw.{is_object}
 use Rattle.qp_calls.specs.Tokens.{Hold}
 use Rattle.qp_calls.specs.declared.tokens.Fresh.{Fresh}
-use Rattle.qp_calls.specs.declared.tokens.Entry.{Entry}
+use Rattle.qp_calls.specs.declared.tokens.HeldEntry.{HeldEntry}
 use Rattle.qp_calls.specs.declared.answers.Give.TheVariants as give
 use Rattle.qp_calls.specs.declared.answers.Dec.TheVariants as dec
 use Rattle.qp_calls.specs.declared.answers.Claim.TheVariants as claim
@@ -23,7 +23,7 @@ use Rattle.qp_calls.specs.declared.answers.Arm.TheVariants as armed
 use Rattle.qp_calls.specs.declared.answers.Tick.TheVariants as ticked
 use Rattle.qp_calls.specs.declared.answers.Counts as counts
 use Rattle.qp_calls.specs.LaneView.{NotShown, Purse}
-use Rattle.qp_calls.specs.Clauses.{Stands, StandsHold, StandsFresh, Gives, Makes, MakesMore, LetsGo, GoesBack, Claims, ClaimsFront, Takes, Sees, Counted, Subscribing, Unsubscribing, Reads, Arms, Disarms, Rearms, TicksOne, IsEvent, entry_of, shortage_of, refusal_of, last_nil, same_counts}
+use Rattle.qp_calls.specs.Clauses.{EntryStands, StandsHold, StandsFresh, GivesBlock, Makes, MakesMore, LetsGo, GoesBack, ClaimsEntry, ClaimsFront, Takes, Sees, Counted, Subscribing, Unsubscribing, ReadsSubscribers, Arms, Disarms, Rearms, TicksOne, IsEvent, entry_of, shortage_of, refusal_of, last_nil, same_counts}
 use Rattle.qp_calls.specs.Deferring.{is_named}
 use Rattle.qp_plain_sound.specs.WordStates.{pool_in, refs_in, line_in, set_in, clock_in, cell_in}
 use Rattle.qp_plain_sound.specs.May.{MayGive, IsPool, IsQueue, IsSignal, IsTimer}
@@ -38,14 +38,14 @@ abbrev pub GiveIsDone : Type 0
 GiveIsDone =
     (s : Step) (p n b from : ℕ) (ev : Event) (reserve : Option ℕ) → Extends s s.by (New p n b from ev.sig ev.pars)
     → MayGive s.sys s.lanes p n b from ev → unwrap_or reserve 0 < length (pool_in s.sys s.lanes p).free
-    → Gives p reserve ev (before s) (behind s) (give.Given (record { pool = p; block = b; used = false }))
+    → GivesBlock p reserve ev (before s) (behind s) (give.Given (record { pool = p; block = b; used = false }))
 
 -- none is, where at most the reserve is free
 abbrev pub GiveIsRefused : Type 0
 GiveIsRefused =
     (s : Step) (p n free : ℕ) (ev : Event) (reserve : Option ℕ) → Extends s s.by (shortage_of reserve p n free)
     → IsPool s.sys s.lanes p n free → free ≤ unwrap_or reserve 0
-    → Gives p reserve ev (before s) (behind s) (give.Short n free)
+    → GivesBlock p reserve ev (before s) (behind s) (give.Short n free)
 
 -- the first reference
 abbrev pub FirstIsDone : Type 0
@@ -104,36 +104,36 @@ HeldHasEvent =
 -- an entry is posted, where more entries are free than the margin
 abbrev pub ClaimIsDone : Type 0
 ClaimIsDone =
-    (s : Step) (to f l m : ℕ) (e : Entry) (margin : Option ℕ) → Extends s s.by (Post to (f + 1) l m (entry_of e))
-    → Stands e (before s)
+    (s : Step) (to f l m : ℕ) (e : HeldEntry) (margin : Option ℕ) → Extends s s.by (Post to (f + 1) l m (entry_of e))
+    → EntryStands e (before s)
     → IsQueue s.sys s.lanes to f l m
     → unwrap_or margin 0 < ring_of s.sys to + 1 - length (line_in s.sys s.lanes to).entries
-    → Claims to e margin (before s) (behind s) claim.Done
+    → ClaimsEntry to e margin (before s) (behind s) claim.Done
 
 abbrev pub ClaimIsRefused : Type 0
 ClaimIsRefused =
-    (s : Step) (to f l m : ℕ) (e : Entry) (margin : Option ℕ) → Extends s s.by (refusal_of margin to f l m)
+    (s : Step) (to f l m : ℕ) (e : HeldEntry) (margin : Option ℕ) → Extends s s.by (refusal_of margin to f l m)
     → IsQueue s.sys s.lanes to f l m
     → ring_of s.sys to + 1 - length (line_in s.sys s.lanes to).entries ≤ unwrap_or margin 0
-    → Claims to e margin (before s) (behind s) (claim.Short e f l m)
+    → ClaimsEntry to e margin (before s) (behind s) (claim.Short e f l m)
 
 -- the same last-in, to the queue of the object set by `by`
 abbrev pub LifoIsDone : Type 0
 LifoIsDone =
-    (s : Step) (f l m : ℕ) (e : Entry) → Extends s s.by (Lifo f (l + 1) m (entry_of e)) → Stands e (before s)
+    (s : Step) (f l m : ℕ) (e : HeldEntry) → Extends s s.by (Lifo f (l + 1) m (entry_of e)) → EntryStands e (before s)
     → IsQueue s.sys s.lanes s.by f l m → length (line_in s.sys s.lanes s.by).entries ≤ ring_of s.sys s.by
     → ClaimsFront e (before s) (behind s) claim.Done
 
 abbrev pub LifoIsRefused : Type 0
 LifoIsRefused =
-    (s : Step) (f l m : ℕ) (e : Entry) → Extends s s.by (NoLifo s.by f l m) → IsQueue s.sys s.lanes s.by f l m
+    (s : Step) (f l m : ℕ) (e : HeldEntry) → Extends s s.by (NoLifo s.by f l m) → IsQueue s.sys s.lanes s.by f l m
     → length (line_in s.sys s.lanes s.by).entries ≡ ring_of s.sys s.by + 1
     → ClaimsFront e (before s) (behind s) (claim.Short e f l m)
 
 -- the front entry is taken
 abbrev pub TakeIsDone : Type 0
 TakeIsDone =
-    (s : Step) (me f l m : ℕ) (e : Entry) (others : List model.Entry) → Extends s me (Took f l (m + 1) (entry_of e))
+    (s : Step) (me f l m : ℕ) (e : HeldEntry) (others : List model.Entry) → Extends s me (Took f l (m + 1) (entry_of e))
     → IsTrue (is_named s.sys e)
     → IsQueue s.sys s.lanes me f l m → (line_in s.sys s.lanes me).entries ≡ entry_of e ∷ others
     → Takes me (before s) (behind s) (take.Taken e)
@@ -196,7 +196,7 @@ abbrev pub SubscribersAreRead : Type 0
 SubscribersAreRead =
     (s : Step) (sig n set : ℕ) → Extends s s.by (Pub sig n set) → IsSignal s.sys s.lanes sig n
     → set ≡ bits_of_set (set_in s.lanes sig).members
-    → Reads sig (before s) (behind s) set
+    → ReadsSubscribers sig (before s) (behind s) set
 
 -- Time events.
 

@@ -9,7 +9,7 @@ use Rattle.qp_model.specs.declared.bodies.Body.{Body}
 use Rattle.qp_model.specs.Record.{Item, item_of, entry}
 use Rattle.qp_model.specs.Ends.{is_spill}
 use Rattle.qp_model.specs.Told.{ToldItem, for_object}
-use Rattle.qp_model.specs.Knowing.{event_of, records_of, told, told_alone, told_lane}
+use Rattle.qp_model.specs.Knowing.{event_of_entry, records_of, told, told_alone, told_lane}
 use Rattle.qp_model.specs.History.{lane_items, all_items, total}
 use Rattle.qp_model.specs.Places.{in_order}
 use Rattle.qp_model.specs.End.{lines_empty, blocks_rest}
@@ -20,7 +20,7 @@ use Rattle.qp_calls.specs.LaneView.{Gains, GrowsOf, IsNew, LaneView, Purse, ceil
 use Rattle.qp_calls.specs.Tokens.{Hold, Token, hands_by}
 use Rattle.qp_calls.specs.LaneLaws.{IsWithinLimit, HasCauses}
 use Rattle.qp_calls.specs.Notes.{MayNote, MayStop, told_note, stop_code}
-use Rattle.qp_plain_sound.specs.Log.{Orders, empty_lanes, lane_of, log_of, items_of}
+use Rattle.qp_plain_sound.specs.Log.{Orders, empty_lanes, lane_of, log_of, items_placed}
 use Rattle.qp_plain_sound.specs.Sound.{Sound, SoundWorld, facts_in, hands_in}
 use Rattle.qp_plain_sound.specs.Step.{Step, Grown, before, behind, MayCome}
 use Rattle.qp_plain_sound.specs.Ending.{BlockStands, OnlyDeferred}
@@ -59,7 +59,7 @@ NoteIsAdded =
 abbrev pub LanesAreTheLog : Type 0
 LanesAreTheLog =
     (lanes : List (List Rec)) (order : List ℕ) → Orders lanes order → (a : ℕ)
-    → items_of (filter (λ x. x.lane == a) (log_of lanes order)) ≡ lane_items (lane_of lanes a)
+    → items_placed (filter (λ x. x.lane == a) (log_of lanes order)) ≡ lane_items (lane_of lanes a)
 
 abbrev pub LogGrowsAtItsEnd : Type 0
 LogGrowsAtItsEnd =
@@ -71,7 +71,7 @@ LogGrowsAtItsEnd =
 abbrev pub LogIsNumbered : Type 0
 LogIsNumbered =
     (sys : System) (lanes : List (List Rec)) (order : List ℕ) → SoundWorld sys lanes order
-    → IsTrue (in_order [] (items_of (log_of lanes order)))
+    → IsTrue (in_order [] (items_placed (log_of lanes order)))
 
 -- What contracts see of lane `at` is what the law book has of all records: the law of all words, what is told beside
 -- each record, the marks, the records of each object, and the events of references in the hands. Each lane sees the same
@@ -83,7 +83,7 @@ pub record ByTheBook (sys : System) (lanes : List (List Rec)) (order : List ℕ)
   pub objects : (o : ℕ)
       → records_of (facts_in sys lanes) o 0 (lane_items (lane_of lanes at)) ≡ told_alone (filter (λ t. t.of == o) v.told)
   pub events : (h : Hold) → StandsHold h v
-      → event_of (facts_in sys lanes) (entry h.pool h.block h.name) ≡ Some (v.event (entry h.pool h.block h.name))
+      → event_of_entry (facts_in sys lanes) (entry h.pool h.block h.name) ≡ Some (v.event (entry h.pool h.block h.name))
   pub hands : (k : ℕ) → (view_of sys lanes order k 0 0 [] [] []).hands ≡ v.hands
 
 abbrev pub ToldByTheBook : Type 0

@@ -26,8 +26,8 @@ log_of lanes [] = []
 log_of lanes (a ∷ order) = first_placed a (lane_of lanes a) (log_of (slice_set lanes a (drop 1 (lane_of lanes a))) order)
 
 -- without the lanes
-abbrev pub items_of : List Placed → List Item
-items_of log = map (λ x. x.item) log
+abbrev pub items_placed : List Placed → List Item
+items_placed log = map (λ x. x.item) log
 
 -- the order names each lane as often as it has records
 abbrev pub Orders : List (List Rec) → List ℕ → Type 0

@@ -14,7 +14,7 @@ use Rattle.qp_model.specs.OneOrder.{Placed}
 use Rattle.qp_model.specs.Places.{in_order}
 use Rattle.qp_model.specs.Told.{Event, ToldItem, for_object}
 use Rattle.qp_model.specs.History.{hist, all_items}
-use Rattle.qp_model.specs.Knowing.{Facts, event_of, told}
+use Rattle.qp_model.specs.Knowing.{Facts, event_of_entry, told}
 use Rattle.qp_model.specs.Settled.{all_settled}
 use Rattle.qp_model.specs.References.{Refs}
 use Rattle.qp_model.specs.Lives.{Life}
@@ -23,7 +23,7 @@ use Rattle.qp_model.specs.WordLaw.{Words, is_block, is_object, is_signal}
 use Rattle.qp_calls.specs.Tokens.{Token, Held, Loose, same_token, token_of, hands_after}
 use Rattle.qp_calls.specs.Counting.{times, count_of}
 use Rattle.qp_calls.specs.Clauses.{params_of}
-use Rattle.qp_plain_sound.specs.Log.{Orders, log_of, items_of}
+use Rattle.qp_plain_sound.specs.Log.{Orders, log_of, items_placed}
 use Rattle.qp_plain_sound.specs.WordStates.{refs_in, life_in, line_in, set_in, cell_in}
 
 -- the facts of a world
@@ -88,7 +88,7 @@ BlockIn sys lanes hands p b =
 pub record EventIn (sys : System) (lanes : List (List Rec)) (p b : ℕ) : Type 0 where
   pub good : (life_in lanes p b).out ≡ true → IsTrue (option_map_or (is_event sys) (cell_in lanes p b) false)
   pub same : (r : ℕ) → IsTrue (has (refs_in lanes p b).names r)
-      → event_of (facts_in sys lanes) (entry p b r) ≡ cell_in lanes p b
+      → event_of_entry (facts_in sys lanes) (entry p b r) ≡ cell_in lanes p b
 
 -- All words keep their laws, and the tokens are what the words say.
 pub record Sound (sys : System) (lanes : List (List Rec)) (hands : List Token) : Type 0 where
@@ -137,10 +137,10 @@ pub record SoundWorld (sys : System) (lanes : List (List Rec)) (order : List ℕ
   pub orders : Orders lanes order
   pub sound : Sound sys lanes (hands_in sys lanes order)
   -- each number drawn or shown is that of the word's operations so far
-  pub numbered : IsTrue (in_order [] (items_of (log_of lanes order)))
+  pub numbered : IsTrue (in_order [] (items_placed (log_of lanes order)))
   -- what is known beside a record stays
   pub settled : IsTrue (all_settled (all_items lanes) (all_items lanes))
-  pub logged : IsTrue (all_settled (all_items lanes) (items_of (log_of lanes order)))
+  pub logged : IsTrue (all_settled (all_items lanes) (items_placed (log_of lanes order)))
   pub made : IsTrue (all_made (all_items lanes) (all_items lanes))
   -- what the system has
   pub few : (a : ℕ) → IsTrue (is_object sys a) → a < queues

@@ -9,7 +9,7 @@ use Rattle.qp_model.specs.declared.bodies.Entry.{Entry}
 use Rattle.qp_model.specs.Told.{Event, ToldItem}
 use Rattle.qp_model.specs.Line.{Line}
 use Rattle.qp_model.specs.History.{all_items, lane_items, total}
-use Rattle.qp_model.specs.Knowing.{event_of, told_lane}
+use Rattle.qp_model.specs.Knowing.{event_of_entry, told_lane}
 use Rattle.qp_calls.specs.LaneView.{LaneView, Aside, Purse, Own, Shown, FreeBlocks, References, Counts, NotShown}
 use Rattle.qp_plain_sound.specs.Log.{lane_of, log_of}
 use Rattle.qp_plain_sound.specs.WordStates.{pool_in, refs_in, line_in}
@@ -28,8 +28,8 @@ shown_in sys lanes _ = NotShown
 
 -- the event of an entry; any other entry has none
 unfoldable pub event_in : System → List (List Rec) → Entry → Event
-unfolding event_of all_items
-event_in sys lanes e = unwrap_or (event_of (facts_in sys lanes) e) (record { sig = 0; pars = [] })
+unfolding event_of_entry all_items
+event_in sys lanes e = unwrap_or (event_of_entry (facts_in sys lanes) e) (record { sig = 0; pars = [] })
 
 -- the last-in posts and takes of a queue, among the world's records
 abbrev pub own_of_line : Line → Own

@@ -9,7 +9,7 @@ use Rattle.qp_model.specs.Record.{item_of}
 use Rattle.qp_model.specs.Shapes.{ticks_fit}
 use Rattle.std.specs.List.{list_all}
 use Rattle.std.proofs.lemmas.Bool.{and_parts}
-use Rattle.qp_calls.specs.declared.tokens.Entry.{Entry}
+use Rattle.qp_calls.specs.declared.tokens.HeldEntry.{HeldEntry}
 use Rattle.qp_calls.specs.declared.deferred.Deferred.{Deferred}
 use Rattle.qp_calls.specs.declared.answers.RoomFault.{RoomFault}
 use Rattle.qp_calls.specs.Notes.{MayNote, told_note}
@@ -26,10 +26,10 @@ use Rattle.qp_calls.specs.LaneView.{LaneView, GrowsOf, Roomier}
 use Rattle.qp_calls.specs.Tokens.{hands_after, hands_by}
 use Rattle.qp_calls.specs.Clauses.{Arms, entry_of, Disarms, Rearms, Subscribing, Unsubscribing}
 use Rattle.qp_calls.specs.Entries.{is_value}
-use Rattle.qp_calls.specs.Groups.{Answers, DoesCall}
+use Rattle.qp_calls.specs.Groups.{CallAnswers, DoesCall}
 use Rattle.qp_plain_tests.specs.Desk.{GoesOnAfter, MayGoOn, StaysSteady, Steady}
 
-pub answers-steady : (sys : System) (o : ℕ) (now : Option model.Entry) (c : Call) (d : Did) (v w : LaneView) → Answers sys o now c d v w → is_value d ≡ true → Steady v w
+pub answers-steady : (sys : System) (o : ℕ) (now : Option model.Entry) (c : Call) (d : Did) (v w : LaneView) → CallAnswers sys o now c d v w → is_value d ≡ true → Steady v w
 answers-steady sys o now c d v w a value = record { sys = a.grows.sys; serves = a.grows.serves; hands = a.hands value }
 
 -- one record more, which is of no token, where there was room
@@ -88,7 +88,7 @@ pub ok-of : {T E : Type 0} (P : Type 0) (x : T) (r : Result T E) → Some x ≡ 
 ok-of P x (Ok y) e h = h
 ok-of P x (Err f) e h = absurd (cc)
 
-pub steady-goes : (sys : System) (entries : List Entry) (v w : LaneView) → MayGoOn sys entries v → Steady v w → MayGoOn sys entries w
+pub steady-goes : (sys : System) (entries : List HeldEntry) (v w : LaneView) → MayGoOn sys entries v → Steady v w → MayGoOn sys entries w
 steady-goes sys entries v w may s = record {
   sound = may.sound;
   its = s.sys ∙ may.its;
@@ -96,17 +96,17 @@ steady-goes sys entries v w may s = record {
   stand = stand-same entries v w may.stand s.hands s.sys;
 }
 
-pub goes-steady : (sys : System) (now : Entry) (list : Deferred) (v w : LaneView) (d : Option Did) → MayGoOn sys (now ∷ list.entries.items) v → StaysSteady v w d → GoesOnAfter sys now list w d
+pub goes-steady : (sys : System) (now : HeldEntry) (list : Deferred) (v w : LaneView) (d : Option Did) → MayGoOn sys (now ∷ list.entries.items) v → StaysSteady v w d → GoesOnAfter sys now list w d
 goes-steady sys now list v w None may s = s
 goes-steady sys now list v w (Some d) may s = λ value. steady-goes sys (now ∷ list.entries.items) v w may (s value)
 
-pub goes-call : (sys : System) (now : Entry) (list : Deferred) (hand : Option model.Entry) (c : Call) (r : Result Did RoomFault) (v w : LaneView)
+pub goes-call : (sys : System) (now : HeldEntry) (list : Deferred) (hand : Option model.Entry) (c : Call) (r : Result Did RoomFault) (v w : LaneView)
     → MayGoOn sys (now ∷ list.entries.items) v → DoesCall hand c v w r → GoesOnAfter sys now list w (result_ok r)
 goes-call sys now list hand c (Ok d) v w may a = λ value. steady-goes sys (now ∷ list.entries.items) v w may (answers-steady v.sys v.by hand c d v w a value)
 goes-call sys now list hand c (Err fault) v w may a = tt
 
 -- the list changes, and with it the hands: the entry at hand still stands beside it
-goes-kept : (sys : System) (now : Entry) (list more : Deferred) (hand : Option model.Entry) (c : Call) (d : Did) (v w : LaneView)
+goes-kept : (sys : System) (now : HeldEntry) (list more : Deferred) (hand : Option model.Entry) (c : Call) (d : Did) (v w : LaneView)
     → MayGoOn sys (now ∷ list.entries.items) v → AnswersKept hand c d list more v w → is_value d ≡ true → MayGoOn sys (now ∷ more.entries.items) w
 goes-kept sys now list more hand c d v w may a value = record {
   sound = may.sound;
@@ -125,12 +125,12 @@ goes-kept sys now list more hand c d v w may a value = record {
   };
 }
 
-pub goes-list : (sys : System) (now : Entry) (list more : Deferred) (hand : Option model.Entry) (c : Call) (r : Result Did RoomFault) (v w : LaneView)
+pub goes-list : (sys : System) (now : HeldEntry) (list more : Deferred) (hand : Option model.Entry) (c : Call) (r : Result Did RoomFault) (v w : LaneView)
     → MayGoOn sys (now ∷ list.entries.items) v → DefersCall hand c list more v w r → GoesOnAfter sys now more w (result_ok r)
 goes-list sys now list more hand c (Ok d) v w may a = λ value. goes-kept sys now list more hand c d v w may a value
 goes-list sys now list more hand c (Err fault) v w may a = tt
 
-pub goes-flush : (sys : System) (now : Entry) (list more : Deferred) (c : Call) (r : Result Did RoomFault) (v w : LaneView)
+pub goes-flush : (sys : System) (now : HeldEntry) (list more : Deferred) (c : Call) (r : Result Did RoomFault) (v w : LaneView)
     → MayGoOn sys (now ∷ list.entries.items) v → FlushesAll list more v w r → GoesOnAfter sys now more w (result_ok r)
 goes-flush sys now list more c (Ok d) v w may a = λ value. goes-kept sys now list more None _ d v w may a value
 goes-flush sys now list more c (Err fault) v w may a = tt

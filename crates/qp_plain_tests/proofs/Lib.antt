@@ -1,3 +1,7 @@
 mod DeedLemmas
 mod DeskLemmas
 mod HandlerLemmas
+mod StepLanes
+mod ActorLemmas
+pub mod NewWorlds
+mod StimulusLanes

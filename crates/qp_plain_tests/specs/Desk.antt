@@ -4,7 +4,7 @@ use Rattle.std.specs.declared.option.Option.{Option}
 use Rattle.qp_model.specs.declared.systems.System.{System}
 use Rattle.qp_model.specs.declared.systems.TimerDef.{TimerDef}
 use Rattle.qp_model.specs.Sound.{IsSound}
-use Rattle.qp_calls.specs.declared.tokens.Entry.{Entry}
+use Rattle.qp_calls.specs.declared.tokens.HeldEntry.{HeldEntry}
 use Rattle.qp_calls.specs.declared.deferred.Deferred.{Deferred}
 use Rattle.qp_calls.specs.declared.did.Did.{Did}
 use Rattle.qp_calls.specs.LaneView.{LaneView, ceiling_in}
@@ -22,7 +22,7 @@ pub record Steady (v w : LaneView) : Type 0 where
   pub hands : w.hands ≡ v.hands
 
 -- the lane is of this sound system, serves all objects, and may be handed these entries
-pub record MayGoOn (sys : System) (entries : List Entry) (v : LaneView) : Type 0 where
+pub record MayGoOn (sys : System) (entries : List HeldEntry) (v : LaneView) : Type 0 where
   pub sound : IsSound sys
   pub its : v.sys ≡ sys
   pub serves : (o : ℕ) → IsTrue (v.serves o)
@@ -49,12 +49,12 @@ EndsIt e v w None = ⊤
 EndsIt e v w (Some d) = is_value d ≡ true → Without e v w
 
 -- a test may go on after a value
-abbrev pub GoesOnAfter : System → Entry → Deferred → LaneView → Option Did → Type 0
+abbrev pub GoesOnAfter : System → HeldEntry → Deferred → LaneView → Option Did → Type 0
 GoesOnAfter sys now list w None = ⊤
 GoesOnAfter sys now list w (Some d) = is_value d ≡ true → MayGoOn sys (now ∷ list.entries.items) w
 
 -- a test may go on unless something ended it
-abbrev pub MayStillGoOn : System → List Entry → LaneView → End → Type 0
+abbrev pub MayStillGoOn : System → List HeldEntry → LaneView → End → Type 0
 MayStillGoOn sys entries w ended.Whole = MayGoOn sys entries w
 MayStillGoOn sys entries w _ = ⊤
 

@@ -3,14 +3,14 @@
 ghost use Rattle.std.specs.Prelude.{◌≡◌, ℕ, ◌∷◌, IfSome, IsTrue, true};
 ghost use Rattle.qp_model.specs.Sound.{IsSound};
 ghost use Rattle.qp_model.specs.WordLaw.{is_object};
-ghost use Rattle.qp_calls.specs.Clauses.{IsEvent, Stands, event_of};
+ghost use Rattle.qp_calls.specs.Clauses.{IsEvent, EntryStands, event_of};
 ghost use Rattle.qp_plain_tests.specs.Desk.{GoesOnAfter, MayGoOn, OwnsTimer, StaysSteady};
 
 use crate::handlers::announce;
 use arrayvec::ArrayVec;
 use qp_base::{Ev, Steps};
 use qp_calls::{
-    Arm, Deferred, Did, Entry, Ops, defer, flush, forward, lifo_new, post_new, post_static,
+    Arm, Deferred, Did, HeldEntry, Ops, defer, flush, forward, lifo_new, post_new, post_static,
     publish, recall, tick_rate,
 };
 use qp_model::{Rec, System};
@@ -194,12 +194,12 @@ fn say<O: Ops>(ops: &mut O, o: u8, value: i64) -> Option<Did>
 }
 
 /// Notes the first parameter of an event.
-fn say_first<O: Ops>(ops: &mut O, sys: &System, now: &Entry) -> Option<Did>
+fn say_first<O: Ops>(ops: &mut O, sys: &System, now: &HeldEntry) -> Option<Did>
     requires its { (O.lane ops.old).sys ≡ sys.now }
-    requires stands { Stands now.now (O.lane ops.old) }
+    requires stands { EntryStands now.now (O.lane ops.old) }
     ensures { StaysSteady (O.lane ops.old) (O.lane ops.new) result }
 {
-    let Entry::Pool(h) = now else {
+    let HeldEntry::Pool(h) = now else {
         return None;
     };
     let sig = ops.sig(h);
@@ -227,7 +227,7 @@ pub(crate) fn perform<O: Ops, L: Ledger>(
     ops: &mut O,
     sys: &System,
     list: &mut Deferred,
-    now: &Entry,
+    now: &HeldEntry,
     deed: &Deed,
     ok: u16,
     steps: &mut Steps<L>,

@@ -7,7 +7,7 @@ ghost use Rattle.qp_plain_tests.specs.Desk.{MayGoOn, MayStillGoOn};
 use crate::deeds::{Deed, has_object, perform};
 use crate::ends::End;
 use qp_base::Steps;
-use qp_calls::{Deferred, Did, Entry, Ops, Take, end_step};
+use qp_calls::{Deferred, Did, HeldEntry, Ops, Take, end_step};
 use qp_model::{Rec, System};
 use qp_plain::PlainWorld;
 use std::sync::Wait;
@@ -61,7 +61,7 @@ fn work<O: Ops, L: Ledger>(
     ops: &mut O,
     sys: &System,
     list: &mut Deferred,
-    now: &Entry,
+    now: &HeldEntry,
     deeds: &[Deed],
     steps: &mut Steps<L>,
 ) -> End
@@ -95,7 +95,7 @@ fn work_outside<O: Ops, L: Ledger>(
         return End::Refused;
     }
     let former = ops.by(me);
-    match work(ops, sys, list, &Entry::Static(4), deeds, steps) {
+    match work(ops, sys, list, &HeldEntry::Static(4), deeds, steps) {
         End::Whole => {
             let _ = ops.by(former);
             End::Whole
@@ -135,7 +135,7 @@ fn step_on<O: Ops, L: Ledger>(
     sys: &System,
     list: &mut Deferred,
     me: u8,
-    e: Entry,
+    e: HeldEntry,
     deeds: &[Deed],
     steps: &mut Steps<L>,
 ) -> End

@@ -6,7 +6,7 @@ ghost use Rattle.qp_plain_words.specs.Queue.{TakesFront, empty_line, is_token};
 
 use circular_buffer::HeapCircularBuffer;
 use qp_base::Memory;
-use qp_calls::{Counts, Entry};
+use qp_calls::{Counts, HeldEntry};
 use std::alloc::Global;
 use std::marker::Model;
 
@@ -15,7 +15,7 @@ use std::marker::Model;
 /// Contracts see what the law book has of a queue, and the length of its ring.
 #[derive(Drop)]
 pub struct QueueWord {
-    entries: HeapCircularBuffer<Entry>,
+    entries: HeapCircularBuffer<HeldEntry>,
     f: u32,
     l: u32,
     m: u32,
@@ -78,7 +78,7 @@ impl QueueWord {
     }
 
     /// Appends an entry, for which there is room.
-    pub fn post(&mut self, e: Entry)
+    pub fn post(&mut self, e: HeldEntry)
         requires room { length self.old.line.entries ≤ self.old.ring }
         requires few { self.old.line.f < 4294967295 }
         requires token { is_token e ≡ true }
@@ -90,7 +90,7 @@ impl QueueWord {
     }
 
     /// Puts an entry in front, for which there is room.
-    pub fn post_front(&mut self, e: Entry)
+    pub fn post_front(&mut self, e: HeldEntry)
         requires room { length self.old.line.entries ≤ self.old.ring }
         requires few { self.old.line.l < 4294967295 }
         requires token { is_token e ≡ true }
@@ -102,7 +102,7 @@ impl QueueWord {
     }
 
     /// Takes the front entry. None exactly where the queue is empty.
-    pub fn take(&mut self) -> Option<Entry>
+    pub fn take(&mut self) -> Option<HeldEntry>
         requires few { self.old.line.m < 4294967295 }
         ensures ring { self.new.ring ≡ self.old.ring }
         ensures takes { TakesFront self.old.line self.new.line result }

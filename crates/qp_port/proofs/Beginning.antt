@@ -10,15 +10,15 @@ use Rattle.qp_stim.specs.Rules.{StimuliFit}
 use Rattle.qp_calls.specs.LaneView.{LaneView}
 use Rattle.qp_dispatch.specs.declared.objects.Turn.{Turn}
 use Rattle.qp_dispatch.specs.declared.objects.Turn.TheVariants as turn
-use Rattle.qp_port_workers.specs.Turns.{AreReady}
+use Rattle.qp_port_phases.specs.Turns.{AreReady}
 use Rattle.qp_port_phases.specs.Lanes.{AreTogether}
-use Rattle.qp_port_home.specs.At.{IsMade}
-use Rattle.qp_port_cursor.proofs.Feeding.{fed-new}
-use Rattle.qp_port_cursor.proofs.Standing.{new-stand}
+use Rattle.qp_port_lanes.specs.At.{IsMade}
+use Rattle.qp_port_lanes.proofs.Feeding.{fed-new}
+use Rattle.qp_port_lanes.proofs.Standing.{new-stand}
 use Rattle.qp_port.specs.declared.job.Job.{Job}
 use Rattle.qp_port.specs.declared.job.Job.TheVariants as job
 use Rattle.qp_port.specs.Jobs.{JobBegins}
-use Rattle.qp_port.specs.Making.{AreAllMade, HomesMade, IsFresh, IsHomeMade, IsSourceMade, MadesHome, MadesNothing, MadesSource, SourcesMade}
+use Rattle.qp_port.specs.Making.{AreAllMade, HomesMade, IsFreshWorker, IsHomeMade, IsSourceMade, MadesHome, MadesNothing, MadesSource, SourcesMade}
 use Rattle.qp_port.specs.Rows.{AreNew, AreNewLanes, AreWorkers, IsHomeOf, IsNewOf, IsNothing, IsRow, IsSourceOf}
 use Rattle.qp_port.specs.Workers.{MayBegin}
 
@@ -41,7 +41,7 @@ lanes-long sys stimuli [] h = absurd h
 lanes-long sys stimuli (v ∷ vs) h = let others = new-long sys v.world sys.objects stimuli vs h.1 in omega (arith, others)
 
 module _ (sys : System) (stimuli : List (List Stim)) (budget : ℕ) (sound : IsSound sys) (fit : StimuliFit sys stimuli) (few : budget ≤ 1000000) where
-  fresh-begin : (s : System) (b : ℕ) (t : Turn) (x : Job) (v : LaneView) → IsFresh sys budget s b t → JobBegins sys x v → v.stops ≡ [] → MayBegin s b t x v
+  fresh-begin : (s : System) (b : ℕ) (t : Turn) (x : Job) (v : LaneView) → IsFreshWorker sys budget s b t → JobBegins sys x v → v.stops ≡ [] → MayBegin s b t x v
   fresh-begin s b t x v fresh h none = record {
     sound = subst IsSound (sym fresh.sys_is) sound;
     few = let same = fresh.budget_is in omega (arith, same, few);

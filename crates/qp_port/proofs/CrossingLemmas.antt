@@ -12,8 +12,8 @@ use Rattle.qp_dispatch.specs.contracts.steps.Position as position
 use Rattle.qp_dispatch.specs.contracts.objects.Object as object
 use Rattle.qp_dispatch.specs.contracts.objects.Turn as turn
 use Rattle.qp_model.specs.contracts.stimulus.Stimuli as stimuli
-use Rattle.qp_port_home.specs.contracts.home.Home as home
-use Rattle.qp_port_cursor.specs.contracts.cursor.Cursor as cursor
+use Rattle.qp_port_lanes.specs.contracts.home.Home as home
+use Rattle.qp_port_lanes.specs.contracts.cursor.Cursor as cursor
 use Rattle.qp_port.specs.contracts.job.Job as job
 use Rattle.qp_port.specs.contracts.worker.PortWorker as worker
 

@@ -33,21 +33,21 @@ use Rattle.qp_kernel.specs.Stages.{ComesTo}
 use Rattle.qp_kernel.specs.ZeroEnds.{own_told}
 use Rattle.qp_kernel_end.specs.declared.rest.Rest.{Rest}
 use Rattle.qp_kernel_end.specs.Rests.{IsRestIn, IsRestOf}
-use Rattle.qp_port_workers.specs.Turns.{AreReady}
+use Rattle.qp_port_phases.specs.Turns.{AreReady}
 use Rattle.qp_port_phases.specs.Quiet.{AllBelow, AreEmpty, HasEnded, IsEmpty}
-use Rattle.qp_port_quiet.specs.Laws.{IsLastLook}
-use Rattle.qp_port_quiet.specs.Sealed.{IsLaneAt}
+use Rattle.qp_port_law.specs.QuietLaws.{IsLastLook}
+use Rattle.qp_port_law.specs.Sealed.{IsLaneAt}
 use Rattle.qp_port_law.specs.Homes.{HomeEnds}
 use Rattle.qp_port_law.specs.HomesRest.{RestsWith}
 use Rattle.qp_port_law.specs.SourcesLeft.{SourceLeaves}
 use Rattle.qp_port_law.proofs.HomePlaces.{below-next, nothing-before}
 use Rattle.qp_model.proofs.HomeLemmas.{AreBelow}
-use Rattle.qp_port_home.specs.declared.home.Home.{Home}
-use Rattle.qp_port_home.specs.At.{IsHome}
-use Rattle.qp_port_home.proofs.Resting.{home-of}
-use Rattle.qp_port_sealed.specs.Lanes.{AreAtRest, HaveNone, HomesAre, SourcesAre}
-use Rattle.qp_port_sealed.specs.Rests.{AreTold}
-use Rattle.qp_port_cursor.proofs.Standing.{done-end}
+use Rattle.qp_port_lanes.specs.declared.home.Home.{Home}
+use Rattle.qp_port_lanes.specs.At.{IsHome}
+use Rattle.qp_port_lanes.proofs.Resting.{home-of}
+use Rattle.qp_port_law.specs.Lanes.{AreAtRest, HaveNone, HomesAre, SourcesAre}
+use Rattle.qp_port_law.specs.Rests.{AreTold}
+use Rattle.qp_port_lanes.proofs.Standing.{done-end}
 use Rattle.qp_port.specs.declared.job.Job.{Job}
 use Rattle.qp_port.specs.declared.job.Job.TheVariants as job
 use Rattle.qp_port.specs.Ends.{HasRun}

@@ -22,9 +22,9 @@ use Rattle.qp_kernel.specs.ZeroEnds.{cut_in}
 use Rattle.qp_kernel.proofs.WaitLemmas.{follows-resting}
 use Rattle.qp_calls.specs.LaneView.{Own}
 use Rattle.qp_port_law.specs.Homes.{HomeEnds, home_told, is_spent_home}
-use Rattle.qp_port_home_law.specs.HomeLanes.{LooksOnce, looks_in}
-use Rattle.qp_port_home_law.specs.Laws.{IsHomeOf, Rests}
-use Rattle.qp_port_home_law.proofs.HomeRecords.{ends-asserts}
+use Rattle.qp_port_law.specs.HomeLanes.{LooksOnce, looks_in}
+use Rattle.qp_port_law.specs.HomeLaws.{IsHomeOf, HomeRests}
+use Rattle.qp_port_law.proofs.HomeRecords.{ends-asserts}
 
 looks-differ : (looked : Bool) (own : Own) (xs : List (ℕ × ℕ × ℕ)) → LooksOnce looked own xs → all_differ xs ≡ true
 unfolding all_differ
@@ -33,7 +33,7 @@ looks-differ true own xs h = subst (λ x. all_differ x ≡ true) (sym h.1) refl
 
 -- It is whole.
 pub quiet-home : (sys : System) (d : ObjectDef) (chart : Chart) (budget end : ℕ) (own : Own) (looked : Bool) (told : List ToldItem) (es : List Entry) (c : Config) → IsHomeOf sys d chart
-    → may_cut end ≡ false → Rests sys d chart budget own looked told es c → HomeEnds sys d budget end told
+    → may_cut end ≡ false → HomeRests sys d chart budget own looked told es c → HomeEnds sys d budget end told
 unfolding is_home_lane ends_last spents_follow spills_state CutGroups
 quiet-home sys d chart budget end own looked told es c its late rests =
     let lane = rests.0 in

@@ -4,7 +4,7 @@ use Rattle.std.specs.List.{AllByRecursion, list_all, list_any}
 use Rattle.std.specs.Prelude.{◌⊎◌}
 use Rattle.std.proofs.lemmas.Bool.{and_parts, or_parts}
 use Rattle.qp_model.specs.WordLaw.{is_object}
-use Rattle.qp_calls_meet.specs.Meeting.{IsTogether}
+use Rattle.qp_calls_log.specs.Meeting.{IsTogether}
 use Rattle.qp_model.specs.declared.stimulus.Stim.{Stim}
 use Rattle.qp_model.specs.declared.systems.System.{System}
 use Rattle.qp_model.specs.declared.systems.ObjectDef.{ObjectDef}
@@ -14,10 +14,10 @@ use Rattle.qp_dispatch.specs.declared.objects.Turn.{Turn}
 use Rattle.qp_dispatch.specs.declared.objects.Turn.TheVariants as turn
 use Rattle.qp_port_phases.specs.Lanes.{AreOneTable, AreTogether, SameEach}
 use Rattle.qp_port_phases.specs.Rows.{HasFewRows, Numbers}
-use Rattle.qp_port_workers.specs.Turns.{AreReady}
+use Rattle.qp_port_phases.specs.Turns.{AreReady}
 use Rattle.qp_port.specs.declared.job.Job.{Job}
 use Rattle.qp_port.specs.declared.job.Job.TheVariants as job
-use Rattle.qp_port_cursor.specs.Answers.{is_idle, is_short}
+use Rattle.qp_port_lanes.specs.Answers.{is_idle, is_short}
 use Rattle.qp_port.specs.Jobs.{IsSameJob, JobEnds, JobRests, JobStands, JobStops}
 use Rattle.qp_port.specs.Rows.{AreSameLanes, AreWorkers, IsHomeOf, IsNothing, IsRow, IsSourceOf}
 use Rattle.qp_port.specs.Workers.{MayEnd, MayTurn}

@@ -16,17 +16,17 @@ use Rattle.qp_calls.specs.LaneView.{LaneView}
 use Rattle.qp_dispatch.specs.declared.objects.Turn.{Turn}
 use Rattle.qp_dispatch.specs.declared.objects.Turn.TheVariants as turn
 use Rattle.qp_kernel_end.specs.declared.rest.Rest.{Rest}
-use Rattle.qp_kernel_turns.specs.Knowing.{IsNamed}
+use Rattle.qp_kernel_turns.specs.Knowing.{IsObjectWithChart}
 use Rattle.qp_kernel_turns.proofs.SoundObjects.{is-object, named}
-use Rattle.qp_port_workers.specs.Turns.{AreReady}
-use Rattle.qp_port_phases.specs.declared.phases.Ended.{Ended}
-use Rattle.qp_port_phases.specs.declared.phases.Ended.TheVariants as ended
+use Rattle.qp_port_phases.specs.Turns.{AreReady}
+use Rattle.qp_port_phases.specs.declared.phases.PhasesEnd.{PhasesEnd}
+use Rattle.qp_port_phases.specs.declared.phases.PhasesEnd.TheVariants as ended
 use Rattle.qp_port_phases.specs.Lanes.{AreObjects, AreOneTable, SameEach}
 use Rattle.qp_port_phases.specs.Quiet.{FirstFound, HasEnded}
 use Rattle.qp_port_phases.specs.Stopping.{AnyStopped, HasStopped}
 use Rattle.qp_port.specs.declared.job.Job.{Job}
 use Rattle.qp_port.specs.Ends.{HasRun}
-use Rattle.qp_port_cursor.specs.Answers.{IsFed, is_idle, is_short}
+use Rattle.qp_port_lanes.specs.Answers.{IsFed, is_idle, is_short}
 use Rattle.qp_port.specs.Jobs.{JobRests, JobStops, is_left_in}
 use Rattle.qp_port.specs.Resting.{AreShown}
 use Rattle.qp_port.specs.Rows.{AreSameLanes, IsRow}
@@ -36,7 +36,7 @@ use Rattle.qp_port.proofs.Ending.{has-run}
 use Rattle.qp_port.proofs.Rows.{ends-stop, lanes-still, ready-all, ready-both, ready-map, ready-none, ready-same, row-still, turns-rest}
 
 -- the objects of the system are those that lanes look at
-objects-from : (sys : System) → IsSound sys → (v : LaneView) → v.sys ≡ sys → (ds : List ObjectDef) → AllByRecursion (λ d. IsNamed sys d.priority) ds → AreObjects v (map (λ d. d.priority) ds)
+objects-from : (sys : System) → IsSound sys → (v : LaneView) → v.sys ≡ sys → (ds : List ObjectDef) → AllByRecursion (λ d. IsObjectWithChart sys d.priority) ds → AreObjects v (map (λ d. d.priority) ds)
 objects-from sys sound v of [] h = tt
 objects-from sys sound v of (d ∷ ds) h = (
   subst (λ u. is_object u d.priority ≡ true) (sym of) (subst (λ p. is_object sys p ≡ true) h.0.is (is-object sys sound h.0.object h.0.found)),
@@ -77,7 +77,7 @@ module _ (sys : System) (stimuli : List (List Stim)) (budget : ℕ) (sound : IsS
         (ready-both (λ w. MayTurn (s w) (b w) (t w) (work w) (view w) × (is_idle (t w) ≡ true)) (λ w. (s w ≡ sys) × (b w ≡ budget)) ys
         (ready-both (λ w. MayTurn (s w) (b w) (t w) (work w) (view w)) (λ w. is_idle (t w) ≡ true) ys ready (ready-all (λ w. is_idle (t w)) ys idle)) terms)
 
-    pub ran : (how : Ended) (done : Bool) (rests : List Rest) (objects : List ℕ) → objects ≡ priorities sys → AreReady (λ w. MayEnd (s w) (b w) (t w) (work w) (view w)) ys
+    pub ran : (how : PhasesEnd) (done : Bool) (rests : List Rest) (objects : List ℕ) → objects ≡ priorities sys → AreReady (λ w. MayEnd (s w) (b w) (t w) (work w) (view w)) ys
         → (how ≡ ended.Idle → AreReady (λ w. MayTurn (s w) (b w) (t w) (work w) (view w)) ys) → (how ≡ ended.Idle → HasEnded view (λ w. is_left_in (work w)) objects ys)
         → AreShown work ys rests → list_any (λ w. is_short (t w)) ys ≡ false → (done ≡ true → (how ≡ ended.Idle) × (list_all (λ w. is_idle (t w)) ys ≡ true)) → HasRun sys stimuli budget done rests (map view ys)
     ran how done rests objects are ends ready idle shown long quiet =
@@ -119,7 +119,7 @@ module _ {T : Type 0} (s : T → System) (b : T → ℕ) (t : T → Turn) (work 
   first-halted memory [] ys h = absurd h
   first-halted memory (x ∷ xs) [] h = absurd h
 
-  pub cause : (xs ys : List T) (how : Ended) → (how ≡ ended.Stopped → (list_all (λ w. is_idle (t w)) ys ≡ false) ⊎ FirstFound view false xs ys)
+  pub cause : (xs ys : List T) (how : PhasesEnd) → (how ≡ ended.Stopped → (list_all (λ w. is_idle (t w)) ys ≡ false) ⊎ FirstFound view false xs ys)
       → AreReady (λ w. MayTurn (s w) (b w) (t w) (work w) (view w) ⊎ MayBegin (s w) (b w) (t w) (work w) (view w)) ys → list_any (λ w. is_short (t w)) ys ≡ false
       → (how ≡ ended.Stopped) ⊎ (list_all (λ w. is_idle (t w)) ys ≡ false) → AnyStopped (map view ys)
   cause xs ys how stopped each long (inr none) = any-halted ys none long each
@@ -146,7 +146,7 @@ module _ (sys : System) (stimuli : List (List Stim)) (budget : ℕ) (sound : IsS
       (subst (AreSameLanes (map (λ w. see (lane w)) xs)) (sym (ap (map see) h ∙ map-both lane see ys))
       (same-lanes sys stimuli budget sound fit few s b t work (λ w. see (lane w)) xs all ys same))
 
-  pub run-left : {R E : Type 0} (result : Result R E) (of : R → List L) (rests_in : R → List Rest) (done_in : R → Bool) → IfOk result (λ run. of run ≡ map lane ys) → (how : Ended) (objects : List ℕ) → objects ≡ priorities sys
+  pub run-left : {R E : Type 0} (result : Result R E) (of : R → List L) (rests_in : R → List Rest) (done_in : R → Bool) → IfOk result (λ run. of run ≡ map lane ys) → (how : PhasesEnd) (objects : List ℕ) → objects ≡ priorities sys
       → AreReady (λ w. MayEnd (s w) (b w) (t w) (work w) (see (lane w))) ys → (how ≡ ended.Idle → AreReady (λ w. MayTurn (s w) (b w) (t w) (work w) (see (lane w))) ys)
       → (how ≡ ended.Idle → HasEnded (λ w. see (lane w)) (λ w. is_left_in (work w)) objects ys) → IfOk result (λ run. AreShown work ys (rests_in run)) → OnOk result (list_any (λ w. is_short (t w)) ys ≡ false)
       → IfOk result (λ run. done_in run ≡ true → (how ≡ ended.Idle) × (list_all (λ w. is_idle (t w)) ys ≡ true)) → IfOk result (λ run. HasRun sys stimuli budget (done_in run) (rests_in run) (map see (of run)))
@@ -155,7 +155,7 @@ module _ (sys : System) (stimuli : List (List Stim)) (budget : ℕ) (sound : IsS
       subst (HasRun sys stimuli budget (done_in run) (rests_in run)) (sym (ap (map see) h ∙ map-both lane see ys))
       (ran sys stimuli budget sound fit few s b t work (λ w. see (lane w)) xs all ys same how (done_in run) (rests_in run) objects are ends ready idle shown long quiet)
 
-  pub cause-left : {R E : Type 0} (result : Result R E) (of : R → List L) (done_in : R → Bool) → IfOk result (λ run. of run ≡ map lane ys) → (how : Ended)
+  pub cause-left : {R E : Type 0} (result : Result R E) (of : R → List L) (done_in : R → Bool) → IfOk result (λ run. of run ≡ map lane ys) → (how : PhasesEnd)
       → (how ≡ ended.Stopped → (list_all (λ w. is_idle (t w)) ys ≡ false) ⊎ FirstFound (λ w. see (lane w)) false xs ys)
       → AreReady (λ w. MayTurn (s w) (b w) (t w) (work w) (see (lane w)) ⊎ MayBegin (s w) (b w) (t w) (work w) (see (lane w))) ys → OnOk result (list_any (λ w. is_short (t w)) ys ≡ false)
       → IfOk result (λ run. done_in run ≡ false → (how ≡ ended.Stopped) ⊎ (list_all (λ w. is_idle (t w)) ys ≡ false)) → IfOk result (λ run. done_in run ≡ false → AnyStopped (map see (of run)))

@@ -10,12 +10,12 @@ use Rattle.qp_model.specs.End.{end_of}
 use Rattle.qp_model.specs.History.{all_items}
 use Rattle.qp_model.specs.Kernels.{port}
 use Rattle.qp_kernel_end.specs.Rests.{AreRestsIn}
-use Rattle.qp_port_quiet.specs.Sealed.{SealsLanes}
-use Rattle.qp_port_sealed.specs.Lanes.{HomesAre, SourcesAre}
-use Rattle.qp_port_sealed.specs.PortLanes.{ArePortLanes}
-use Rattle.qp_port_sealed.proofs.PortLemmas.{sealed-port}
-use Rattle.qp_port_sealed.proofs.RestLemmas.{port-rests}
-use Rattle.qp_port_sealed.specs.ThreadRun.{IsThreadRun}
+use Rattle.qp_port_law.specs.Sealed.{SealsLanes}
+use Rattle.qp_port_law.specs.Lanes.{HomesAre, SourcesAre}
+use Rattle.qp_port_law.specs.PortLanes.{ArePortLanes}
+use Rattle.qp_port_law.proofs.PortLemmas.{sealed-port}
+use Rattle.qp_port_law.proofs.RestLemmas.{port-rests}
+use Rattle.qp_port_law.specs.ThreadRun.{IsThreadRun}
 use Rattle.qp_port.specs.Laws.{SealedRunsAreLawful}
 
 -- a run ended quietly, or stopped early

@@ -14,21 +14,21 @@ use Rattle.qp_dispatch.specs.declared.objects.Turn.TheVariants as turn
 use Rattle.qp_kernel_turns.proofs.SoundObjects.{sound-object}
 use Rattle.qp_port_law.specs.Homes.{HomeEnds}
 use Rattle.qp_port_law.specs.SourcesLeft.{SourceLeaves}
-use Rattle.qp_port_home_law.proofs.HomeLaws.{unstarted_home_ends}
-use Rattle.qp_port_home.specs.declared.home.Home.{Home}
-use Rattle.qp_port_home.proofs.Resting.{home-of, stops-found}
-use Rattle.qp_port_cursor.specs.declared.cursor.Cursor.{Cursor}
+use Rattle.qp_port_law.proofs.HomeLaws.{unstarted_home_ends}
+use Rattle.qp_port_lanes.specs.declared.home.Home.{Home}
+use Rattle.qp_port_lanes.proofs.Resting.{home-of, stops-found}
+use Rattle.qp_port_lanes.specs.declared.cursor.Cursor.{Cursor}
 use Rattle.qp_port_phases.specs.declared.lanes.Passed.{Passed}
 use Rattle.qp_port_phases.specs.declared.lanes.Passed.TheVariants as passed
 use Rattle.qp_port_phases.specs.Passing.{PassesTo}
 use Rattle.qp_port_phases.specs.Stopping.{Hears}
-use Rattle.qp_port_cursor.proofs.Hearing.{passes-hands, passes-hear, passes-to, why-starved, why-stopped}
-use Rattle.qp_port_cursor.specs.Answers.{Feeds, is_idle, turn_by}
-use Rattle.qp_port_cursor.specs.At.{IsCursorAt, mine}
-use Rattle.qp_port_cursor.specs.Turning.{IsSameSource, SourceTurns}
-use Rattle.qp_port_cursor.specs.Passing.{Passes}
-use Rattle.qp_port_cursor.proofs.Feeding.{idle-long}
-use Rattle.qp_port_cursor.proofs.Standing.{may-stop}
+use Rattle.qp_port_lanes.proofs.Hearing.{passes-hands, passes-hear, passes-to, why-starved, why-stopped}
+use Rattle.qp_port_lanes.specs.Answers.{Feeds, is_idle, turn_by}
+use Rattle.qp_port_lanes.specs.CursorAt.{IsCursorAt, mine}
+use Rattle.qp_port_lanes.specs.SourceTurning.{IsSameSource, SourceTurns}
+use Rattle.qp_port_lanes.specs.Passing.{Passes}
+use Rattle.qp_port_lanes.proofs.Feeding.{idle-long}
+use Rattle.qp_port_lanes.proofs.Standing.{may-stop}
 use Rattle.qp_port.specs.declared.job.Job.{Job}
 use Rattle.qp_port.specs.declared.job.Job.TheVariants as job
 use Rattle.qp_port.specs.Jobs.{JobBegins, JobEnds, JobPasses, JobRests, JobStands, JobStops}

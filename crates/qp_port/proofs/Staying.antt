@@ -10,12 +10,12 @@ use Rattle.qp_dispatch.specs.declared.objects.Turn.TheVariants as turn
 use Rattle.qp_kernel.specs.ZeroEnds.{own_told}
 use Rattle.qp_port_law.specs.Homes.{HomeEnds}
 use Rattle.qp_port_law.specs.SourcesLeft.{SourceLeaves}
-use Rattle.qp_port_home.proofs.Resting.{resting-same}
-use Rattle.qp_port_cursor.specs.At.{mine}
-use Rattle.qp_port_cursor.proofs.Feeding.{fed-seen}
-use Rattle.qp_port_cursor.proofs.Hearing.{hears-seen, starved-seen, stopped-seen}
-use Rattle.qp_port_cursor.proofs.Seeing.{SeenMore}
-use Rattle.qp_port_cursor.proofs.Standing.{stay}
+use Rattle.qp_port_lanes.proofs.Resting.{resting-same}
+use Rattle.qp_port_lanes.specs.CursorAt.{mine}
+use Rattle.qp_port_lanes.proofs.Feeding.{fed-seen}
+use Rattle.qp_port_lanes.proofs.Hearing.{hears-seen, starved-seen, stopped-seen}
+use Rattle.qp_port_lanes.proofs.Seeing.{SeenMore}
+use Rattle.qp_port_lanes.proofs.Standing.{stay}
 use Rattle.qp_port.specs.declared.job.Job.{Job}
 use Rattle.qp_port.specs.declared.job.Job.TheVariants as job
 use Rattle.qp_port.specs.Jobs.{IsSameJob, JobRests, JobStands, JobStops}

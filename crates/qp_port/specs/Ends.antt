@@ -6,9 +6,9 @@ use Rattle.qp_model.specs.Ends.{may_cut, quiet}
 use Rattle.qp_model.specs.Kernels.{port}
 use Rattle.qp_calls.specs.LaneView.{LaneView}
 use Rattle.qp_kernel_end.specs.declared.rest.Rest.{Rest}
-use Rattle.qp_port_sealed.specs.Lanes.{HomesAre, SourcesAre}
-use Rattle.qp_port_sealed.specs.PortLanes.{PortRests}
-use Rattle.qp_port_sealed.specs.Rests.{AreTold}
+use Rattle.qp_port_law.specs.Lanes.{HomesAre, SourcesAre}
+use Rattle.qp_port_law.specs.PortLanes.{PortRests}
+use Rattle.qp_port_law.specs.Rests.{AreTold}
 
 -- those of objects and sources, for each end of a run that stopped early
 pub record MayEndEarly (sys : System) (stimuli : List (List Stim)) (budget : ℕ) (homes sources : List LaneView) : Type 0 where

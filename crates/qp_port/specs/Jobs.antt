@@ -8,13 +8,13 @@ use Rattle.qp_dispatch.specs.declared.objects.Turn.{Turn}
 use Rattle.qp_dispatch.specs.declared.objects.Turn.TheVariants as turn
 use Rattle.qp_kernel_turns.specs.Lanes.{LaneTurns}
 use Rattle.qp_port_law.specs.SourcesLeft.{SourceLeaves}
-use Rattle.qp_port_home.specs.At.{HasEmptyLane, IsHome, IsMade}
+use Rattle.qp_port_lanes.specs.At.{HasEmptyLane, IsHome, IsMade}
 use Rattle.qp_port_phases.specs.declared.lanes.Passed.{Passed}
 use Rattle.qp_port_phases.specs.Stopping.{HasStarved, HasStopped}
-use Rattle.qp_port_home.specs.Turning.{HomeStops, HomeTurns}
-use Rattle.qp_port_cursor.specs.Answers.{turn_by}
-use Rattle.qp_port_cursor.specs.At.{IsCursorAt, at_settle_in, left_in, mine}
-use Rattle.qp_port_cursor.specs.Turning.{SourceTurns}
+use Rattle.qp_port_lanes.specs.Turning.{HomeStops, HomeTurns}
+use Rattle.qp_port_lanes.specs.Answers.{turn_by}
+use Rattle.qp_port_lanes.specs.CursorAt.{IsCursorAt, at_settle_in, left_in, mine}
+use Rattle.qp_port_lanes.specs.SourceTurning.{SourceTurns}
 use Rattle.qp_port.specs.declared.job.Job.{Job}
 use Rattle.qp_port.specs.declared.job.Job.TheVariants as job
 

@@ -9,9 +9,9 @@ use Rattle.qp_model.specs.Sound.{IsSound}
 use Rattle.qp_calls.specs.LaneView.{LaneView}
 use Rattle.qp_kernel_end.specs.declared.rest.Rest.{Rest}
 use Rattle.qp_kernel_end.specs.Rests.{AreRestsIn}
-use Rattle.qp_port_quiet.specs.Sealed.{SealsLanes}
+use Rattle.qp_port_law.specs.Sealed.{SealsLanes}
 use Rattle.qp_port.specs.Ends.{HasRun}
-use Rattle.qp_port_sealed.specs.ThreadRun.{IsThreadRun}
+use Rattle.qp_port_law.specs.ThreadRun.{IsThreadRun}
 
 -- Its lanes, sealed into a journal, leave a lawful one, in which its objects rest where it says; a journal of a quiet end only where nothing was left.
 abbrev pub SealedRunsAreLawful : Type 0

@@ -5,8 +5,8 @@ use Rattle.qp_model.specs.declared.systems.System.{System}
 use Rattle.qp_model.specs.declared.systems.ObjectDef.{ObjectDef}
 use Rattle.qp_dispatch.specs.declared.objects.Turn.{Turn}
 use Rattle.qp_dispatch.specs.declared.objects.Turn.TheVariants as turn
-use Rattle.qp_port_home.specs.At.{IsMade}
-use Rattle.qp_port_cursor.specs.declared.cursor.Cursor.{Cursor}
+use Rattle.qp_port_lanes.specs.At.{IsMade}
+use Rattle.qp_port_lanes.specs.declared.cursor.Cursor.{Cursor}
 use Rattle.qp_port.specs.declared.job.Job.{Job}
 use Rattle.qp_port.specs.declared.job.Job.TheVariants as job
 use Rattle.qp_port.specs.Rows.{IsNothing}
@@ -16,7 +16,7 @@ abbrev pub IsThis : Job → Job → Type 0
 IsThis x y = y ≡ x
 
 -- a worker of this run, which hasn't started
-pub record IsFresh (sys : System) (budget : ℕ) (s : System) (b : ℕ) (t : Turn) : Type 0 where
+pub record IsFreshWorker (sys : System) (budget : ℕ) (s : System) (b : ℕ) (t : Turn) : Type 0 where
   pub sys_is : s ≡ sys
   pub budget_is : b ≡ budget
   pub idle : t ≡ turn.Idle
@@ -40,15 +40,15 @@ IsSourceMade stimuli k job.Nothing = ⊥
 IsSourceMade stimuli k (job.Home x) = ⊥
 
 pub record MadesNothing (sys : System) (budget : ℕ) (s : System) (b : ℕ) (t : Turn) (x : Job) : Type 0 where
-  pub fresh : IsFresh sys budget s b t
+  pub fresh : IsFreshWorker sys budget s b t
   pub its : IsNothing x
 
 pub record MadesHome (sys : System) (budget : ℕ) (d : ObjectDef) (s : System) (b : ℕ) (t : Turn) (x : Job) : Type 0 where
-  pub fresh : IsFresh sys budget s b t
+  pub fresh : IsFreshWorker sys budget s b t
   pub its : IsHomeMade sys d x
 
 pub record MadesSource (sys : System) (budget : ℕ) (stimuli : List (List Stim)) (k : ℕ) (s : System) (b : ℕ) (t : Turn) (x : Job) : Type 0 where
-  pub fresh : IsFresh sys budget s b t
+  pub fresh : IsFreshWorker sys budget s b t
   pub its : IsSourceMade stimuli k x
 
 -- one for each of these objects

@@ -2,7 +2,7 @@
 use Rattle.std.specs.Prelude.{◌≡◌, ◌⊎◌, true, false, List, [], ◌∷◌}
 use Rattle.std.specs.List.{AllByRecursion}
 use Rattle.qp_kernel_end.specs.declared.rest.Rest.{Rest}
-use Rattle.qp_port_home.specs.declared.home.Home.{Home}
+use Rattle.qp_port_lanes.specs.declared.home.Home.{Home}
 use Rattle.qp_port.specs.declared.job.Job.{Job}
 use Rattle.qp_port.specs.declared.job.Job.TheVariants as job
 

@@ -2,12 +2,12 @@
 use Rattle.std.proofs.Common.{◌∙◌}
 use Rattle.std.specs.Prelude.{◌≡◌, ℕ, ◌≤◌, false, refl}
 use Rattle.qp_port_phases.specs.Stopping.{Hears}
-use Rattle.qp_port_cursor.specs.Answers.{IsFed, is_short}
-use Rattle.qp_port_cursor.proofs.Hearing.{hears-itself, hears-then}
+use Rattle.qp_port_lanes.specs.Answers.{IsFed, is_short}
+use Rattle.qp_port_lanes.proofs.Hearing.{hears-itself, hears-then}
 use Rattle.qp_model.specs.declared.systems.System.{System}
 use Rattle.qp_model.specs.Sound.{IsSound}
 use Rattle.qp_calls.specs.LaneView.{LaneView}
-use Rattle.qp_calls_meet.specs.Meeting.{IsTogether}
+use Rattle.qp_calls_log.specs.Meeting.{IsTogether}
 use Rattle.qp_dispatch.specs.declared.objects.Turn.{Turn}
 use Rattle.qp_dispatch.specs.declared.objects.Turn.TheVariants as turn
 use Rattle.qp_kernel_turns.specs.Lanes.{SameLane}

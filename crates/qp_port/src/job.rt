@@ -5,17 +5,16 @@ ghost use Rattle.qp_port_phases.specs.Passing.{PassesTo};
 ghost use Rattle.qp_port_phases.specs.Stopping.{Hears};
 ghost use Rattle.qp_model.specs.Sound.{IsSound};
 ghost use Rattle.qp_kernel_turns.specs.Lanes.{SameLane};
-ghost use Rattle.qp_port_cursor.specs.Answers.{Feeds, turn_by};
+ghost use Rattle.qp_port_lanes.specs.Answers.{Feeds, turn_by};
 ghost use Rattle.qp_port.specs.declared.job.Job.TheVariants as job;
 ghost use Rattle.qp_port.specs.Jobs.{IsSameJob, JobBegins, JobPasses, JobRests, JobStands, JobTurns, is_left_in, stands_at_settle};
 
 use crate::turns::Turns;
+use qp_base::Tells;
 use qp_calls::Ops;
 use qp_dispatch::{Step, Turn};
 use qp_model::System;
-use qp_port_cursor::{Cursor, Passed, pass_settle, source_turn};
-use qp_port_home::Home;
-use qp_tells::Tells;
+use qp_port_lanes::{Cursor, Home, Passed, pass_settle, source_turn};
 use std::sync::Wait;
 
 /// What runs in a lane.

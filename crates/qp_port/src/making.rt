@@ -1,18 +1,16 @@
 //! The workers of a run, before their start.
 
 ghost use Rattle.std.specs.Prelude.{◌≡◌, ◌+◌, ◌<◌, ◌≤◌, IfOk, OnOk, length};
-ghost use Rattle.qp_port.specs.Making.{AddsAll, AddsOne, AreAllMade, HomesMade, IsFresh, IsThis, MadesHome, MadesNothing, MadesSource, SourcesMade};
+ghost use Rattle.qp_port.specs.Making.{AddsAll, AddsOne, AreAllMade, HomesMade, IsFreshWorker, IsThis, MadesHome, MadesNothing, MadesSource, SourcesMade};
 
 use crate::job::Job;
 use crate::turns::Turns;
 use crate::worker::PortWorker;
-use qp_base::Memory;
-use qp_calls_meet::Meets;
+use qp_base::{Memory, Tells};
+use qp_calls_log::Meets;
 use qp_dispatch::Turn;
 use qp_model::{ObjectDef, Source, Stimuli, System};
-use qp_port_cursor::Cursor;
-use qp_port_home::Home;
-use qp_tells::Tells;
+use qp_port_lanes::{Cursor, Home};
 use std::alloc::Global;
 
 /// What all workers of a run share: the system, its stimuli, the budget of an object, what is told of its steps, and how objects
@@ -34,7 +32,7 @@ fn add<'a, O: Meets + Drop, G: Tells, T: Turns<O>>(
     workers: &mut Vec<PortWorker<'a, O, G, T>>,
 ) -> Result<(), Memory>
     requires { 0 < length lanes.old.items }
-    ensures { OnOk result (AddsOne (λ w. w.lane) (λ w. IsFresh at.now.sys.now at.now.budget w.sys.now w.budget w.turn × IsThis job.entry w.job) lanes.old.items workers.old.items lanes.new.items workers.new.items) }
+    ensures { OnOk result (AddsOne (λ w. w.lane) (λ w. IsFreshWorker at.now.sys.now at.now.budget w.sys.now w.budget w.turn × IsThis job.entry w.job) lanes.old.items workers.old.items lanes.new.items workers.new.items) }
 {
     let Ok(number) = u32::try_from(workers.len()) else {
         return Err(Memory);

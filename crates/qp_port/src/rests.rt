@@ -7,10 +7,10 @@ ghost use Rattle.qp_port.specs.Resting.{AreShown, IsShownBy};
 use crate::job::Job;
 use crate::turns::Turns;
 use crate::worker::PortWorker;
-use qp_calls_meet::Meets;
+use qp_base::Tells;
+use qp_calls_log::Meets;
 use qp_kernel_end::Rest;
-use qp_port_home::Home;
-use qp_tells::Tells;
+use qp_port_lanes::Home;
 use std::alloc::{AllocError, Global};
 
 /// The values, copied.

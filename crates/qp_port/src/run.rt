@@ -4,10 +4,10 @@ ghost use Rattle.std.specs.Prelude.{◌≡◌, ◌≤◌, ◌⊎◌, IfOk, OnOk,
 ghost use Rattle.std.specs.List.{AllByRecursion, list_all, list_any};
 ghost use Rattle.qp_model.specs.Sound.{IsSound};
 ghost use Rattle.qp_stim.specs.Rules.{StimuliFit};
-ghost use Rattle.qp_port_phases.specs.declared.phases.Ended.TheVariants as ended;
+ghost use Rattle.qp_port_phases.specs.declared.phases.PhasesEnd.TheVariants as ended;
 ghost use Rattle.qp_port_phases.specs.Stopping.{AnyStopped};
 ghost use Rattle.qp_port.specs.Ends.{HasRun};
-ghost use Rattle.qp_port_cursor.specs.Answers.{IsFed, is_idle, is_short};
+ghost use Rattle.qp_port_lanes.specs.Answers.{IsFed, is_idle, is_short};
 ghost use Rattle.qp_port.specs.Resting.{AreShown};
 ghost use Rattle.qp_port.specs.Rows.{AreNewLanes, AreSameLanes};
 
@@ -17,10 +17,10 @@ use crate::starting::{Over, run_workers};
 use crate::turns::{PortTurns, Turns};
 use crate::worker::PortWorker;
 use qp_base::{Gate, Memory};
-use qp_calls_meet::Meets;
+use qp_calls_log::Meets;
 use qp_kernel_end::Rest;
 use qp_model::{Stimuli, System};
-use qp_port_phases::{Ended, NoHook, PhaseHook, objects_of};
+use qp_port_phases::{NoHook, PhaseHook, PhasesEnd, objects_of};
 use std::alloc::Global;
 use std::sync::Wait;
 use std::thread::Threads;
@@ -87,9 +87,9 @@ fn left_of<O: Meets + Drop, G: Gate, T: Turns<O>>(
 {
     let Over { workers, how } = over;
     let is_over = match how {
-        Ended::Idle => true,
-        Ended::Stopped => false,
-        Ended::Memory => return Err(Memory),
+        PhasesEnd::Idle => true,
+        PhasesEnd::Stopped => false,
+        PhasesEnd::Memory => return Err(Memory),
     };
     if any_short(&workers) {
         return Err(Memory);

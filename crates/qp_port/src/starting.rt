@@ -2,17 +2,17 @@
 
 ghost use Rattle.std.specs.Prelude.{◌≡◌, ◌⊎◌, ℕ, Bool, true, false};
 ghost use Rattle.std.specs.List.{list_all};
-ghost use Rattle.qp_port_phases.specs.declared.phases.Ended.TheVariants as ended;
+ghost use Rattle.qp_port_phases.specs.declared.phases.PhasesEnd.TheVariants as ended;
 ghost use Rattle.qp_port_phases.specs.Lanes.{AreOneTable, SameEach};
 ghost use Rattle.qp_port_phases.specs.Quiet.{FirstFound, HasEnded};
-ghost use Rattle.qp_port_workers.specs.Turns.{AreReady};
+ghost use Rattle.qp_port_phases.specs.Turns.{AreReady};
 
-use qp_port_phases::{Ended, Lane, PhaseHook, run_phases};
+use qp_port_phases::{PhaseHook, PhaseLane, PhasesEnd, run_phases};
 use std::sync::Wait;
 use std::thread::Threads;
 
 /// The lane of a worker that has a start.
-pub trait Starts: Lane {
+pub trait Starts: PhaseLane {
     /// It hasn't started.
     ghost fresh: { Self → Type 0 };
 
@@ -23,17 +23,17 @@ pub trait Starts: Lane {
     fn start(&mut self) -> bool
         requires { fresh self.old }
         ensures ready { Self.Worker.ready self.new }
-        ensures same { Self.Lane.same self.old self.new }
+        ensures same { Self.PhaseLane.same self.old self.new }
         ensures rests { rests self.new ≡ result };
 
     /// It looks at no queue twice without a step.
-    ghost rows_none: { (a : Self) → (Self.Lane.numbers a).rows ≡ 0 };
+    ghost rows_none: { (a : Self) → (Self.PhaseLane.numbers a).rows ≡ 0 };
 }
 
 /// Workers whose run is over, and how.
 pub(crate) struct Over<T> {
     pub(crate) workers: Vec<T>,
-    pub(crate) how: Ended,
+    pub(crate) how: PhasesEnd,
 }
 
 /// Starts these, in their order, up to the first whose start doesn't come to its end. Whether all did.
@@ -59,7 +59,7 @@ fn run_all<R: Threads + Wait + Sync, T: Starts, H: PhaseHook>(
     objects: &[u8],
     workers: &mut [T],
     hook: &mut H,
-) -> Ended
+) -> PhasesEnd
     requires fresh { AreReady T.fresh workers.old }
     requires table { AreOneTable T.view objects.now workers.old }
     ensures each { AreReady (λ w. T.ready w ⊎ T.fresh w) workers.new }
@@ -70,7 +70,7 @@ fn run_all<R: Threads + Wait + Sync, T: Starts, H: PhaseHook>(
     ensures memory { result ≡ ended.Memory → FirstFound T.view true workers.old workers.new }
 {
     if !start_all(workers) {
-        return Ended::Stopped;
+        return PhasesEnd::Stopped;
     }
     run_phases(rt, objects, workers, hook)
 }

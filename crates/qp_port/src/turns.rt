@@ -3,14 +3,14 @@
 ghost use Rattle.std.specs.Prelude.{◌≡◌, ◌≤◌, false};
 ghost use Rattle.qp_model.specs.Sound.{IsSound};
 ghost use Rattle.qp_kernel_turns.specs.Lanes.{LaneTurns};
-ghost use Rattle.qp_port_home.specs.At.{IsHome};
-ghost use Rattle.qp_port_home.specs.Turning.{HomeTurns};
+ghost use Rattle.qp_port_lanes.specs.At.{IsHome};
+ghost use Rattle.qp_port_lanes.specs.Turning.{HomeTurns};
 
+use qp_base::Tells;
 use qp_calls::Ops;
 use qp_dispatch::Turn;
 use qp_model::System;
-use qp_port_home::{Home, object_turn};
-use qp_tells::Tells;
+use qp_port_lanes::{Home, object_turn};
 use std::sync::Wait;
 
 /// How an object takes its turn over lanes of this kind, and what the lane of a source does behind one.

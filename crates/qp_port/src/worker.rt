@@ -1,7 +1,7 @@
 //! A lane with what runs in it.
 
 ghost use Rattle.std.specs.Prelude.{◌≡◌, refl, true};
-ghost use Rattle.qp_port_cursor.specs.Answers.{is_idle, is_short};
+ghost use Rattle.qp_port_lanes.specs.Answers.{is_idle, is_short};
 ghost use Rattle.qp_port.specs.Jobs.{JobTurns, TurnsFrom, is_left_in, stands_at_settle};
 ghost use Rattle.qp_port.specs.Numbers.{counts-none, uncounted};
 ghost use Rattle.qp_port.specs.Workers.{IsSameWorker, MayBegin, MayTurn, same-itself, same-still, same-table};
@@ -9,14 +9,13 @@ ghost use Rattle.qp_port.specs.Workers.{IsSameWorker, MayBegin, MayTurn, same-it
 use crate::job::{Job, end_turn, pass_job, run_job, start_job};
 use crate::starting::Starts;
 use crate::turns::Turns;
+use qp_base::Tells;
 use qp_calls::Counts;
-use qp_calls_meet::Meets;
+use qp_calls_log::Meets;
 use qp_dispatch::Turn;
 use qp_model::System;
-use qp_port_cursor::{is_idle, is_short, turn_by};
-use qp_port_phases::{Lane, Passed};
-use qp_port_workers::Worker;
-use qp_tells::Tells;
+use qp_port_lanes::{is_idle, is_short, turn_by};
+use qp_port_phases::{Passed, PhaseLane, Worker};
 use std::sync::Wait;
 
 /// A lane with its number, what runs in it, and the answer of its last turn. One whose turn has stopped takes no more: it is a lane
@@ -93,7 +92,7 @@ impl<O: Meets + Send, G: Tells + Sync, T: Turns<O> + Sync> Worker for PortWorker
     }
 }
 
-impl<O: Meets + Send, G: Tells + Sync, T: Turns<O> + Sync> Lane for PortWorker<'_, O, G, T> {
+impl<O: Meets + Send, G: Tells + Sync, T: Turns<O> + Sync> PhaseLane for PortWorker<'_, O, G, T> {
     ghost view = { λ w. O.lane w.lane };
 
     ghost waits = { λ w. stands_at_settle w.job };

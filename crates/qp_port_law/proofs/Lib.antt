@@ -5,3 +5,16 @@ pub mod PortLawful
 pub mod HomesKept
 pub mod QkBlind
 pub mod QkLawful
+pub mod HomeRecords
+pub mod HomeGrows
+pub mod HomeSteps
+pub mod HomeEnding
+pub mod HomeLaws
+pub mod Histories
+pub mod Looks
+pub mod Resting
+pub mod LaneLemmas
+pub mod PortLemmas
+pub mod QkLemmas
+pub mod RestLemmas
+pub mod StartsLemmas

@@ -19,7 +19,7 @@ use Rattle.qp_model.specs.Laws.{Ascend}
 use Rattle.qp_model.specs.Kernels.{port, has_one_order}
 use Rattle.qp_model.specs.Home.{lane_at, home_of, by_object, own_items, as_own, home_records}
 use Rattle.qp_model.specs.HomeLane.{is_home_lane}
-use Rattle.qp_model.specs.Pieces.{bare}
+use Rattle.qp_model.specs.Pieces.{records_in}
 use Rattle.qp_model.specs.Deferral.{kept_after}
 use Rattle.qp_model.specs.Ends.{is_turn_mark, is_spent, may_cut, ends_last}
 use Rattle.qp_model.specs.End.{spills_state, takes_of, took_count, spent_right, spents_follow, spents_hold}
@@ -86,7 +86,7 @@ module _ (sys : System) (stimuli : List (List Stim)) (j : Journal) (run : IsPort
     follows : FollowsTo sys d (cut_of sys j d.priority) ends.ps
     follows = subst (λ c. FollowsTo sys d c ends.ps) (sym cut-is) ends.follows
 
-    bare-is : bare ends.ps ≡ dispatched (by_object w j d.priority)
+    bare-is : records_in ends.ps ≡ dispatched (by_object w j d.priority)
     bare-is = ends.bare_is ∙ ap dispatched (sym own-is)
 
     shape : HasShape sys d.priority (j.kernel == port) (cut_of sys j d.priority) (home_records w j d.priority)

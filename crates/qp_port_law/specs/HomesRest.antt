@@ -9,7 +9,7 @@ use Rattle.qp_model.specs.Told.{ToldItem}
 use Rattle.qp_model.specs.History.{lane_items}
 use Rattle.qp_model.specs.Home.{lane_at}
 use Rattle.qp_model.specs.Knowing.{told_lane}
-use Rattle.qp_model.specs.Pieces.{Piece, bare}
+use Rattle.qp_model.specs.Pieces.{Piece, records_in}
 use Rattle.qp_model.specs.Acts.{Config}
 use Rattle.qp_model.specs.Course.{actor, first_config, chart_at}
 use Rattle.qp_model.specs.Lawful.{facts_of, dispatched}
@@ -20,7 +20,7 @@ use Rattle.qp_kernel.specs.ZeroEnds.{own_told}
 -- by the records of its lane the object rests so
 pub record RestsWith (sys : System) (d : ObjectDef) (c : Config) (told : List ToldItem) : Type 0 where
   pub ps : List Piece
-  pub bare_is : bare ps ≡ dispatched (own_told d.priority told)
+  pub bare_is : records_in ps ≡ dispatched (own_told d.priority told)
   pub es : List Entry
   pub comes : (chart : Chart) → chart_at sys d.chart ≡ Some chart → ComesTo sys (actor d chart) (first_config d) es ps (stage.Resting c)
 

@@ -4,3 +4,14 @@ pub mod PortRun
 pub mod HomesRest
 pub mod QkRun
 pub mod Laws
+pub mod HomeLanes
+pub mod HomeLaws
+pub mod Sealed
+pub mod QuietLaws
+pub mod Lanes
+pub mod PortLanes
+pub mod QkLanes
+pub mod Rests
+pub mod SealedLaws
+pub mod ThreadRun
+pub mod StartsFirst

@@ -5,7 +5,7 @@ use Rattle.qp_model.specs.WordLaw.{is_object}
 use Rattle.qp_calls.specs.LaneView.{LaneView}
 use Rattle.qp_port_phases.specs.Lanes.{KeepEach}
 use Rattle.qp_port_phases.specs.Rows.{CountsBy, CountsOn, HasCause, HasFewRows, Numbers, SeesEntry, TriesCount, all_settles, any_lost, one_where}
-use Rattle.qp_port_workers.specs.Turns.{TurnEach}
+use Rattle.qp_port_phases.specs.Turns.{TurnEach}
 
 or-none : (a b : Bool) → (a || b) ≡ false → (a ≡ false) × (b ≡ false)
 or-none true b h = absurd (cc)

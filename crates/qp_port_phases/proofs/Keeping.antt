@@ -6,12 +6,12 @@ use Rattle.std.specs.List.{AllByRecursion, list_all}
 use Rattle.qp_model.specs.WordLaw.{is_object}
 use Rattle.qp_model.specs.declared.words.Word.TheVariants as word
 use Rattle.qp_calls.specs.LaneView.{LaneView, is_codeless}
-use Rattle.qp_calls_meet.specs.Meeting.{IsTogether}
+use Rattle.qp_calls_log.specs.Meeting.{IsTogether}
 use Rattle.qp_port_phases.specs.Lanes.{AreObjects, AreOneTable, AreTogether, KeepEach, SameEach}
 use Rattle.qp_port_phases.specs.Rows.{Numbers}
 use Rattle.qp_port_phases.specs.Quiet.{AllBelow, FirstFound, HasFound, IsCodeOf}
 use Rattle.qp_port_phases.specs.Stopping.{Hears, SameCodes}
-use Rattle.qp_port_workers.specs.Turns.{AreReady, TurnEach}
+use Rattle.qp_port_phases.specs.Turns.{AreReady, TurnEach}
 
 module _ {T : Type 0} (Ready : T → Type 0) (Same : T → T → Type 0) (waits remains : T → Bool) (numbers : T → Numbers) where
   pub keep-ready : (xs ys : List T) → KeepEach Ready Same waits remains numbers xs ys → AreReady Ready ys

@@ -3,7 +3,7 @@ use Rattle.std.specs.Prelude.{◌≡◌, ℕ, Bool, List, [], ◌∷◌, ⊤, Is
 use Rattle.std.specs.List.{AllByRecursion}
 use Rattle.qp_model.specs.WordLaw.{is_object}
 use Rattle.qp_calls.specs.LaneView.{LaneView}
-use Rattle.qp_calls_meet.specs.Meeting.{IsTogether}
+use Rattle.qp_calls_log.specs.Meeting.{IsTogether}
 use Rattle.qp_port_phases.specs.Rows.{Numbers}
 
 -- each lane of a row is of the table of the first, and these are objects of its system

@@ -3,3 +3,4 @@ pub mod Passing
 pub mod Rows
 pub mod Lanes
 pub mod Quiet
+pub mod Turns

@@ -4,14 +4,14 @@ ghost use Rattle.std.specs.Prelude.{ℕ, ◌≡◌, Bool, IsTrue, true};
 ghost use Rattle.qp_model.specs.WordLaw.{is_object};
 ghost use Rattle.qp_calls.specs.LaneView.{LaneView};
 ghost use Rattle.qp_calls.specs.Clauses.{Counted, Stopped};
-ghost use Rattle.qp_calls_meet.specs.Meeting.{IsTogether, Met};
+ghost use Rattle.qp_calls_log.specs.Meeting.{IsTogether, Met};
 ghost use Rattle.qp_port_phases.specs.Lanes.{Kept};
 ghost use Rattle.qp_port_phases.specs.Passing.{PassesTo};
 ghost use Rattle.qp_port_phases.specs.Rows.{CountsOn, Numbers, PassCounts};
 ghost use Rattle.qp_port_phases.specs.Stopping.{Hears};
 
+use crate::running::Worker;
 use qp_calls::Counts;
-use qp_port_workers::Worker;
 
 /// What became of a `settle`.
 #[derive(Drop)]
@@ -29,7 +29,7 @@ pub enum Passed {
 /// The lane of a worker, between phases.
 ///
 /// A worker that has ended is a lane like another: it is met and looked at, and its turns do nothing.
-pub trait Lane: Worker {
+pub trait PhaseLane: Worker {
     /// What the lane has seen.
     ghost view: { Self → LaneView };
 

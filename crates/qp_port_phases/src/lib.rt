@@ -5,8 +5,10 @@ mod hook;
 mod lanes;
 mod objects;
 mod phases;
+mod running;
 
 pub use hook::{NoHook, PhaseHook};
-pub use lanes::{Lane, Passed};
+pub use lanes::{Passed, PhaseLane};
 pub use objects::objects_of;
-pub use phases::{Ended, run_phases};
+pub use phases::{PhasesEnd, run_phases};
+pub use running::{Worker, run_lanes};

@@ -3,25 +3,25 @@
 ghost use Rattle.std.specs.Prelude.{ℕ, ◌≡◌, ◌<◌, ◌≤◌, ◌∷◌, ◌||◌, IsTrue, length, not, true, false, Some};
 ghost use Rattle.qp_model.specs.WordLaw.{is_object};
 ghost use Rattle.std.specs.List.{list_any};
-ghost use Rattle.qp_port_phases.specs.declared.phases.Ended.TheVariants as ended;
+ghost use Rattle.qp_port_phases.specs.declared.phases.PhasesEnd.TheVariants as ended;
 ghost use Rattle.qp_port_phases.specs.declared.phases.Next.TheVariants as next;
 ghost use Rattle.qp_model.specs.declared.words.Word.TheVariants as word;
-ghost use Rattle.qp_calls_meet.specs.Meeting.{IsTogether};
+ghost use Rattle.qp_calls_log.specs.Meeting.{IsTogether};
 ghost use Rattle.qp_port_phases.specs.Lanes.{AreObjects, AreOneTable, AreTogether, KeepEach, Kept, SameEach};
 ghost use Rattle.qp_port_phases.specs.Quiet.{AllBelow, AreEmpty, FirstFound, HasEnded, HasFound, IsEmpty, IsQuiet};
 ghost use Rattle.qp_port_phases.specs.Stopping.{SameCodes};
 ghost use Rattle.qp_port_phases.specs.Rows.{CountsBy, HasCause, HasFewRows, SeesEntry, TriesCount, one_where};
-ghost use Rattle.qp_port_workers.specs.Turns.{AreReady};
+ghost use Rattle.qp_port_phases.specs.Turns.{AreReady};
 
 use crate::hook::PhaseHook;
-use crate::lanes::{Lane, Passed};
-use qp_port_workers::run_lanes;
+use crate::lanes::{Passed, PhaseLane};
+use crate::running::run_lanes;
 use std::sync::Wait;
 use std::thread::Threads;
 
 /// How the phases ended.
 #[derive(Clone, Copy)]
-pub enum Ended {
+pub enum PhasesEnd {
     /// Each queue was seen empty, no stimulus is left, and the stop word was 0.
     Idle,
     /// A code from 1 to 6 was found in the stop word.
@@ -33,7 +33,7 @@ pub enum Ended {
 /// What comes next between two phases.
 enum Next {
     /// The run is over.
-    Over(Ended),
+    Over(PhasesEnd),
     /// A phase.
     Phase,
     /// There is no cause for one: the lanes are looked at again.
@@ -41,7 +41,7 @@ enum Next {
 }
 
 /// The first lane meets all others.
-fn meet_all<T: Lane>(first: &mut T, others: &mut [T])
+fn meet_all<T: PhaseLane>(first: &mut T, others: &mut [T])
     requires first_ready { T.ready first.old }
     requires others_ready { AreReady T.ready others.old }
     requires together { AreTogether T.view (T.view first.old) others.old }
@@ -59,7 +59,7 @@ fn meet_all<T: Lane>(first: &mut T, others: &mut [T])
 }
 
 /// Whether a queue is seen empty by the lane.
-fn is_empty<T: Lane>(lane: &mut T, p: u8) -> bool
+fn is_empty<T: PhaseLane>(lane: &mut T, p: u8) -> bool
     requires ready { T.ready lane.old }
     requires object { IsTrue (is_object (T.view lane.old).sys p) }
     ensures kept { Kept T.ready T.same T.waits T.remains T.numbers lane.old lane.new }
@@ -74,7 +74,7 @@ fn is_empty<T: Lane>(lane: &mut T, p: u8) -> bool
 }
 
 /// Whether all these queues are seen empty by the lane; others that were stay so. It ends at the first that isn't.
-fn are_empty<T: Lane>(lane: &mut T, objects: &[u8]) -> bool
+fn are_empty<T: PhaseLane>(lane: &mut T, objects: &[u8]) -> bool
     requires ready { T.ready lane.old }
     requires objects { AreObjects (T.view lane.old) objects.now }
     ensures kept { Kept T.ready T.same T.waits T.remains T.numbers lane.old lane.new }
@@ -91,7 +91,7 @@ fn are_empty<T: Lane>(lane: &mut T, objects: &[u8]) -> bool
 }
 
 /// Whether a lane has a stimulus left.
-fn any_left<T: Lane>(lanes: &[T]) -> bool
+fn any_left<T: PhaseLane>(lanes: &[T]) -> bool
     ensures { result ≡ list_any T.remains lanes.now }
 {
     lanes.iter().any(|lane| lane.left())
@@ -113,7 +113,7 @@ fn is_caused(passed: bool, begun: bool, empty: bool) -> bool
 
 /// Each lane that stands at a `settle` sees what the first has seen, and then passes it, or tries to. The answer tells
 /// whether one passed it.
-fn pass_all<T: Lane>(first: &mut T, others: &mut [T]) -> bool
+fn pass_all<T: PhaseLane>(first: &mut T, others: &mut [T]) -> bool
     requires first_ready { T.ready first.old }
     requires others_ready { AreReady T.ready others.old }
     requires together { AreTogether T.view (T.view first.old) others.old }
@@ -131,7 +131,7 @@ fn pass_all<T: Lane>(first: &mut T, others: &mut [T]) -> bool
 }
 
 /// The same for one lane.
-fn pass_one<T: Lane>(first: &mut T, lane: &mut T) -> bool
+fn pass_one<T: PhaseLane>(first: &mut T, lane: &mut T) -> bool
     requires first_ready { T.ready first.old }
     requires ready { T.ready lane.old }
     requires together { IsTogether (T.view first.old) (T.view lane.old) }
@@ -151,7 +151,7 @@ fn pass_one<T: Lane>(first: &mut T, lane: &mut T) -> bool
 }
 
 /// Looks at the run between phases: whether it has ended, and how.
-fn look<T: Lane>(first: &mut T, others: &mut [T], objects: &[u8]) -> Option<Ended>
+fn look<T: PhaseLane>(first: &mut T, others: &mut [T], objects: &[u8]) -> Option<PhasesEnd>
     requires first_ready { T.ready first.old }
     requires others_ready { AreReady T.ready others.old }
     requires together { AreTogether T.view (T.view first.old) others.old }
@@ -164,12 +164,12 @@ fn look<T: Lane>(first: &mut T, others: &mut [T], objects: &[u8]) -> Option<Ende
 {
     meet_all(first, others);
     match first.stopped() {
-        Some(7) => return Some(Ended::Memory),
-        Some(_) => return Some(Ended::Stopped),
+        Some(7) => return Some(PhasesEnd::Memory),
+        Some(_) => return Some(PhasesEnd::Stopped),
         None => {}
     }
     if are_empty(first, objects) && !any_left(others) {
-        return Some(Ended::Idle);
+        return Some(PhasesEnd::Idle);
     }
     None
 }
@@ -177,12 +177,12 @@ fn look<T: Lane>(first: &mut T, others: &mut [T], objects: &[u8]) -> Option<Ende
 /// Runs the phases: between them the first lane meets all others and looks at the queues, and each lane at a `settle` passes
 /// it or tries to; in them all lanes take a turn, beside one another. But for the first, a phase has a cause: a `settle` was
 /// passed, or the first lane sees an entry. The hook is called where one begins.
-pub fn run_phases<R: Threads + Wait + Sync, T: Lane, H: PhaseHook>(
+pub fn run_phases<R: Threads + Wait + Sync, T: PhaseLane, H: PhaseHook>(
     rt: &R,
     objects: &[u8],
     workers: &mut [T],
     hook: &mut H,
-) -> Ended
+) -> PhasesEnd
     requires ready { AreReady T.ready workers.old }
     requires table { AreOneTable T.view objects.now workers.old }
     requires begins { HasFewRows T.numbers 0 workers.old }
@@ -210,7 +210,7 @@ pub fn run_phases<R: Threads + Wait + Sync, T: Lane, H: PhaseHook>(
 
 /// Lanes at a `settle` pass it or try to, and the first meets all and looks once more. The answer tells whether there is cause
 /// for a phase.
-fn prepare<T: Lane>(first: &mut T, others: &mut [T], objects: &[u8], begun: bool) -> bool
+fn prepare<T: PhaseLane>(first: &mut T, others: &mut [T], objects: &[u8], begun: bool) -> bool
     requires first_ready { T.ready first.old }
     requires others_ready { AreReady T.ready others.old }
     requires together { AreTogether T.view (T.view first.old) others.old }
@@ -230,7 +230,7 @@ fn prepare<T: Lane>(first: &mut T, others: &mut [T], objects: &[u8], begun: bool
 
 /// Between two phases: whether the run has ended, and how, or whether there is cause for a phase. `begun` tells that there
 /// has been one.
-fn between<T: Lane>(objects: &[u8], workers: &mut [T], begun: bool) -> Next
+fn between<T: PhaseLane>(objects: &[u8], workers: &mut [T], begun: bool) -> Next
     requires ready { AreReady T.ready workers.old }
     requires table { AreOneTable T.view objects.now workers.old }
     requires few { HasFewRows T.numbers (one_where begun) workers.old }

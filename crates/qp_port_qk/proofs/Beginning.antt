@@ -11,12 +11,12 @@ use Rattle.qp_stim.specs.Rules.{StimuliFit}
 use Rattle.qp_calls.specs.LaneView.{LaneView}
 use Rattle.qp_dispatch.specs.declared.objects.Turn.{Turn}
 use Rattle.qp_dispatch.specs.declared.objects.Turn.TheVariants as turn
-use Rattle.qp_port_workers.specs.Turns.{AreReady}
+use Rattle.qp_port_phases.specs.Turns.{AreReady}
 use Rattle.qp_port_phases.specs.Lanes.{AreTogether}
-use Rattle.qp_port_cursor.proofs.Feeding.{fed-new}
-use Rattle.qp_port_cursor.proofs.Standing.{new-stand}
-use Rattle.qp_port_qk.specs.declared.job.Job.{Job}
-use Rattle.qp_port_qk.specs.declared.job.Job.TheVariants as job
+use Rattle.qp_port_lanes.proofs.Feeding.{fed-new}
+use Rattle.qp_port_lanes.proofs.Standing.{new-stand}
+use Rattle.qp_port_qk.specs.declared.job.QkJob.{QkJob}
+use Rattle.qp_port_qk.specs.declared.job.QkJob.TheVariants as job
 use Rattle.qp_port_qk.specs.Jobs.{JobBegins, JobRests, JobStands}
 use Rattle.qp_port_qk.specs.Making.{AreAllMade, IsFreshWorker, IsKernelMade, IsSourceMade, MadesKernel, MadesSource, SourcesMade}
 use Rattle.qp_port_qk.specs.Rows.{AreNew, AreNewLanes, AreSources, IsKernel, IsNewOf, IsRow, IsSourceOf}
@@ -28,7 +28,7 @@ got (y ∷ ys) zero x h = let same : y ≡ x = cc in (same, omega arith)
 got (y ∷ ys) (suc n) x h = let more = got ys n x h in let few = more.1 in (more.0, omega (arith, few))
 
 module _ (acts : Bool) (alone : acts ≡ false) (sys : System) (stimuli : List (List Stim)) (budget : ℕ) (sound : IsSound sys) (fit : StimuliFit sys stimuli) (few : budget ≤ 1000000) where
-  fresh-begin : (s : System) (b : ℕ) (t : Turn) (x : Job) (v : LaneView) → IsFreshWorker sys budget s b t → JobBegins sys x v → v.stops ≡ [] → MayBegin acts s b t x v
+  fresh-begin : (s : System) (b : ℕ) (t : Turn) (x : QkJob) (v : LaneView) → IsFreshWorker sys budget s b t → JobBegins sys x v → v.stops ≡ [] → MayBegin acts s b t x v
   fresh-begin s b t x v fresh h none = record {
     alone = alone;
     sound = subst IsSound (sym fresh.sys_is) sound;
@@ -38,7 +38,7 @@ module _ (acts : Bool) (alone : acts ≡ false) (sys : System) (stimuli : List (
     fed = fed-new v none;
   }
 
-  fresh-turn : (s : System) (b : ℕ) (t : Turn) (x : Job) (v : LaneView) → IsFreshWorker sys budget s b t → JobRests sys budget x v → v.stops ≡ [] → MayTurn acts s b t x v
+  fresh-turn : (s : System) (b : ℕ) (t : Turn) (x : QkJob) (v : LaneView) → IsFreshWorker sys budget s b t → JobRests sys budget x v → v.stops ≡ [] → MayTurn acts s b t x v
   fresh-turn s b t x v fresh h none = record {
     alone = alone;
     sound = subst IsSound (sym fresh.sys_is) sound;
@@ -47,14 +47,14 @@ module _ (acts : Bool) (alone : acts ≡ false) (sys : System) (stimuli : List (
     fed = λ long. fed-new v none;
   }
 
-  kernel-begins : (world : List ℕ) (x : Job) (v : LaneView) → IsKernelMade sys x → IsNewOf sys world v → ((d : ObjectDef) → object_at sys d.priority ≡ Some d → v.serves d.priority ≡ true) → v.plan ≡ [] → JobBegins sys x v × IsKernel x
+  kernel-begins : (world : List ℕ) (x : QkJob) (v : LaneView) → IsKernelMade sys x → IsNewOf sys world v → ((d : ObjectDef) → object_at sys d.priority ≡ Some d → v.serves d.priority ≡ true) → v.plan ≡ [] → JobBegins sys x v × IsKernel x
   kernel-begins world (job.Kernel xs k) v made new serves plan = (
     record { made = made.0; fresh = record { new = new.new; of = new.of; serves = serves }; plan = plan; looks = made.1; stack = made.2; steps = made.3 },
     tt,
   )
   kernel-begins world (job.Source x) v made new serves plan = absurd made
 
-  source-begins : (world : List ℕ) (n : ℕ) (ss : List Stim) (more : List (List Stim)) (x : Job) (v : LaneView) → IsSourceMade stimuli (n + 1) x → drop n stimuli ≡ ss ∷ more → IsNewOf sys world v → JobRests sys budget x v × IsSourceOf ss x
+  source-begins : (world : List ℕ) (n : ℕ) (ss : List Stim) (more : List (List Stim)) (x : QkJob) (v : LaneView) → IsSourceMade stimuli (n + 1) x → drop n stimuli ≡ ss ∷ more → IsNewOf sys world v → JobRests sys budget x v × IsSourceOf ss x
   source-begins world n ss more (job.Source x) v made at new =
       let here = got stimuli n ss (drop-head n stimuli ss more at).0 in
       let few = here.1 in
@@ -74,7 +74,7 @@ module _ (acts : Bool) (alone : acts ≡ false) (sys : System) (stimuli : List (
       )
   source-begins world n ss more (job.Kernel xs k) v made at new = absurd made
 
-  module _ {T : Type 0} (s : T → System) (b : T → ℕ) (t : T → Turn) (work : T → Job) (view : T → LaneView) (world : List ℕ) where
+  module _ {T : Type 0} (s : T → System) (b : T → ℕ) (t : T → Turn) (work : T → QkJob) (view : T → LaneView) (world : List ℕ) where
     abbrev Turns : T → Type 0
     Turns w = MayTurn acts (s w) (b w) (t w) (work w) (view w)
 
@@ -113,7 +113,7 @@ module _ (acts : Bool) (alone : acts ≡ false) (sys : System) (stimuli : List (
     together v at of (w ∷ ws) h = (record { world = h.0.0 ∙ sym at; sys = h.0.1 ∙ sym of }, together v at of ws h.1)
 
   -- all that is known of the workers of a run before their start
-  pub record AreReadyAll {T : Type 0} (s : T → System) (b : T → ℕ) (t : T → Turn) (work : T → Job) (view : T → LaneView) (ws : List T) : Type 0 where
+  pub record AreReadyAll {T : Type 0} (s : T → System) (b : T → ℕ) (t : T → Turn) (work : T → QkJob) (view : T → LaneView) (ws : List T) : Type 0 where
     pub first : T
     pub others : List T
     pub are : ws ≡ first ∷ others
@@ -123,7 +123,7 @@ module _ (acts : Bool) (alone : acts ≡ false) (sys : System) (stimuli : List (
     pub together_are : AreTogether view (view first) others
     pub of : (view first).sys ≡ sys
 
-  pub all-begin : {T L : Type 0} (s : T → System) (b : T → ℕ) (t : T → Turn) (work : T → Job) (lane : T → L) (see : L → LaneView) (lanes : List L) (ws : List T)
+  pub all-begin : {T L : Type 0} (s : T → System) (b : T → ℕ) (t : T → Turn) (work : T → QkJob) (lane : T → L) (see : L → LaneView) (lanes : List L) (ws : List T)
       → AreAllMade lane (λ w. MadesKernel sys budget (s w) (b w) (t w) (work w)) (λ k w. MadesSource sys budget stimuli k (s w) (b w) (t w) (work w)) stimuli lanes ws
       → AreNewLanes sys stimuli (map see lanes) → AreReadyAll s b t work (λ w. see (lane w)) ws
   all-begin {T = T} s b t work lane see lanes ws made new =

@@ -15,8 +15,8 @@ use Rattle.qp_kernel_turns.specs.contracts.objects.Slot as slot
 use Rattle.qp_kernel_turns.specs.contracts.objects.Objects as objects
 use Rattle.qp_kernel.specs.contracts.kernel.Kernel as kernel
 use Rattle.qp_model.specs.contracts.stimulus.Stimuli as stimuli
-use Rattle.qp_port_cursor.specs.contracts.cursor.Cursor as cursor
-use Rattle.qp_port_qk.specs.contracts.job.Job as job
+use Rattle.qp_port_lanes.specs.contracts.cursor.Cursor as cursor
+use Rattle.qp_port_qk.specs.contracts.job.QkJob as job
 use Rattle.qp_port_qk.specs.contracts.worker.QkWorker as worker
 
 compiled-send : IsSend compiled.the_field.row

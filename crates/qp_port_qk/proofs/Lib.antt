@@ -8,3 +8,5 @@ mod Resting
 mod Rows
 mod Running
 mod CrossingLemmas
+pub mod Based
+pub mod Turned

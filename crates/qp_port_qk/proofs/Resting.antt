@@ -24,7 +24,7 @@ use Rattle.qp_kernel_turns.specs.Objects.{leaf_there, vars_there}
 use Rattle.qp_kernel_turns.specs.Turning.{Stand, stand_of}
 use Rattle.qp_kernel_turns.proofs.Resting.{rests-still}
 use Rattle.qp_port_qk.specs.KernelRests.{KernelRests}
-use Rattle.qp_port_qk.specs.Resting.{AreShown, IsShown}
+use Rattle.qp_port_qk.specs.Resting.{KernelShows, IsShown}
 
 leaf-shown : (slot : Slot) (n : ℕ) → leaf_there (Some (Some slot)) ≡ Some n → n ≡ slot.object.lasting.leaf
 leaf-shown slot n h = by slot.object.started h
@@ -48,11 +48,11 @@ module _ (sys : System) (sound : IsSound sys) (s : Stand) (rest : OthersRest sys
         },
       )
 
-  all-shown : (d : ObjectDef) → object_at sys d.priority ≡ Some d → (xs : List Rest) → AreShown s.objects s.stack xs → AllByRecursion (IsRestOf sys d (own_told d.priority s.lane.told)) xs
+  all-shown : (d : ObjectDef) → object_at sys d.priority ≡ Some d → (xs : List Rest) → KernelShows s.objects s.stack xs → AllByRecursion (IsRestOf sys d (own_told d.priority s.lane.told)) xs
   all-shown d found [] h = tt
   all-shown d found (x ∷ xs) h = (shown-rest d found x h.0, all-shown d found xs h.1)
 
-  pub shown-rests : (xs : List Rest) → AreShown s.objects s.stack xs → AreRests sys (λ o. own_told o s.lane.told) xs
+  pub shown-rests : (xs : List Rest) → KernelShows s.objects s.stack xs → AreRests sys (λ o. own_told o s.lane.told) xs
   unfolding object_at
   shown-rests xs shown = go sys.objects (all-found sys.objects sound.ascend)
     where

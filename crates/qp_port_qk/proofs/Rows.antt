@@ -10,12 +10,12 @@ use Rattle.qp_dispatch.specs.declared.objects.Turn.TheVariants as turn
 use Rattle.qp_kernel_turns.specs.Lanes.{SameLane}
 use Rattle.qp_port_phases.specs.Lanes.{SameEach}
 use Rattle.qp_port_phases.specs.Rows.{HasFewRows, Numbers, all_settles, any_lost}
-use Rattle.qp_port_workers.specs.Turns.{AreReady}
-use Rattle.qp_port_sealed.specs.Lanes.{settles_in}
-use Rattle.qp_port_cursor.specs.Passing.{settles_of}
-use Rattle.qp_port_qk.specs.declared.job.Job.{Job}
-use Rattle.qp_port_qk.specs.declared.job.Job.TheVariants as job
-use Rattle.qp_port_cursor.specs.Answers.{is_idle, is_short}
+use Rattle.qp_port_phases.specs.Turns.{AreReady}
+use Rattle.qp_port_law.specs.Lanes.{settles_in}
+use Rattle.qp_port_lanes.specs.Passing.{settles_of}
+use Rattle.qp_port_qk.specs.declared.job.QkJob.{QkJob}
+use Rattle.qp_port_qk.specs.declared.job.QkJob.TheVariants as job
+use Rattle.qp_port_lanes.specs.Answers.{is_idle, is_short}
 use Rattle.qp_port_qk.specs.Jobs.{IsSameJob, JobEnds, JobMayEnd, JobRests, JobStands}
 use Rattle.qp_port_qk.specs.Numbers.{numbers_of}
 use Rattle.qp_port_qk.specs.Rows.{AreSameLanes, AreSources, IsKernel, IsRow, IsSourceOf}
@@ -45,17 +45,17 @@ ready-same Same P f (x ∷ xs) [] same h = absurd same
 
 -- The same workers are for the same sources.
 
-kernel-still : (i j : Job) → IsSameJob i j → IsKernel i → IsKernel j
+kernel-still : (i j : QkJob) → IsSameJob i j → IsKernel i → IsKernel j
 kernel-still (job.Kernel xs k) (job.Kernel ys l) same h = tt
 kernel-still (job.Kernel xs k) (job.Source y) same h = absurd same
 kernel-still (job.Source x) j same h = absurd h
 
-source-still : (ss : List Stim) (i j : Job) → IsSameJob i j → IsSourceOf ss i → IsSourceOf ss j
+source-still : (ss : List Stim) (i j : QkJob) → IsSameJob i j → IsSourceOf ss i → IsSourceOf ss j
 source-still ss (job.Source x) (job.Source y) same h = same ∙ h
 source-still ss (job.Source x) (job.Kernel ys l) same h = absurd same
 source-still ss (job.Kernel xs k) j same h = absurd h
 
-module _ {T : Type 0} (work : T → Job) (Same : T → T → Type 0) (jobs : (a b : T) → Same a b → IsSameJob (work a) (work b)) where
+module _ {T : Type 0} (work : T → QkJob) (Same : T → T → Type 0) (jobs : (a b : T) → Same a b → IsSameJob (work a) (work b)) where
   sources-still : (more : List (List Stim)) (xs ys : List T) → SameEach Same xs ys → AreSources work more xs → AreSources work more ys
   sources-still [] [] [] same h = tt
   sources-still (ss ∷ more) (x ∷ xs) (y ∷ ys) same h = (source-still ss (work x) (work y) (jobs x y same.0) h.0, sources-still more xs ys same.1 h.1)
@@ -77,7 +77,7 @@ lanes-still view Same lanes (x ∷ xs) [] same = absurd same
 
 -- What is known of one that ended, or rests.
 
-pub ends-so : (sys : System) (budget : ℕ) (t : Turn) (x : Job) (v : LaneView) → is_short t ≡ false → MayEnd sys budget t x v → JobMayEnd sys budget x v
+pub ends-so : (sys : System) (budget : ℕ) (t : Turn) (x : QkJob) (v : LaneView) → is_short t ≡ false → MayEnd sys budget t x v → JobMayEnd sys budget x v
 ends-so sys budget t x v long h = by t long h.ends
   where
     by : (t : Turn) → is_short t ≡ false → JobEnds sys budget t x v → JobMayEnd sys budget x v
@@ -85,7 +85,7 @@ ends-so sys budget t x v long h = by t long h.ends
     by turn.Stopped long h = h.0
     by turn.Memory long h = absurd (cc)
 
-pub turns-rest : (acts : Bool) (sys : System) (budget : ℕ) (t : Turn) (x : Job) (v : LaneView) → is_idle t ≡ true → MayTurn acts sys budget t x v → JobRests sys budget x v
+pub turns-rest : (acts : Bool) (sys : System) (budget : ℕ) (t : Turn) (x : QkJob) (v : LaneView) → is_idle t ≡ true → MayTurn acts sys budget t x v → JobRests sys budget x v
 turns-rest acts sys budget t x v idle h = by t idle h.stands
   where
     by : (t : Turn) → is_idle t ≡ true → JobStands sys budget t x v → JobRests sys budget x v
@@ -95,7 +95,7 @@ turns-rest acts sys budget t x v idle h = by t idle h.stands
 
 -- What is counted.
 
-module _ {T : Type 0} (s : T → System) (b : T → ℕ) (t : T → Turn) (work : T → Job) (view : T → LaneView) where
+module _ {T : Type 0} (s : T → System) (b : T → ℕ) (t : T → Turn) (work : T → QkJob) (view : T → LaneView) where
   abbrev numbers : T → Numbers
   numbers w = numbers_of (s w) (b w) (t w) (work w) (view w)
 

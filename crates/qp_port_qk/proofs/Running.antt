@@ -24,29 +24,29 @@ use Rattle.qp_kernel.specs.Turning.{under_qk}
 use Rattle.qp_kernel.specs.ZeroEnds.{own_told}
 use Rattle.qp_kernel_end.specs.declared.rest.Rest.{Rest}
 use Rattle.qp_kernel_end.specs.Rests.{AreRests}
-use Rattle.qp_kernel_turns.specs.Knowing.{IsNamed}
+use Rattle.qp_kernel_turns.specs.Knowing.{IsObjectWithChart}
 use Rattle.qp_kernel_turns.specs.Turning.{EndsSo, stand_of}
 use Rattle.qp_kernel_turns.specs.TurnRows.{idle_rows}
 use Rattle.qp_kernel_turns.proofs.RoundRows.{object-there}
 use Rattle.qp_kernel_turns.proofs.SoundObjects.{is-object, named}
-use Rattle.qp_port_workers.specs.Turns.{AreReady}
-use Rattle.qp_port_phases.specs.declared.phases.Ended.{Ended}
-use Rattle.qp_port_phases.specs.declared.phases.Ended.TheVariants as ended
+use Rattle.qp_port_phases.specs.Turns.{AreReady}
+use Rattle.qp_port_phases.specs.declared.phases.PhasesEnd.{PhasesEnd}
+use Rattle.qp_port_phases.specs.declared.phases.PhasesEnd.TheVariants as ended
 use Rattle.qp_port_phases.specs.Lanes.{AreObjects, AreOneTable, SameEach}
 use Rattle.qp_port_phases.specs.Quiet.{AllBelow, AreEmpty, FirstFound, HasEnded, IsEmpty}
 use Rattle.qp_port_phases.specs.Stopping.{AnyStopped, HasStopped}
 use Rattle.qp_port_phases.specs.Rows.{HasFewRows}
 use Rattle.qp_port_law.specs.SourcesLeft.{SourceLeaves}
-use Rattle.qp_port_quiet.specs.Laws.{IsLastLook}
-use Rattle.qp_port_quiet.specs.Sealed.{IsLaneAt}
-use Rattle.qp_port_rests.proofs.Turned.{turned_kernels_end, turned_kernels_rest}
-use Rattle.qp_port_sealed.specs.Lanes.{HaveNone, SourcesAre, settles_in}
-use Rattle.qp_port_sealed.specs.QkLanes.{QkRests}
-use Rattle.qp_port_cursor.proofs.Standing.{done-end}
-use Rattle.qp_port_qk.specs.declared.job.Job.{Job}
-use Rattle.qp_port_qk.specs.declared.job.Job.TheVariants as job
+use Rattle.qp_port_law.specs.QuietLaws.{IsLastLook}
+use Rattle.qp_port_law.specs.Sealed.{IsLaneAt}
+use Rattle.qp_port_qk.proofs.Turned.{turned_kernels_end, turned_kernels_rest}
+use Rattle.qp_port_law.specs.Lanes.{HaveNone, SourcesAre, settles_in}
+use Rattle.qp_port_law.specs.QkLanes.{QkRests}
+use Rattle.qp_port_lanes.proofs.Standing.{done-end}
+use Rattle.qp_port_qk.specs.declared.job.QkJob.{QkJob}
+use Rattle.qp_port_qk.specs.declared.job.QkJob.TheVariants as job
 use Rattle.qp_port_qk.specs.Ends.{HasRun, is_over}
-use Rattle.qp_port_cursor.specs.Answers.{IsFed, is_idle, is_short}
+use Rattle.qp_port_lanes.specs.Answers.{IsFed, is_idle, is_short}
 use Rattle.qp_port_qk.specs.Jobs.{JobMayEnd, JobRests, JobStands, is_left_in}
 use Rattle.qp_port_qk.specs.KernelRests.{KernelEnds}
 use Rattle.qp_port_qk.specs.Numbers.{job_rows, numbers_of}
@@ -60,7 +60,7 @@ use Rattle.qp_port_qk.proofs.Rows.{ends-so, lanes-still, lost-none, ready-all, r
 use Rattle.qp_dispatch.specs.declared.objects.Turn.TheVariants as turn
 
 -- the objects of the system are those that lanes look at
-objects-from : (sys : System) → IsSound sys → (v : LaneView) → v.sys ≡ sys → (ds : List ObjectDef) → AllByRecursion (λ d. IsNamed sys d.priority) ds → AreObjects v (map (λ d. d.priority) ds)
+objects-from : (sys : System) → IsSound sys → (v : LaneView) → v.sys ≡ sys → (ds : List ObjectDef) → AllByRecursion (λ d. IsObjectWithChart sys d.priority) ds → AreObjects v (map (λ d. d.priority) ds)
 objects-from sys sound v of [] h = tt
 objects-from sys sound v of (d ∷ ds) h = (
   subst (λ u. is_object u d.priority ≡ true) (sym of) (subst (λ p. is_object sys p ≡ true) h.0.is (is-object sys sound h.0.object h.0.found)),
@@ -69,23 +69,23 @@ objects-from sys sound v of (d ∷ ds) h = (
 
 -- One worker.
 
-first-ends : (sys : System) (budget : ℕ) (x : Job) (v : LaneView) → IsKernel x → JobMayEnd sys budget x v → KernelEnds sys budget v
+first-ends : (sys : System) (budget : ℕ) (x : QkJob) (v : LaneView) → IsKernel x → JobMayEnd sys budget x v → KernelEnds sys budget v
 first-ends sys budget (job.Kernel xs k) v is h = h
 first-ends sys budget (job.Source x) v is h = absurd is
 
-source-early : (sys : System) (budget end : ℕ) (ss : List Stim) (v : LaneView) → may_cut end ≡ true → (x : Job) → IsSourceOf ss x → JobMayEnd sys budget x v → SourceLeaves sys qk end ss v.told
+source-early : (sys : System) (budget end : ℕ) (ss : List Stim) (v : LaneView) → may_cut end ≡ true → (x : QkJob) → IsSourceOf ss x → JobMayEnd sys budget x v → SourceLeaves sys qk end ss v.told
 source-early sys budget end ss v early (job.Source x) is h = subst (λ xs. SourceLeaves sys qk end xs v.told) is (h qk end refl early)
 source-early sys budget end ss v early (job.Kernel xs k) is h = absurd is
 
-source-quiet : (sys : System) (budget : ℕ) (ss : List Stim) (v : LaneView) (x : Job) → IsSourceOf ss x → is_left_in x ≡ false → JobRests sys budget x v → SourceLeaves sys qk quiet ss v.told × (v.hands ≡ [])
+source-quiet : (sys : System) (budget : ℕ) (ss : List Stim) (v : LaneView) (x : QkJob) → IsSourceOf ss x → is_left_in x ≡ false → JobRests sys budget x v → SourceLeaves sys qk quiet ss v.told × (v.hands ≡ [])
 source-quiet sys budget ss v (job.Source x) is none h = (subst (λ xs. SourceLeaves sys qk quiet xs v.told) is (done-end sys x v qk quiet h refl none), h.at.hands)
 source-quiet sys budget ss v (job.Kernel xs k) is none h = absurd is
 
-first-rows : (sys : System) (budget : ℕ) (x : Job) (v : LaneView) → IsKernel x → job_rows sys budget x v ≡ idle_rows sys (under_qk budget) v
+first-rows : (sys : System) (budget : ℕ) (x : QkJob) (v : LaneView) → IsKernel x → job_rows sys budget x v ≡ idle_rows sys (under_qk budget) v
 first-rows sys budget (job.Kernel xs k) v is = refl
 first-rows sys budget (job.Source x) v is = absurd is
 
-first-quiet : (sys : System) (budget : ℕ) → IsSound sys → (x : Job) (v : LaneView) (sources : List LaneView) → IsKernel x → JobRests sys budget x v → ((a : ℕ) → IsTrue (is_object sys a) → IsLastLook (v ∷ sources) a v) → HaveNone sources
+first-quiet : (sys : System) (budget : ℕ) → IsSound sys → (x : QkJob) (v : LaneView) (sources : List LaneView) → IsKernel x → JobRests sys budget x v → ((a : ℕ) → IsTrue (is_object sys a) → IsLastLook (v ∷ sources) a v) → HaveNone sources
     → EndsSo sys (under_qk budget) quiet v.told (has_stim (lanes_of v)) × QkRests sys budget v sources
 first-quiet sys budget sound (job.Kernel xs k) v sources is h looks none = (
   turned_kernels_end sys budget h.first h.start (stand_of k xs v) quiet (has-turned sys budget sound xs k v h) (inl refl),
@@ -93,7 +93,7 @@ first-quiet sys budget sound (job.Kernel xs k) v sources is h looks none = (
 )
 first-quiet sys budget sound (job.Source x) v sources is h looks none = absurd is
 
-first-told : (acts : Bool) (sys : System) (budget : ℕ) (t : Turn) (x : Job) (v : LaneView) (rests : List Rest) → IsSound sys → is_short t ≡ false → JobStands sys budget t x v → AreShownBy x rests → AreRests sys (λ o. own_told o v.told) rests
+first-told : (acts : Bool) (sys : System) (budget : ℕ) (t : Turn) (x : QkJob) (v : LaneView) (rests : List Rest) → IsSound sys → is_short t ≡ false → JobStands sys budget t x v → AreShownBy x rests → AreRests sys (λ o. own_told o v.told) rests
 first-told acts sys budget t (job.Source x) v rests sound long h shown = subst (AreRests sys (λ o. own_told o v.told)) (sym shown) (no-rests sys (λ o. own_told o v.told))
 first-told acts sys budget turn.Idle (job.Kernel xs k) v rests sound long h shown = shown-rests sys sound (stand_of k xs v) (based-rest sys budget sound xs k v h) rests shown
 first-told acts sys budget turn.Stopped (job.Kernel xs k) v rests sound long h shown = shown-rests sys sound (stand_of k xs v) h.0.others rests shown
@@ -128,7 +128,7 @@ module _ {T : Type 0} (view : T → LaneView) where
       let none = e.empty in
       record { below = λ n u at. below-all w ws below a n u at; f = e.f; l = e.l; m = e.m; says = e.shown; none = omega (arith, none) }
 
-module _ {T : Type 0} (work : T → Job) (view : T → LaneView) (sys : System) (budget : ℕ) where
+module _ {T : Type 0} (work : T → QkJob) (view : T → LaneView) (sys : System) (budget : ℕ) where
   sources-early : (end : ℕ) → may_cut end ≡ true → (more : List (List Stim)) (ws : List T) → AreSources work more ws → AreReady (λ w. JobMayEnd sys budget (work w) (view w)) ws → SourcesAre sys qk end more (map view ws)
   sources-early end early [] [] row h = tt
   sources-early end early (ss ∷ more) (w ∷ ws) row h = (source-early sys budget end ss (view w) early (work w) row.0 h.0, sources-early end early more ws row.1 h.1)
@@ -163,7 +163,7 @@ module _ {T : Type 0} (work : T → Job) (view : T → LaneView) (sys : System) 
   }
 
 module _ (acts : Bool) (alone : acts ≡ false) (sys : System) (stimuli : List (List Stim)) (budget : ℕ) (sound : IsSound sys) (fit : StimuliFit sys stimuli) (few : budget ≤ 1000000)
-    {T : Type 0} (s : T → System) (b : T → ℕ) (t : T → Turn) (work : T → Job) (view : T → LaneView) (xs : List T) (all : AreReadyAll acts alone sys stimuli budget sound fit few s b t work view xs) where
+    {T : Type 0} (s : T → System) (b : T → ℕ) (t : T → Turn) (work : T → QkJob) (view : T → LaneView) (xs : List T) (all : AreReadyAll acts alone sys stimuli budget sound fit few s b t work view xs) where
   pub one-table : (objects : List ℕ) → objects ≡ priorities sys → AreOneTable view objects xs
   one-table objects are = rw all.are (all.together_are, subst (AreObjects (view all.first)) (sym are) (objects-from sys sound (view all.first) all.of sys.objects (named sys sound)))
 
@@ -196,13 +196,13 @@ module _ (acts : Bool) (alone : acts ≡ false) (sys : System) (stimuli : List (
         (ready-both (λ w. MayTurn acts (s w) (b w) (t w) (work w) (view w) × (is_idle (t w) ≡ true)) (λ w. (s w ≡ sys) × (b w ≡ budget)) ys
         (ready-both (λ w. MayTurn acts (s w) (b w) (t w) (work w) (view w)) (λ w. is_idle (t w) ≡ true) ys ready (ready-all (λ w. is_idle (t w)) ys idle)) terms)
 
-    pub ran : (how : Option Ended) (done : Bool) (rests : List Rest) (objects : List ℕ) → objects ≡ priorities sys → AreReady (λ w. MayEnd (s w) (b w) (t w) (work w) (view w)) ys
-        → ((e : Ended) → how ≡ Some e → AreReady (λ w. MayTurn acts (s w) (b w) (t w) (work w) (view w)) ys) → HasFewRows (λ w. numbers_of (s w) (b w) (t w) (work w) (view w)) 1 ys
+    pub ran : (how : Option PhasesEnd) (done : Bool) (rests : List Rest) (objects : List ℕ) → objects ≡ priorities sys → AreReady (λ w. MayEnd (s w) (b w) (t w) (work w) (view w)) ys
+        → ((e : PhasesEnd) → how ≡ Some e → AreReady (λ w. MayTurn acts (s w) (b w) (t w) (work w) (view w)) ys) → HasFewRows (λ w. numbers_of (s w) (b w) (t w) (work w) (view w)) 1 ys
         → (how ≡ Some ended.Idle → HasEnded view (λ w. is_left_in (work w)) objects ys)
         → AreLeft work how ys rests → list_any (λ w. is_short (t w)) ys ≡ false → (done ≡ true → (how ≡ Some ended.Idle) × (list_all (λ w. is_idle (t w)) ys ≡ true)) → HasRun sys stimuli budget done rests (map view ys)
     ran how done rests objects are ends ready rows idle shown long quietly = by ys refl
       where
-        told-by : (h : Option Ended) → how ≡ h → (w : T) (ws : List T) → ys ≡ w ∷ ws → is_short (t w) ≡ false → s w ≡ sys → AreRests sys (λ o. own_told o (view w).told) rests
+        told-by : (h : Option PhasesEnd) → how ≡ h → (w : T) (ws : List T) → ys ≡ w ∷ ws → is_short (t w) ≡ false → s w ≡ sys → AreRests sys (λ o. own_told o (view w).told) rests
         told-by None is w ws at free of = subst (AreRests sys (λ o. own_told o (view w).told)) (sym (subst (λ h. AreLeft work h ys rests) is shown)) (no-rests sys (λ o. own_told o (view w).told))
         told-by (Some e) is w ws at free of =
             let turns = subst (AreReady (λ w. MayTurn acts (s w) (b w) (t w) (work w) (view w))) at (ready e is) in
@@ -231,13 +231,13 @@ module _ (acts : Bool) (alone : acts ≡ false) (sys : System) (stimuli : List (
 
 -- Why something is left to be done.
 
-halted-one : (acts : Bool) (sys : System) (budget : ℕ) (t : Turn) (x : Job) (v : LaneView) → is_idle t ≡ false → is_short t ≡ false → MayTurn acts sys budget t x v ⊎ MayEnd sys budget t x v → HasStopped v
+halted-one : (acts : Bool) (sys : System) (budget : ℕ) (t : Turn) (x : QkJob) (v : LaneView) → is_idle t ≡ false → is_short t ≡ false → MayTurn acts sys budget t x v ⊎ MayEnd sys budget t x v → HasStopped v
 halted-one acts sys budget turn.Idle x v none long h = absurd (cc)
 halted-one acts sys budget turn.Stopped x v none long (inl h) = h.stands.1
 halted-one acts sys budget turn.Stopped x v none long (inr h) = h.ends.1
 halted-one acts sys budget turn.Memory x v none long h = absurd (cc)
 
-module _ {T : Type 0} (acts : Bool) (s : T → System) (b : T → ℕ) (t : T → Turn) (work : T → Job) (view : T → LaneView) where
+module _ {T : Type 0} (acts : Bool) (s : T → System) (b : T → ℕ) (t : T → Turn) (work : T → QkJob) (view : T → LaneView) where
   any-halted : (ws : List T) → list_all (λ w. is_idle (t w)) ws ≡ false → list_any (λ w. is_short (t w)) ws ≡ false
       → AreReady (λ w. MayTurn acts (s w) (b w) (t w) (work w) (view w) ⊎ MayEnd (s w) (b w) (t w) (work w) (view w)) ws → AnyStopped (map view ws)
   any-halted [] none long h = absurd (cc)
@@ -264,7 +264,7 @@ module _ {T : Type 0} (acts : Bool) (s : T → System) (b : T → ℕ) (t : T �
   first-halted memory [] ys h = absurd h
   first-halted memory (x ∷ xs) [] h = absurd h
 
-  pub cause : (xs ys : List T) (how : Option Ended) → (how ≡ None → list_all (λ w. is_idle (t w)) ys ≡ false) → (how ≡ Some ended.Stopped → FirstFound view false xs ys) → (how ≡ Some ended.Memory → FirstFound view true xs ys)
+  pub cause : (xs ys : List T) (how : Option PhasesEnd) → (how ≡ None → list_all (λ w. is_idle (t w)) ys ≡ false) → (how ≡ Some ended.Stopped → FirstFound view false xs ys) → (how ≡ Some ended.Memory → FirstFound view true xs ys)
       → AreReady (λ w. MayTurn acts (s w) (b w) (t w) (work w) (view w) ⊎ MayEnd (s w) (b w) (t w) (work w) (view w)) ys → list_any (λ w. is_short (t w)) ys ≡ false
       → (is_over how ≡ false) ⊎ (list_all (λ w. is_idle (t w)) ys ≡ false) → AnyStopped (map view ys)
   cause xs ys how none stopped memory each long (inr left) = any-halted ys left long each

@@ -15,12 +15,12 @@ use Rattle.qp_kernel.specs.Turning.{under_qk}
 use Rattle.qp_kernel_end.specs.Rests.{AreRestsIn}
 use Rattle.qp_kernel_turns.specs.Turning.{EndsSo}
 use Rattle.qp_kernel_turns.specs.TurnRows.{idle_rows}
-use Rattle.qp_port_quiet.specs.Sealed.{SealsLanes}
-use Rattle.qp_port_sealed.specs.Lanes.{SourcesAre, settles_in}
-use Rattle.qp_port_sealed.specs.QkLanes.{AreQkLanes}
-use Rattle.qp_port_sealed.proofs.QkLemmas.{sealed-qk}
-use Rattle.qp_port_sealed.proofs.RestLemmas.{qk-rests}
-use Rattle.qp_port_sealed.specs.ThreadRun.{IsThreadRun}
+use Rattle.qp_port_law.specs.Sealed.{SealsLanes}
+use Rattle.qp_port_law.specs.Lanes.{SourcesAre, settles_in}
+use Rattle.qp_port_law.specs.QkLanes.{AreQkLanes}
+use Rattle.qp_port_law.proofs.QkLemmas.{sealed-qk}
+use Rattle.qp_port_law.proofs.RestLemmas.{qk-rests}
+use Rattle.qp_port_law.specs.ThreadRun.{IsThreadRun}
 use Rattle.qp_port_qk.specs.Laws.{SealedQkRunsAreLawful}
 
 -- a run ended quietly, or stopped early

@@ -18,15 +18,15 @@ use Rattle.qp_kernel_turns.proofs.Halted.{same-lanes}
 use Rattle.qp_kernel_turns.proofs.Places.{follow-none, follow-then}
 use Rattle.qp_kernel_turns.proofs.Staying.{all-still, all-wait}
 use Rattle.qp_port_law.specs.SourcesLeft.{SourceLeaves}
-use Rattle.qp_port_cursor.specs.At.{mine}
-use Rattle.qp_port_cursor.specs.Passing.{settles_of}
-use Rattle.qp_port_cursor.proofs.Feeding.{fed-seen}
-use Rattle.qp_port_cursor.proofs.Hearing.{hears-seen, starved-seen, stopped-seen}
-use Rattle.qp_port_cursor.proofs.Seeing.{SeenMore}
-use Rattle.qp_port_cursor.proofs.Standing.{stay}
-use Rattle.qp_port_rests.specs.Laws.{IsAtBase}
-use Rattle.qp_port_qk.specs.declared.job.Job.{Job}
-use Rattle.qp_port_qk.specs.declared.job.Job.TheVariants as job
+use Rattle.qp_port_lanes.specs.CursorAt.{mine}
+use Rattle.qp_port_lanes.specs.Passing.{settles_of}
+use Rattle.qp_port_lanes.proofs.Feeding.{fed-seen}
+use Rattle.qp_port_lanes.proofs.Hearing.{hears-seen, starved-seen, stopped-seen}
+use Rattle.qp_port_lanes.proofs.Seeing.{SeenMore}
+use Rattle.qp_port_lanes.proofs.Standing.{stay}
+use Rattle.qp_port_qk.specs.RestLaws.{IsAtBase}
+use Rattle.qp_port_qk.specs.declared.job.QkJob.{QkJob}
+use Rattle.qp_port_qk.specs.declared.job.QkJob.TheVariants as job
 use Rattle.qp_port_qk.specs.Jobs.{IsSameJob, JobRests, JobStands, JobStops}
 use Rattle.qp_port_qk.specs.KernelRests.{KernelRests, KernelStops}
 use Rattle.qp_port_qk.specs.Numbers.{job_rows, numbers_of}
@@ -88,20 +88,20 @@ module _ (v w : LaneView) (more : SeenMore v w) where
         subst (λ ts. RestsAt sys d chart xs ts) (sym more.sees.told) r;
   }
 
-  job-rests : (sys : System) (budget : ℕ) (x : Job) → JobRests sys budget x v → JobRests sys budget x w
+  job-rests : (sys : System) (budget : ℕ) (x : QkJob) → JobRests sys budget x v → JobRests sys budget x w
   job-rests sys budget (job.Kernel xs k) h = kernel-rests sys budget xs k h
   job-rests sys budget (job.Source x) h = stay sys x v w h more.sees
 
-  job-stops : (sys : System) (budget : ℕ) (x : Job) → JobStops sys budget x v → JobStops sys budget x w
+  job-stops : (sys : System) (budget : ℕ) (x : QkJob) → JobStops sys budget x v → JobStops sys budget x w
   job-stops sys budget (job.Kernel xs k) h = kernel-stops sys budget xs k h
   job-stops sys budget (job.Source x) h = λ kernel end may early. subst (SourceLeaves sys kernel end (mine x)) (sym more.sees.told) (h kernel end may early)
 
-  job-stands : (sys : System) (budget : ℕ) (t : Turn) (x : Job) → JobStands sys budget t x v → JobStands sys budget t x w
+  job-stands : (sys : System) (budget : ℕ) (t : Turn) (x : QkJob) → JobStands sys budget t x v → JobStands sys budget t x w
   job-stands sys budget turn.Idle x h = job-rests sys budget x h
   job-stands sys budget turn.Stopped x h = (job-stops sys budget x h.0, stopped-seen v w more h.1)
   job-stands sys budget turn.Memory x h = starved-seen v w more h
 
-  pub may-turn_still : (acts : Bool) (sys : System) (budget : ℕ) (t : Turn) (x : Job) → MayTurn acts sys budget t x v → MayTurn acts sys budget t x w
+  pub may-turn_still : (acts : Bool) (sys : System) (budget : ℕ) (t : Turn) (x : QkJob) → MayTurn acts sys budget t x v → MayTurn acts sys budget t x w
   may-turn_still acts sys budget t x h = record {
     alone = h.alone;
     sound = h.sound;
@@ -113,16 +113,16 @@ module _ (v w : LaneView) (more : SeenMore v w) where
   rows-still : (sys : System) (terms : Terms) → idle_rows sys terms w ≡ idle_rows sys terms v
   rows-still sys terms = ap (λ ts. idle_in sys terms ts (has_stim (lanes_of w))) more.sees.told ∙ ap (λ l. idle_in sys terms v.told (has_stim l)) lanes
 
-  pub numbers-still : (sys : System) (budget : ℕ) (t : Turn) (x : Job) → numbers_of sys budget t x w ≡ numbers_of sys budget t x v
+  pub numbers-still : (sys : System) (budget : ℕ) (t : Turn) (x : QkJob) → numbers_of sys budget t x w ≡ numbers_of sys budget t x v
   numbers-still sys budget t x = rw (job-still x, ap settles_of more.sees.told) refl
     where
-      job-still : (x : Job) → job_rows sys budget x w ≡ job_rows sys budget x v
+      job-still : (x : QkJob) → job_rows sys budget x w ≡ job_rows sys budget x v
       job-still (job.Kernel xs k) = rows-still sys (under_qk budget)
       job-still (job.Source y) = refl
 
-pub same-job : (x : Job) → IsSameJob x x
+pub same-job : (x : QkJob) → IsSameJob x x
 same-job (job.Kernel xs k) = tt
 same-job (job.Source x) = refl
 
-pub same-worker : (s : System) (b : ℕ) (x : Job) (v w : LaneView) → SeenMore v w → IsSameWorker s s b b x x v w
+pub same-worker : (s : System) (b : ℕ) (x : QkJob) (v w : LaneView) → SeenMore v w → IsSameWorker s s b b x x v w
 same-worker s b x v w more = record { sys = refl; budget = refl; job = same-job x; lane = more.same; hears = hears-seen v w more }

@@ -35,20 +35,20 @@ use Rattle.qp_kernel_turns.proofs.Places.{follow-then}
 use Rattle.qp_kernel_turns.proofs.RoundRows.{object-there}
 use Rattle.qp_port_phases.specs.Rows.{CountsOn, SeesEntry}
 use Rattle.qp_port_law.specs.SourcesLeft.{SourceLeaves}
-use Rattle.qp_port_rests.specs.Laws.{IsAtBase}
-use Rattle.qp_port_cursor.specs.declared.cursor.Cursor.{Cursor}
+use Rattle.qp_port_qk.specs.RestLaws.{IsAtBase}
+use Rattle.qp_port_lanes.specs.declared.cursor.Cursor.{Cursor}
 use Rattle.qp_port_phases.specs.declared.lanes.Passed.{Passed}
 use Rattle.qp_port_phases.specs.declared.lanes.Passed.TheVariants as passed
 use Rattle.qp_port_phases.specs.Passing.{PassesTo}
 use Rattle.qp_port_phases.specs.Stopping.{Hears}
-use Rattle.qp_port_cursor.proofs.Hearing.{passes-hands, passes-hear, passes-to, why-starved, why-stopped}
-use Rattle.qp_port_cursor.specs.At.{IsCursorAt, mine}
-use Rattle.qp_port_cursor.specs.Passing.{Passes, settles_of}
-use Rattle.qp_port_cursor.specs.Turning.{IsSameSource, SourceTurns}
-use Rattle.qp_port_qk.specs.declared.job.Job.TheVariants as job
-use Rattle.qp_port_cursor.specs.Answers.{Feeds, is_idle, turn_by}
-use Rattle.qp_port_cursor.proofs.Feeding.{idle-long}
-use Rattle.qp_port_qk.specs.declared.job.Job.{Job}
+use Rattle.qp_port_lanes.proofs.Hearing.{passes-hands, passes-hear, passes-to, why-starved, why-stopped}
+use Rattle.qp_port_lanes.specs.CursorAt.{IsCursorAt, mine}
+use Rattle.qp_port_lanes.specs.Passing.{Passes, settles_of}
+use Rattle.qp_port_lanes.specs.SourceTurning.{IsSameSource, SourceTurns}
+use Rattle.qp_port_qk.specs.declared.job.QkJob.TheVariants as job
+use Rattle.qp_port_lanes.specs.Answers.{Feeds, is_idle, turn_by}
+use Rattle.qp_port_lanes.proofs.Feeding.{idle-long}
+use Rattle.qp_port_qk.specs.declared.job.QkJob.{QkJob}
 use Rattle.qp_port_qk.specs.Jobs.{JobStands, JobStarts, KernelStands}
 use Rattle.qp_port_qk.specs.Workers.{MayBegin, MayTurn}
 use Rattle.qp_port_qk.specs.KernelRests.{KernelRests}
@@ -220,16 +220,16 @@ source-passed sys budget x y v w passed.Memory h same = why-starved v w h.starve
 
 -- What a turn leaves, whatever runs in the lane.
 
-pub may-turn : (acts : Bool) (sys : System) (budget : ℕ) (t u : Turn) (x y : Job) (v w : LaneView) → MayTurn acts sys budget t x v → is_idle t ≡ true → JobStands sys budget u y w → Feeds v w u → MayTurn acts sys budget u y w
+pub may-turn : (acts : Bool) (sys : System) (budget : ℕ) (t u : Turn) (x y : QkJob) (v w : LaneView) → MayTurn acts sys budget t x v → is_idle t ≡ true → JobStands sys budget u y w → Feeds v w u → MayTurn acts sys budget u y w
 may-turn acts sys budget t u x y v w h idle stands feeds = record { alone = h.alone; sound = h.sound; few = h.few; stands = stands; fed = λ long. feeds long (h.fed (idle-long t idle)) }
 
 -- the same behind a try with this answer
-pub may-pass : (acts : Bool) (sys : System) (budget : ℕ) (t u : Turn) (p : Passed) (x y : Job) (v w : LaneView) → MayTurn acts sys budget t x v → is_idle t ≡ true → JobStands sys budget (turn_by p) y w → Feeds v w (turn_by p) → u ≡ turn_by p
+pub may-pass : (acts : Bool) (sys : System) (budget : ℕ) (t u : Turn) (p : Passed) (x y : QkJob) (v w : LaneView) → MayTurn acts sys budget t x v → is_idle t ≡ true → JobStands sys budget (turn_by p) y w → Feeds v w (turn_by p) → u ≡ turn_by p
     → MayTurn acts sys budget u y w
 may-pass acts sys budget t u p x y v w h idle stands feeds is = subst (λ a. MayTurn acts sys budget a y w) (sym is) (may-turn acts sys budget t (turn_by p) x y v w h idle stands feeds)
 
 -- and behind a start that came to its end
-pub may-start : (acts : Bool) (sys : System) (budget : ℕ) (t u : Turn) (x y : Job) (v w : LaneView) → MayBegin acts sys budget t x v → is_idle u ≡ true → JobStarts sys budget u y w → Feeds v w u → MayTurn acts sys budget u y w
+pub may-start : (acts : Bool) (sys : System) (budget : ℕ) (t u : Turn) (x y : QkJob) (v w : LaneView) → MayBegin acts sys budget t x v → is_idle u ≡ true → JobStarts sys budget u y w → Feeds v w u → MayTurn acts sys budget u y w
 may-start acts sys budget t turn.Idle x y v w h idle starts feeds = record { alone = h.alone; sound = h.sound; few = h.few; stands = starts; fed = λ long. feeds long h.fed }
 may-start acts sys budget t turn.Stopped x y v w h idle starts feeds = absurd (cc)
 may-start acts sys budget t turn.Memory x y v w h idle starts feeds = absurd (cc)

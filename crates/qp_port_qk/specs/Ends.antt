@@ -14,13 +14,13 @@ use Rattle.qp_kernel_end.specs.declared.rest.Rest.{Rest}
 use Rattle.qp_kernel_end.specs.Rests.{AreRests}
 use Rattle.qp_kernel_turns.specs.Turning.{EndsSo}
 use Rattle.qp_kernel_turns.specs.TurnRows.{idle_rows}
-use Rattle.qp_port_phases.specs.declared.phases.Ended.{Ended}
-use Rattle.qp_port_phases.specs.declared.phases.Ended.TheVariants as ended
-use Rattle.qp_port_sealed.specs.Lanes.{SourcesAre, settles_in}
-use Rattle.qp_port_sealed.specs.QkLanes.{QkRests}
+use Rattle.qp_port_phases.specs.declared.phases.PhasesEnd.{PhasesEnd}
+use Rattle.qp_port_phases.specs.declared.phases.PhasesEnd.TheVariants as ended
+use Rattle.qp_port_law.specs.Lanes.{SourcesAre, settles_in}
+use Rattle.qp_port_law.specs.QkLanes.{QkRests}
 
 -- all starts came to their end, and the phases ended idle
-abbrev pub is_over : Option Ended → Bool
+abbrev pub is_over : Option PhasesEnd → Bool
 is_over None = false
 is_over (Some ended.Idle) = true
 is_over (Some ended.Stopped) = false

@@ -14,40 +14,40 @@ use Rattle.qp_kernel_turns.specs.Ordering.{TurnsInOrder}
 use Rattle.qp_kernel_turns.specs.Turning.{TurnsTo, stand_of}
 use Rattle.qp_port_phases.specs.Stopping.{HasStarved, HasStopped}
 use Rattle.qp_port_law.specs.SourcesLeft.{SourceLeaves}
-use Rattle.qp_port_cursor.specs.At.{IsCursorAt, at_settle_in, left_in, mine}
-use Rattle.qp_port_cursor.specs.Turning.{SourceTurns}
-use Rattle.qp_port_qk.specs.declared.job.Job.{Job}
-use Rattle.qp_port_qk.specs.declared.job.Job.TheVariants as job
+use Rattle.qp_port_lanes.specs.CursorAt.{IsCursorAt, at_settle_in, left_in, mine}
+use Rattle.qp_port_lanes.specs.SourceTurning.{SourceTurns}
+use Rattle.qp_port_qk.specs.declared.job.QkJob.{QkJob}
+use Rattle.qp_port_qk.specs.declared.job.QkJob.TheVariants as job
 use Rattle.qp_port_qk.specs.KernelRests.{KernelBegins, KernelEnds, KernelRests, KernelStops}
 
 -- a source that stands at a `settle`
-abbrev pub stands_at_settle : Job → Bool
+abbrev pub stands_at_settle : QkJob → Bool
 stands_at_settle (job.Kernel xs k) = false
 stands_at_settle (job.Source x) = at_settle_in x
 
 -- a source that has a stimulus left
-abbrev pub is_left_in : Job → Bool
+abbrev pub is_left_in : QkJob → Bool
 is_left_in (job.Kernel xs k) = false
 is_left_in (job.Source x) = left_in x
 
 -- the kernel, or a source of the same stimuli
-abbrev pub IsSameJob : Job → Job → Type 0
+abbrev pub IsSameJob : QkJob → QkJob → Type 0
 IsSameJob (job.Kernel xs k) (job.Kernel ys l) = ⊤
 IsSameJob (job.Source x) (job.Source y) = mine y ≡ mine x
 IsSameJob _ _ = ⊥
 
 -- between two turns
-abbrev pub JobRests : System → ℕ → Job → LaneView → Type 0
+abbrev pub JobRests : System → ℕ → QkJob → LaneView → Type 0
 JobRests sys budget (job.Kernel xs k) v = KernelRests sys budget xs k v
 JobRests sys budget (job.Source x) v = IsCursorAt sys x v
 
 -- where the run stops early, the lane may end so
-abbrev pub JobStops : System → ℕ → Job → LaneView → Type 0
+abbrev pub JobStops : System → ℕ → QkJob → LaneView → Type 0
 JobStops sys budget (job.Kernel xs k) v = KernelStops sys budget xs k v
 JobStops sys budget (job.Source x) v = (kernel end : ℕ) → may_try kernel ≡ true → may_cut end ≡ true → SourceLeaves sys kernel end (mine x) v.told
 
 -- behind a turn with this answer; where it isn't the end of the turn, the lane tells why
-abbrev pub JobStands : System → ℕ → Turn → Job → LaneView → Type 0
+abbrev pub JobStands : System → ℕ → Turn → QkJob → LaneView → Type 0
 JobStands sys budget turn.Idle x v = JobRests sys budget x v
 JobStands sys budget turn.Stopped x v = JobStops sys budget x v × HasStopped v
 JobStands sys budget turn.Memory x v = HasStarved v
@@ -64,35 +64,35 @@ pub record KernelTurns (acts : Bool) (sys : System) (budget : ℕ) (xs : Objects
   pub lane : LaneTurns acts v w t
 
 -- the same of what runs in a lane
-abbrev pub JobTurns : Bool → System → ℕ → Job → Job → LaneView → LaneView → Turn → Type 0
+abbrev pub JobTurns : Bool → System → ℕ → QkJob → QkJob → LaneView → LaneView → Turn → Type 0
 JobTurns acts sys budget (job.Kernel xs k) (job.Kernel ys l) v w t = KernelTurns acts sys budget xs k v ys l w t
 JobTurns acts sys budget (job.Source x) (job.Source y) v w t = SourceTurns sys x y v w t
 JobTurns acts sys budget _ _ v w t = ⊥
 
 -- A worker's turn: that of what runs in its lane. Where an earlier one has stopped, it does nothing, and leaves that answer.
-abbrev pub TurnsFrom : Bool → System → ℕ → Turn → Job → LaneView → Turn → Job → LaneView → Type 0
+abbrev pub TurnsFrom : Bool → System → ℕ → Turn → QkJob → LaneView → Turn → QkJob → LaneView → Type 0
 TurnsFrom acts sys budget turn.Idle x v t y w = JobTurns acts sys budget x y v w t
 TurnsFrom acts sys budget turn.Stopped x v t y w = (t ≡ turn.Stopped) × (y ≡ x) × (w ≡ v)
 TurnsFrom acts sys budget turn.Memory x v t y w = (t ≡ turn.Memory) × (y ≡ x) × (w ≡ v)
 
 -- before the start
-abbrev pub JobBegins : System → Job → LaneView → Type 0
+abbrev pub JobBegins : System → QkJob → LaneView → Type 0
 JobBegins sys (job.Kernel xs k) v = KernelBegins sys xs k v
 JobBegins sys (job.Source x) v = IsCursorAt sys x v
 
 -- where the run stopped early, the lane may end so; nothing is known of objects whose start broke off
-abbrev pub JobMayEnd : System → ℕ → Job → LaneView → Type 0
+abbrev pub JobMayEnd : System → ℕ → QkJob → LaneView → Type 0
 JobMayEnd sys budget (job.Kernel xs k) v = KernelEnds sys budget v
 JobMayEnd sys budget (job.Source x) v = (kernel end : ℕ) → may_try kernel ≡ true → may_cut end ≡ true → SourceLeaves sys kernel end (mine x) v.told
 
 -- where the run has ended, and why it did for one that doesn't rest
-abbrev pub JobEnds : System → ℕ → Turn → Job → LaneView → Type 0
+abbrev pub JobEnds : System → ℕ → Turn → QkJob → LaneView → Type 0
 JobEnds sys budget turn.Idle x v = JobMayEnd sys budget x v
 JobEnds sys budget turn.Stopped x v = JobMayEnd sys budget x v × HasStopped v
 JobEnds sys budget turn.Memory x v = HasStarved v
 
 -- behind the start
-abbrev pub JobStarts : System → ℕ → Turn → Job → LaneView → Type 0
+abbrev pub JobStarts : System → ℕ → Turn → QkJob → LaneView → Type 0
 JobStarts sys budget turn.Idle x v = JobRests sys budget x v
 JobStarts sys budget turn.Stopped x v = JobMayEnd sys budget x v × HasStopped v
 JobStarts sys budget turn.Memory x v = HasStarved v

@@ -11,9 +11,9 @@ use Rattle.qp_kernel_turns.specs.declared.objects.Objects.{Objects}
 use Rattle.qp_kernel_turns.specs.AtRest.{OthersRest}
 use Rattle.qp_kernel_turns.specs.Knowing.{HandsFollow}
 use Rattle.qp_kernel_turns.specs.Objects.{AreMade}
-use Rattle.qp_kernel_turns.specs.Starting.{IsFresh}
+use Rattle.qp_kernel_turns.specs.Starting.{IsFreshLane}
 use Rattle.qp_kernel_turns.specs.Turning.{EndsSo, Stood, stand_of}
-use Rattle.qp_port_rests.specs.Laws.{IsAtBase}
+use Rattle.qp_port_qk.specs.RestLaws.{IsAtBase}
 
 -- From objects that hadn't started and a lane with nothing in its hands, starts and perhaps turns have come to the base.
 pub record KernelRests (sys : System) (budget : ℕ) (xs : Objects) (k : Kernel) (v : LaneView) : Type 0 where
@@ -39,7 +39,7 @@ KernelEnds sys budget v = (end : ℕ) → may_cut end ≡ true → EndsSo sys (u
 -- nothing has started, in a new lane that serves all objects
 pub record KernelBegins (sys : System) (xs : Objects) (k : Kernel) (v : LaneView) : Type 0 where
   pub made : AreMade sys xs
-  pub fresh : IsFresh sys v
+  pub fresh : IsFreshLane sys v
   pub plan : v.plan ≡ []
   pub looks : k.looks ≡ 0
   pub stack : k.stack.items ≡ []

@@ -7,3 +7,4 @@ pub mod Making
 pub mod Resting
 pub mod Ends
 pub mod Laws
+pub mod RestLaws

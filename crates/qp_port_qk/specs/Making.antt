@@ -5,9 +5,9 @@ use Rattle.qp_model.specs.declared.systems.System.{System}
 use Rattle.qp_dispatch.specs.declared.objects.Turn.{Turn}
 use Rattle.qp_dispatch.specs.declared.objects.Turn.TheVariants as turn
 use Rattle.qp_kernel_turns.specs.Objects.{AreMade}
-use Rattle.qp_port_cursor.specs.declared.cursor.Cursor.{Cursor}
-use Rattle.qp_port_qk.specs.declared.job.Job.{Job}
-use Rattle.qp_port_qk.specs.declared.job.Job.TheVariants as job
+use Rattle.qp_port_lanes.specs.declared.cursor.Cursor.{Cursor}
+use Rattle.qp_port_qk.specs.declared.job.QkJob.{QkJob}
+use Rattle.qp_port_qk.specs.declared.job.QkJob.TheVariants as job
 
 -- a worker of this run, which hasn't started
 pub record IsFreshWorker (sys : System) (budget : ℕ) (s : System) (b : ℕ) (t : Turn) : Type 0 where
@@ -16,7 +16,7 @@ pub record IsFreshWorker (sys : System) (budget : ℕ) (s : System) (b : ℕ) (t
   pub idle : t ≡ turn.Idle
 
 -- it has all objects and a kernel, of which nothing has happened
-abbrev pub IsKernelMade : System → Job → Type 0
+abbrev pub IsKernelMade : System → QkJob → Type 0
 IsKernelMade sys (job.Kernel xs k) = AreMade sys xs × (k.looks ≡ 0) × (k.stack.items ≡ []) × (k.steps ≡ 0)
 IsKernelMade sys (job.Source x) = ⊥
 
@@ -27,15 +27,15 @@ pub record IsAtBegin (stimuli : List (List Stim)) (source : ℕ) (x : Cursor) : 
   pub begun : x.begun ≡ 0
   pub settling : x.settling ≡ false
 
-abbrev pub IsSourceMade : List (List Stim) → ℕ → Job → Type 0
+abbrev pub IsSourceMade : List (List Stim) → ℕ → QkJob → Type 0
 IsSourceMade stimuli k (job.Source x) = IsAtBegin stimuli k x
 IsSourceMade stimuli k (job.Kernel xs l) = ⊥
 
-pub record MadesKernel (sys : System) (budget : ℕ) (s : System) (b : ℕ) (t : Turn) (x : Job) : Type 0 where
+pub record MadesKernel (sys : System) (budget : ℕ) (s : System) (b : ℕ) (t : Turn) (x : QkJob) : Type 0 where
   pub fresh : IsFreshWorker sys budget s b t
   pub its : IsKernelMade sys x
 
-pub record MadesSource (sys : System) (budget : ℕ) (stimuli : List (List Stim)) (k : ℕ) (s : System) (b : ℕ) (t : Turn) (x : Job) : Type 0 where
+pub record MadesSource (sys : System) (budget : ℕ) (stimuli : List (List Stim)) (k : ℕ) (s : System) (b : ℕ) (t : Turn) (x : QkJob) : Type 0 where
   pub fresh : IsFreshWorker sys budget s b t
   pub its : IsSourceMade stimuli k x
 

@@ -6,9 +6,9 @@ use Rattle.qp_model.specs.declared.systems.ObjectDef.{ObjectDef}
 use Rattle.qp_model.specs.Sites.{object_at}
 use Rattle.qp_calls.specs.LaneView.{IsNew, LaneView}
 use Rattle.qp_kernel_turns.specs.Lanes.{SameLane}
-use Rattle.qp_port_cursor.specs.At.{mine}
-use Rattle.qp_port_qk.specs.declared.job.Job.{Job}
-use Rattle.qp_port_qk.specs.declared.job.Job.TheVariants as job
+use Rattle.qp_port_lanes.specs.CursorAt.{mine}
+use Rattle.qp_port_qk.specs.declared.job.QkJob.{QkJob}
+use Rattle.qp_port_qk.specs.declared.job.QkJob.TheVariants as job
 
 -- a new lane for this system, in the table of this name
 pub record IsNewOf (sys : System) (world : List ℕ) (v : LaneView) : Type 0 where
@@ -35,22 +35,22 @@ AreSameLanes (v ∷ vs) (w ∷ ws) = SameLane v w × AreSameLanes vs ws
 AreSameLanes [] (w ∷ ws) = ⊥
 AreSameLanes (v ∷ vs) [] = ⊥
 
-abbrev pub IsKernel : Job → Type 0
+abbrev pub IsKernel : QkJob → Type 0
 IsKernel (job.Kernel xs k) = ⊤
 IsKernel (job.Source x) = ⊥
 
-abbrev pub IsSourceOf : List Stim → Job → Type 0
+abbrev pub IsSourceOf : List Stim → QkJob → Type 0
 IsSourceOf ss (job.Source x) = mine x ≡ ss
 IsSourceOf ss (job.Kernel xs k) = ⊥
 
 -- a worker for each of these sources
-abbrev pub AreSources : {T : Type 0} → (T → Job) → List (List Stim) → List T → Type 0
+abbrev pub AreSources : {T : Type 0} → (T → QkJob) → List (List Stim) → List T → Type 0
 AreSources work [] [] = ⊤
 AreSources work (ss ∷ more) (w ∷ ws) = IsSourceOf ss (work w) × AreSources work more ws
 AreSources work [] (w ∷ ws) = ⊥
 AreSources work (ss ∷ more) [] = ⊥
 
 -- the first has the kernel
-abbrev pub IsRow : {T : Type 0} → (T → Job) → List (List Stim) → List T → Type 0
+abbrev pub IsRow : {T : Type 0} → (T → QkJob) → List (List Stim) → List T → Type 0
 IsRow work more [] = ⊥
 IsRow work more (w ∷ ws) = IsKernel (work w) × AreSources work more ws

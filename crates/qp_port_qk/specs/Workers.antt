@@ -4,21 +4,21 @@ use Rattle.std.specs.Prelude.{◌≡◌, ℕ, ◌≤◌, Bool, false, List, [], 
 use Rattle.qp_model.specs.declared.systems.System.{System}
 use Rattle.qp_model.specs.Sound.{IsSound}
 use Rattle.qp_calls.specs.LaneView.{LaneView}
-use Rattle.qp_calls_meet.specs.Meeting.{IsTogether}
+use Rattle.qp_calls_log.specs.Meeting.{IsTogether}
 use Rattle.qp_dispatch.specs.declared.objects.Turn.{Turn}
 use Rattle.qp_kernel_turns.specs.Lanes.{SameLane}
-use Rattle.qp_port_workers.specs.Turns.{AreReady}
+use Rattle.qp_port_phases.specs.Turns.{AreReady}
 use Rattle.qp_port_phases.specs.Stopping.{Hears}
-use Rattle.qp_port_cursor.specs.Answers.{IsFed, is_short}
-use Rattle.qp_port_cursor.proofs.Hearing.{hears-itself, hears-then}
-use Rattle.qp_port_qk.specs.declared.job.Job.{Job}
-use Rattle.qp_port_qk.specs.declared.job.Job.TheVariants as job
+use Rattle.qp_port_lanes.specs.Answers.{IsFed, is_short}
+use Rattle.qp_port_lanes.proofs.Hearing.{hears-itself, hears-then}
+use Rattle.qp_port_qk.specs.declared.job.QkJob.{QkJob}
+use Rattle.qp_port_qk.specs.declared.job.QkJob.TheVariants as job
 use Rattle.qp_dispatch.specs.declared.objects.Turn.TheVariants as turn
 use Rattle.qp_port_qk.specs.Jobs.{IsSameJob, JobBegins, JobEnds, JobStands}
 
 -- It may take a turn, or be met and looked at like another. Where its last turn stopped, it does nothing more. It has handed in 7 for want of memory
 -- alone. In the looks of its world nothing happens.
-pub record MayTurn (acts : Bool) (sys : System) (budget : ℕ) (t : Turn) (x : Job) (v : LaneView) : Type 0 where
+pub record MayTurn (acts : Bool) (sys : System) (budget : ℕ) (t : Turn) (x : QkJob) (v : LaneView) : Type 0 where
   pub alone : acts ≡ false
   pub sound : IsSound sys
   pub few : budget ≤ 1000000
@@ -26,7 +26,7 @@ pub record MayTurn (acts : Bool) (sys : System) (budget : ℕ) (t : Turn) (x : J
   pub fed : is_short t ≡ false → IsFed v
 
 -- it hasn't started
-pub record MayBegin (acts : Bool) (sys : System) (budget : ℕ) (t : Turn) (x : Job) (v : LaneView) : Type 0 where
+pub record MayBegin (acts : Bool) (sys : System) (budget : ℕ) (t : Turn) (x : QkJob) (v : LaneView) : Type 0 where
   pub alone : acts ≡ false
   pub sound : IsSound sys
   pub few : budget ≤ 1000000
@@ -35,24 +35,24 @@ pub record MayBegin (acts : Bool) (sys : System) (budget : ℕ) (t : Turn) (x : 
   pub fed : IsFed v
 
 -- the run has ended
-pub record MayEnd (sys : System) (budget : ℕ) (t : Turn) (x : Job) (v : LaneView) : Type 0 where
+pub record MayEnd (sys : System) (budget : ℕ) (t : Turn) (x : QkJob) (v : LaneView) : Type 0 where
   pub sound : IsSound sys
   pub ends : JobEnds sys budget t x v
   pub fed : is_short t ≡ false → IsFed v
 
 -- the same worker, with the same lane, which forgets no code that it heard of
-pub record IsSameWorker (s t : System) (b c : ℕ) (i j : Job) (v w : LaneView) : Type 0 where
+pub record IsSameWorker (s t : System) (b c : ℕ) (i j : QkJob) (v w : LaneView) : Type 0 where
   pub sys : t ≡ s
   pub budget : c ≡ b
   pub job : IsSameJob i j
   pub lane : SameLane v w
   pub hears : Hears v w
 
-same-job : (x : Job) → IsSameJob x x
+same-job : (x : QkJob) → IsSameJob x x
 same-job (job.Kernel xs k) = tt
 same-job (job.Source x) = refl
 
-job-still : (x y z : Job) → IsSameJob x y → IsSameJob y z → IsSameJob x z
+job-still : (x y z : QkJob) → IsSameJob x y → IsSameJob y z → IsSameJob x z
 job-still (job.Kernel xs k) (job.Kernel ys l) (job.Kernel zs m) h i = tt
 job-still (job.Source x) (job.Source y) (job.Source z) h i = i ∙ h
 job-still (job.Kernel xs k) (job.Source y) z h i = absurd h
@@ -60,7 +60,7 @@ job-still (job.Source x) (job.Kernel ys l) z h i = absurd h
 job-still (job.Kernel xs k) (job.Kernel ys l) (job.Source z) h i = absurd i
 job-still (job.Source x) (job.Source y) (job.Kernel zs m) h i = absurd i
 
-pub same-itself : (s : System) (b : ℕ) (x : Job) (v : LaneView) → IsSameWorker s s b b x x v v
+pub same-itself : (s : System) (b : ℕ) (x : QkJob) (v : LaneView) → IsSameWorker s s b b x x v v
 same-itself s b x v = record {
   sys = refl;
   budget = refl;
@@ -69,7 +69,7 @@ same-itself s b x v = record {
   hears = hears-itself v;
 }
 
-pub same-still : (s t u : System) (b c d : ℕ) (x y z : Job) (v w m : LaneView) → IsSameWorker s t b c x y v w → IsSameWorker t u c d y z w m → IsSameWorker s u b d x z v m
+pub same-still : (s t u : System) (b c d : ℕ) (x y z : QkJob) (v w m : LaneView) → IsSameWorker s t b c x y v w → IsSameWorker t u c d y z w m → IsSameWorker s u b d x z v m
 same-still s t u b c d x y z v w m h k = record {
   sys = k.sys ∙ h.sys;
   budget = k.budget ∙ h.budget;
@@ -85,7 +85,7 @@ same-still s t u b c d x y z v w m h k = record {
   hears = hears-then v w m h.hears k.hears;
 }
 
-pub same-table : (s t : System) (b c : ℕ) (x y : Job) (v w : LaneView) → IsSameWorker s t b c x y v w → IsTogether v w
+pub same-table : (s t : System) (b c : ℕ) (x y : QkJob) (v w : LaneView) → IsSameWorker s t b c x y v w → IsTogether v w
 same-table s t b c x y v w h = record { world = h.lane.world; sys = h.lane.sys }
 
 -- the first hasn't started, and the others may take turns

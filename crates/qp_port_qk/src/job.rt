@@ -2,29 +2,29 @@
 
 ghost use Rattle.std.specs.Prelude.{◌≡◌, ◌≤◌, true, false};
 ghost use Rattle.qp_dispatch.specs.declared.objects.Turn.TheVariants as turn;
-ghost use Rattle.qp_port_qk.specs.declared.job.Job.TheVariants as job;
+ghost use Rattle.qp_port_qk.specs.declared.job.QkJob.TheVariants as job;
 ghost use Rattle.qp_model.specs.Sound.{IsSound};
 ghost use Rattle.qp_kernel_turns.specs.Lanes.{SameLane};
 ghost use Rattle.qp_port_phases.specs.Passing.{PassesTo};
 ghost use Rattle.qp_port_phases.specs.Rows.{CountsOn, PassCounts};
 ghost use Rattle.qp_port_phases.specs.Stopping.{Hears};
-ghost use Rattle.qp_port_cursor.specs.Answers.{Feeds, is_short, turn_by};
+ghost use Rattle.qp_port_lanes.specs.Answers.{Feeds, is_short, turn_by};
 ghost use Rattle.qp_port_qk.specs.Jobs.{IsSameJob, JobBegins, JobRests, JobStands, JobStarts, JobTurns, KernelStands, KernelTurns, is_left_in, stands_at_settle};
 ghost use Rattle.qp_port_qk.specs.KernelRests.{KernelBegins, KernelRests};
 ghost use Rattle.qp_port_qk.specs.Numbers.{job_rows, numbers_of};
 
+use qp_base::Tells;
 use qp_calls::Ops;
 use qp_dispatch::{Step, Turn};
 use qp_kernel::{Kernel, World};
 use qp_kernel_turns::{Bounds, Objects, kernel_turn};
 use qp_model::System;
-use qp_port_cursor::{Cursor, Passed, pass_settle, source_turn};
-use qp_tells::Tells;
+use qp_port_lanes::{Cursor, Passed, pass_settle, source_turn};
 use std::sync::Wait;
 
 /// What runs in a lane.
 #[derive(Drop)]
-pub enum Job<'a> {
+pub enum QkJob<'a> {
     /// The kernel with all objects: lane 0.
     Kernel(Objects, Kernel),
     /// A source of stimuli.
@@ -58,7 +58,7 @@ fn start_kernel<O: Ops>(
 }
 
 /// Starts what runs in the lane, if that has a start.
-pub(crate) fn start_job<O: Ops>(ops: &mut O, sys: &System, job: &mut Job<'_>, budget: u32) -> Turn
+pub(crate) fn start_job<O: Ops>(ops: &mut O, sys: &System, job: &mut QkJob<'_>, budget: u32) -> Turn
     requires sound { IsSound sys.now }
     requires begins { JobBegins sys.now job.old (O.lane ops.old) }
     ensures starts { JobStarts sys.now budget result job.new (O.lane ops.new) }
@@ -69,8 +69,8 @@ pub(crate) fn start_job<O: Ops>(ops: &mut O, sys: &System, job: &mut Job<'_>, bu
     ensures none { is_short result ≡ false → job_rows sys.now budget job.new (O.lane ops.new) ≡ 0 }
 {
     match job {
-        Job::Kernel(objects, kernel) => start_kernel(ops, sys, objects, kernel, budget),
-        Job::Source(_) => Turn::Idle,
+        QkJob::Kernel(objects, kernel) => start_kernel(ops, sys, objects, kernel, budget),
+        QkJob::Source(_) => Turn::Idle,
     }
 }
 
@@ -110,7 +110,7 @@ pub(crate) fn run_job<R: Wait, W: World, G: Tells>(
     rt: &R,
     world: &mut W,
     sys: &System,
-    job: &mut Job<'_>,
+    job: &mut QkJob<'_>,
     budget: u32,
     gate: &G,
 ) -> Turn
@@ -127,13 +127,18 @@ pub(crate) fn run_job<R: Wait, W: World, G: Tells>(
     ensures counts { CountsOn (W.lane world.old) (numbers_of sys.now budget turn.Idle job.old (W.lane world.old)) (numbers_of sys.now budget result job.new (W.lane world.new)) }
 {
     match job {
-        Job::Kernel(objects, kernel) => run_kernel(rt, world, sys, objects, kernel, budget, gate),
-        Job::Source(source) => source_turn(world, sys, source, gate),
+        QkJob::Kernel(objects, kernel) => run_kernel(rt, world, sys, objects, kernel, budget, gate),
+        QkJob::Source(source) => source_turn(world, sys, source, gate),
     }
 }
 
 /// Passes the `settle` at which a source stands, or tries to.
-pub(crate) fn pass_job<O: Ops>(ops: &mut O, sys: &System, job: &mut Job<'_>, budget: u32) -> Passed
+pub(crate) fn pass_job<O: Ops>(
+    ops: &mut O,
+    sys: &System,
+    job: &mut QkJob<'_>,
+    budget: u32,
+) -> Passed
     requires sound { IsSound sys.now }
     requires rests { JobRests sys.now budget job.old (O.lane ops.old) }
     requires stands { stands_at_settle job.old ≡ true }
@@ -148,19 +153,19 @@ pub(crate) fn pass_job<O: Ops>(ops: &mut O, sys: &System, job: &mut Job<'_>, bud
 {
     let _ = budget;
     match job {
-        Job::Source(source) => pass_settle(ops, sys, source),
-        Job::Kernel(_, _) => unreachable!(),
+        QkJob::Source(source) => pass_settle(ops, sys, source),
+        QkJob::Kernel(_, _) => unreachable!(),
     }
 }
 
-impl Job<'_> {
+impl QkJob<'_> {
     /// Whether it is a source that stands at a `settle`.
     pub fn stands_at_settle(&self) -> bool
         ensures { result ≡ stands_at_settle self.now }
     {
         match self {
-            Job::Source(source) => source.at_settle(),
-            Job::Kernel(_, _) => false,
+            QkJob::Source(source) => source.at_settle(),
+            QkJob::Kernel(_, _) => false,
         }
     }
 
@@ -169,8 +174,8 @@ impl Job<'_> {
         ensures { result ≡ is_left_in self.now }
     {
         match self {
-            Job::Source(source) => source.left(),
-            Job::Kernel(_, _) => false,
+            QkJob::Source(source) => source.left(),
+            QkJob::Kernel(_, _) => false,
         }
     }
 }

@@ -4,21 +4,20 @@ ghost use Rattle.std.specs.Prelude.{◌≡◌, ◌+◌, ◌<◌, ◌≤◌, IfOk
 ghost use Rattle.qp_kernel_turns.specs.Objects.{AreMade};
 ghost use Rattle.qp_port_qk.specs.Making.{AddsAll, AreAllMade, MadesKernel, MadesSource, SourcesMade};
 
-use crate::job::Job;
+use crate::job::QkJob;
 use crate::worker::QkWorker;
-use qp_base::Memory;
-use qp_calls_meet::Meets;
+use qp_base::{Memory, Tells};
+use qp_calls_log::Meets;
 use qp_dispatch::Turn;
 use qp_kernel::{Kernel, World};
 use qp_kernel_turns::Objects;
 use qp_model::{Source, Stimuli, System};
-use qp_port_cursor::Cursor;
-use qp_tells::Tells;
+use qp_port_lanes::Cursor;
 use std::alloc::Global;
 
 /// What all workers of a run share: the system, its stimuli, the budget of an object, and what is told of its steps.
 #[derive(Clone, Copy)]
-pub struct Terms<'a, G: Tells> {
+pub struct QkTerms<'a, G: Tells> {
     pub sys: &'a System,
     pub stim: &'a Stimuli,
     pub budget: u32,
@@ -27,7 +26,7 @@ pub struct Terms<'a, G: Tells> {
 
 /// A worker with the kernel and all objects.
 fn kernel_worker<'a, W: World + Meets, G: Tells>(
-    at: &Terms<'a, G>,
+    at: &QkTerms<'a, G>,
     lane: W,
     objects: Objects,
 ) -> QkWorker<'a, W, G>
@@ -37,7 +36,7 @@ fn kernel_worker<'a, W: World + Meets, G: Tells>(
 {
     QkWorker {
         lane,
-        job: Job::Kernel(objects, Kernel::new()),
+        job: QkJob::Kernel(objects, Kernel::new()),
         turn: Turn::Idle,
         sys: at.sys,
         budget: at.budget,
@@ -47,7 +46,7 @@ fn kernel_worker<'a, W: World + Meets, G: Tells>(
 
 /// A worker with the source of this number.
 fn source_worker<'a, W: World + Meets, G: Tells>(
-    at: &Terms<'a, G>,
+    at: &QkTerms<'a, G>,
     lane: W,
     source: u32,
 ) -> QkWorker<'a, W, G>
@@ -56,7 +55,7 @@ fn source_worker<'a, W: World + Meets, G: Tells>(
 {
     QkWorker {
         lane,
-        job: Job::Source(Cursor::new(at.stim, source, source)),
+        job: QkJob::Source(Cursor::new(at.stim, source, source)),
         turn: Turn::Idle,
         sys: at.sys,
         budget: at.budget,
@@ -66,7 +65,7 @@ fn source_worker<'a, W: World + Meets, G: Tells>(
 
 /// Adds one for each of these sources, of which the first has this number.
 fn add_sources<'a, W: World + Meets + Drop, G: Tells>(
-    at: &Terms<'a, G>,
+    at: &QkTerms<'a, G>,
     source: u32,
     sources: &[Source],
     lanes: &mut Vec<W>,
@@ -89,7 +88,7 @@ fn add_sources<'a, W: World + Meets + Drop, G: Tells>(
 /// A worker for each of these lanes: the first has the kernel with all objects, the others the sources.
 pub fn new_workers<'a, W: World + Meets + Drop, G: Tells>(
     alloc: Global,
-    at: &Terms<'a, G>,
+    at: &QkTerms<'a, G>,
     lanes: Vec<W>,
 ) -> Result<Vec<QkWorker<'a, W, G>>, Memory>
     requires many { length lanes.items ≡ 1 + length at.now.stim.now }

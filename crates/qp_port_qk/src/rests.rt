@@ -2,9 +2,9 @@
 
 ghost use Rattle.std.specs.Prelude.{◌≡◌, IfOk, IfSome};
 ghost use Rattle.qp_chart.specs.StateTree.{has};
-ghost use Rattle.qp_port_qk.specs.Resting.{AreShown, AreShownBy, IsShown};
+ghost use Rattle.qp_port_qk.specs.Resting.{KernelShows, AreShownBy, IsShown};
 
-use crate::job::Job;
+use crate::job::QkJob;
 use qp_kernel_end::Rest;
 use qp_kernel_turns::Objects;
 use qp_model::System;
@@ -56,7 +56,7 @@ fn rests_of(
     objects: &Objects,
     under_way: &[u8],
 ) -> Result<Vec<Rest>, AllocError>
-    ensures { IfOk result (λ rests. AreShown objects.now under_way.now rests.items) }
+    ensures { IfOk result (λ rests. KernelShows objects.now under_way.now rests.items) }
 {
     let mut rests = Vec::new(alloc);
     for d in &sys.objects.items {
@@ -69,11 +69,11 @@ fn rests_of(
 }
 
 /// Where the objects of this lane rest.
-pub(crate) fn rests(alloc: Global, sys: &System, job: &Job<'_>) -> Result<Vec<Rest>, AllocError>
+pub(crate) fn rests(alloc: Global, sys: &System, job: &QkJob<'_>) -> Result<Vec<Rest>, AllocError>
     ensures { IfOk result (λ rests. AreShownBy job.now rests.items) }
 {
     match job {
-        Job::Kernel(objects, kernel) => rests_of(alloc, sys, objects, kernel.stack.as_slice()),
-        Job::Source(_) => Ok(Vec::new(alloc)),
+        QkJob::Kernel(objects, kernel) => rests_of(alloc, sys, objects, kernel.stack.as_slice()),
+        QkJob::Source(_) => Ok(Vec::new(alloc)),
     }
 }

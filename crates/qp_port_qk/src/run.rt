@@ -4,23 +4,23 @@ ghost use Rattle.std.specs.Prelude.{◌≡◌, ◌≤◌, ◌⊎◌, IfOk, OnOk,
 ghost use Rattle.std.specs.List.{AllByRecursion, list_all, list_any};
 ghost use Rattle.qp_model.specs.Sound.{IsSound};
 ghost use Rattle.qp_stim.specs.Rules.{StimuliFit};
-ghost use Rattle.qp_port_phases.specs.declared.phases.Ended.TheVariants as ended;
+ghost use Rattle.qp_port_phases.specs.declared.phases.PhasesEnd.TheVariants as ended;
 ghost use Rattle.qp_port_phases.specs.Stopping.{AnyStopped};
 ghost use Rattle.qp_port_qk.specs.Ends.{HasRun, is_over};
-ghost use Rattle.qp_port_cursor.specs.Answers.{IsFed, is_idle, is_short};
+ghost use Rattle.qp_port_lanes.specs.Answers.{IsFed, is_idle, is_short};
 ghost use Rattle.qp_port_qk.specs.Resting.{AreLeft, AreShownFirst};
 ghost use Rattle.qp_port_qk.specs.Rows.{AreNewLanes, AreSameLanes};
 
-use crate::making::{Terms, new_workers};
+use crate::making::{QkTerms, new_workers};
 use crate::rests::rests;
 use crate::starting::start_and_run;
 use crate::worker::QkWorker;
 use qp_base::{Gate, Memory};
-use qp_calls_meet::Meets;
+use qp_calls_log::Meets;
 use qp_kernel::World;
 use qp_kernel_end::Rest;
 use qp_model::{Stimuli, System};
-use qp_port_phases::{Ended, objects_of};
+use qp_port_phases::{PhasesEnd, objects_of};
 use std::alloc::{AllocError, Global};
 use std::sync::Wait;
 use std::thread::Threads;
@@ -91,7 +91,7 @@ fn left_of<W: World + Meets + Drop, G: Gate>(
     alloc: Global,
     sys: &System,
     workers: Vec<QkWorker<'_, W, G>>,
-    how: Option<Ended>,
+    how: Option<PhasesEnd>,
 ) -> Result<QkRun<W>, Memory>
     ensures lanes { IfOk result (λ run. run.lanes.items ≡ map (λ w. w.lane) workers.entry.items) }
     ensures rests { IfOk result (λ run. AreLeft (λ w. w.job) how workers.entry.items run.rests.items) }
@@ -102,7 +102,7 @@ fn left_of<W: World + Meets + Drop, G: Gate>(
     if any_short(&workers) {
         return Err(Memory);
     }
-    let done = matches!(how, Some(Ended::Idle)) && all_idle(&workers);
+    let done = matches!(how, Some(PhasesEnd::Idle)) && all_idle(&workers);
     let Ok(rests) = rests_left(alloc, sys, how, &workers) else {
         return Err(Memory);
     };
@@ -116,7 +116,7 @@ fn left_of<W: World + Meets + Drop, G: Gate>(
 fn rests_left<W: World + Meets, G: Gate>(
     alloc: Global,
     sys: &System,
-    how: Option<Ended>,
+    how: Option<PhasesEnd>,
     workers: &[QkWorker<'_, W, G>],
 ) -> Result<Vec<Rest>, AllocError>
     ensures { IfOk result (λ rests. AreLeft (λ w. w.job) how workers.now rests.items) }
@@ -152,7 +152,7 @@ pub fn run_lanes_of_qk<R: Threads + Wait + Sync, W: World + Meets + Send + Drop,
     let Ok(objects) = objects_of(alloc, sys) else {
         return Err(Memory);
     };
-    let at = Terms {
+    let at = QkTerms {
         sys,
         stim,
         budget,
@@ -161,7 +161,7 @@ pub fn run_lanes_of_qk<R: Threads + Wait + Sync, W: World + Meets + Send + Drop,
     let mut workers = new_workers(alloc, &at, lanes)?;
     let how = start_and_run(rt, objects.as_slice(), workers.as_mut_slice());
     // (for want of memory a lane may have been cut anywhere)
-    if matches!(how, Some(Ended::Memory)) {
+    if matches!(how, Some(PhasesEnd::Memory)) {
         return Err(Memory);
     }
     left_of(alloc, sys, workers, how)

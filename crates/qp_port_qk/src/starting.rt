@@ -2,20 +2,20 @@
 
 ghost use Rattle.std.specs.Prelude.{◌≡◌, ◌⊎◌, ℕ, Bool, None, Some, true, false};
 ghost use Rattle.std.specs.List.{list_all};
-ghost use Rattle.qp_port_phases.specs.declared.phases.Ended.{Ended};
-ghost use Rattle.qp_port_phases.specs.declared.phases.Ended.TheVariants as ended;
+ghost use Rattle.qp_port_phases.specs.declared.phases.PhasesEnd.{PhasesEnd};
+ghost use Rattle.qp_port_phases.specs.declared.phases.PhasesEnd.TheVariants as ended;
 ghost use Rattle.qp_port_phases.specs.Lanes.{AreOneTable, SameEach};
 ghost use Rattle.qp_port_phases.specs.Quiet.{FirstFound, HasEnded};
 ghost use Rattle.qp_port_phases.specs.Rows.{HasFewRows};
-ghost use Rattle.qp_port_workers.specs.Turns.{AreReady};
+ghost use Rattle.qp_port_phases.specs.Turns.{AreReady};
 ghost use Rattle.qp_port_qk.specs.Workers.{FirstBegins};
 
-use qp_port_phases::{Ended, Lane, NoHook, run_phases};
+use qp_port_phases::{NoHook, PhaseLane, PhasesEnd, run_phases};
 use std::sync::Wait;
 use std::thread::Threads;
 
 /// The lane of a worker that has a start.
-pub trait Starts: Lane {
+pub trait QkStarts: PhaseLane {
     /// It hasn't started.
     ghost begins: { Self → Type 0 };
 
@@ -30,13 +30,13 @@ pub trait Starts: Lane {
         requires { begins self.old }
         ensures ended { ended self.new }
         ensures ready { result ≡ true → Self.Worker.ready self.new }
-        ensures same { Self.Lane.same self.old self.new }
+        ensures same { Self.PhaseLane.same self.old self.new }
         ensures rests { rests self.new ≡ result }
-        ensures none { (Self.Lane.numbers self.new).lost ≡ false → (Self.Lane.numbers self.new).rows ≡ 0 };
+        ensures none { (Self.PhaseLane.numbers self.new).lost ≡ false → (Self.PhaseLane.numbers self.new).rows ≡ 0 };
 }
 
 /// Starts the first of these. Whether its start came to its end.
-fn start_first<T: Starts>(workers: &mut [T]) -> bool
+fn start_first<T: QkStarts>(workers: &mut [T]) -> bool
     requires { FirstBegins T.begins T.ready workers.old }
     ensures each { AreReady (λ w. T.ready w ⊎ T.ended w) workers.new }
     ensures same { SameEach T.same workers.old workers.new }
@@ -51,16 +51,16 @@ fn start_first<T: Starts>(workers: &mut [T]) -> bool
 }
 
 /// Starts the first of these, and runs the phases where its start came to its end; None where it did not.
-pub(crate) fn start_and_run<R: Threads + Wait + Sync, T: Starts>(
+pub(crate) fn start_and_run<R: Threads + Wait + Sync, T: QkStarts>(
     rt: &R,
     objects: &[u8],
     workers: &mut [T],
-) -> Option<Ended>
+) -> Option<PhasesEnd>
     requires begins { FirstBegins T.begins T.ready workers.old }
     requires table { AreOneTable T.view objects.now workers.old }
     ensures each { AreReady (λ w. T.ready w ⊎ T.ended w) workers.new }
     ensures same { SameEach T.same workers.old workers.new }
-    ensures ready { (how : Ended) → result ≡ Some how → AreReady T.ready workers.new }
+    ensures ready { (how : PhasesEnd) → result ≡ Some how → AreReady T.ready workers.new }
     ensures rows { HasFewRows T.numbers 1 workers.new }
     ensures idle { result ≡ Some ended.Idle → HasEnded T.view T.remains objects.now workers.new }
     ensures none { result ≡ None → list_all T.rests workers.new ≡ false }

@@ -2,22 +2,21 @@
 
 ghost use Rattle.std.specs.Prelude.{◌≡◌, false, true};
 ghost use Rattle.qp_port_phases.specs.Rows.{CountsOn};
-ghost use Rattle.qp_port_cursor.specs.Answers.{is_idle, is_short};
+ghost use Rattle.qp_port_lanes.specs.Answers.{is_idle, is_short};
 ghost use Rattle.qp_port_qk.specs.Jobs.{JobTurns, TurnsFrom, is_left_in, stands_at_settle};
 ghost use Rattle.qp_port_qk.specs.Numbers.{numbers_of};
 ghost use Rattle.qp_port_qk.specs.Workers.{IsSameWorker, MayBegin, MayEnd, MayTurn, same-itself, same-still, same-table};
 
-use crate::job::{Job, pass_job, run_job, start_job};
-use crate::starting::Starts;
+use crate::job::{QkJob, pass_job, run_job, start_job};
+use crate::starting::QkStarts;
+use qp_base::Tells;
 use qp_calls::Counts;
-use qp_calls_meet::Meets;
+use qp_calls_log::Meets;
 use qp_dispatch::Turn;
 use qp_kernel::World;
 use qp_model::System;
-use qp_port_cursor::{is_idle, is_short, turn_by};
-use qp_port_phases::{Lane, Passed};
-use qp_port_workers::Worker;
-use qp_tells::Tells;
+use qp_port_lanes::{is_idle, is_short, turn_by};
+use qp_port_phases::{Passed, PhaseLane, Worker};
 use std::sync::Wait;
 
 /// A lane, what runs in it, and the answer of its last turn. One whose turn has stopped takes no more: it is a lane like another,
@@ -25,7 +24,7 @@ use std::sync::Wait;
 #[derive(Drop)]
 pub struct QkWorker<'a, W: World + Meets, G: Tells> {
     pub(crate) lane: W,
-    pub(crate) job: Job<'a>,
+    pub(crate) job: QkJob<'a>,
     pub(crate) turn: Turn,
     pub(crate) sys: &'a System,
     pub(crate) budget: u32,
@@ -82,7 +81,7 @@ impl<W: World + Meets + Send, G: Tells + Sync> Worker for QkWorker<'_, W, G> {
     }
 }
 
-impl<W: World + Meets + Send, G: Tells + Sync> Lane for QkWorker<'_, W, G> {
+impl<W: World + Meets + Send, G: Tells + Sync> PhaseLane for QkWorker<'_, W, G> {
     ghost view = { λ w. W.lane w.lane };
 
     ghost waits = { λ w. stands_at_settle w.job };
@@ -138,7 +137,7 @@ impl<W: World + Meets + Send, G: Tells + Sync> Lane for QkWorker<'_, W, G> {
     ghost went_on = { λ a b h. h.2 };
 }
 
-impl<W: World + Meets + Send, G: Tells + Sync> Starts for QkWorker<'_, W, G> {
+impl<W: World + Meets + Send, G: Tells + Sync> QkStarts for QkWorker<'_, W, G> {
     ghost rests = { λ w. is_idle w.turn };
 
     ghost begins = { λ w. MayBegin W.acts w.sys.now w.budget w.turn w.job (W.lane w.lane) };

@@ -10,9 +10,9 @@ use Rattle.qp_model.specs.Sound.{IsSound}
 use Rattle.qp_calls.specs.LaneView.{LaneView}
 use Rattle.qp_kernel_end.specs.declared.rest.Rest.{Rest}
 use Rattle.qp_kernel_end.specs.Rests.{AreRestsIn}
-use Rattle.qp_port_quiet.specs.Sealed.{SealsLanes}
+use Rattle.qp_port_law.specs.Sealed.{SealsLanes}
 use Rattle.qp_port.specs.Ends.{HasRun}
-use Rattle.qp_port_sealed.specs.ThreadRun.{IsThreadRun}
+use Rattle.qp_port_law.specs.ThreadRun.{IsThreadRun}
 use Rattle.qp_port.proofs.Sealing.{sealed}
 use Rattle.qp_port_runs.specs.declared.sealing.Threaded.{Threaded}
 

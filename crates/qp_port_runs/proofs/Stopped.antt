@@ -20,8 +20,8 @@ use Rattle.qp_calls.specs.LaneView.{LaneView}
 use Rattle.qp_calls.specs.Notes.{last_code, stop_code}
 use Rattle.qp_plain_sound.proofs.ViewLemmas.{any-told}
 use Rattle.qp_port_phases.specs.Stopping.{AnyStopped, HasStopped}
-use Rattle.qp_port_cursor.specs.Answers.{IsFed}
-use Rattle.qp_port_quiet.specs.Sealed.{IsLaneAt, SealsLanes}
+use Rattle.qp_port_lanes.specs.Answers.{IsFed}
+use Rattle.qp_port_law.specs.Sealed.{IsLaneAt, SealsLanes}
 use Rattle.qp_shared.specs.declared.lane.SharedLane.{SharedLane}
 use Rattle.qp_shared.specs.Lane.{lane_view}
 use Rattle.qp_shared.specs.LaneLaws.{has-causes}

@@ -4,13 +4,13 @@ ghost use Rattle.std.specs.Prelude.{◌≡◌, ◌≤◌, IfOk, false, map};
 ghost use Rattle.std.specs.List.{AllByRecursion};
 ghost use Rattle.qp_model.specs.Sound.{IsSound};
 ghost use Rattle.qp_stim.specs.Rules.{StimuliFit};
-ghost use Rattle.qp_port_cursor.specs.Answers.{IsFed};
+ghost use Rattle.qp_port_lanes.specs.Answers.{IsFed};
 ghost use Rattle.qp_port_phases.specs.Stopping.{AnyStopped};
 ghost use Rattle.qp_port_qk.specs.Ends.{HasRun};
 ghost use Rattle.qp_port_qk.specs.Rows.{AreNewLanes, AreSameLanes};
 
 use qp_base::{Gate, Memory};
-use qp_calls_meet::Meets;
+use qp_calls_log::Meets;
 use qp_kernel::Alone;
 use qp_model::{Stimuli, System};
 use qp_port_qk::{QkRun, run_lanes_of_qk};

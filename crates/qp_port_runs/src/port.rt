@@ -5,7 +5,7 @@ ghost use Rattle.qp_model.specs.Kernels.{port};
 ghost use Rattle.qp_model.specs.Sound.{IsSound};
 ghost use Rattle.qp_stim.specs.Rules.{StimuliFit};
 ghost use Rattle.qp_kernel_end.specs.Rests.{AreRestsIn};
-ghost use Rattle.qp_port_sealed.specs.ThreadRun.{IsThreadRun};
+ghost use Rattle.qp_port_law.specs.ThreadRun.{IsThreadRun};
 ghost use Rattle.qp_shared.specs.WasSealed.{WasSealedFor};
 
 use crate::sealing::{Threaded, seal};

@@ -3,9 +3,9 @@
 ghost use Rattle.std.specs.Prelude.{◌≡◌, IfOk, map, false, true};
 ghost use Rattle.std.specs.List.{AllByRecursion};
 ghost use Rattle.qp_model.specs.Ends.{quiet};
-ghost use Rattle.qp_port_cursor.specs.Answers.{IsFed};
+ghost use Rattle.qp_port_lanes.specs.Answers.{IsFed};
 ghost use Rattle.qp_port_phases.specs.Stopping.{AnyStopped};
-ghost use Rattle.qp_port_quiet.specs.Sealed.{SealsLanes};
+ghost use Rattle.qp_port_law.specs.Sealed.{SealsLanes};
 ghost use Rattle.qp_shared.specs.Ending.{AreAll};
 ghost use Rattle.qp_shared.specs.Lane.{lane_view};
 ghost use Rattle.qp_shared.specs.WasSealed.{WasSealedFor};

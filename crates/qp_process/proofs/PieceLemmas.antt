@@ -11,7 +11,7 @@ use Rattle.qp_base.proofs.GatheringLemmas.{told-all}
 use Rattle.qp_run_parts.specs.declared.status.Status.{Status}
 use Rattle.qp_run_parts.specs.declared.status.Status.TheVariants.{Done, Asserted, Spent, WriteFault}
 use Rattle.qp_run_parts.specs.Conversions.{Held, PrintsOne}
-use Rattle.qp_run_parts.specs.Verdict.{Agrees, AnswersWords, Count, Counts, HasCause, HasRisen, IsCall, IsOutput, IsPutFor, Noted, Prints, Stands, Stream, quiet}
+use Rattle.qp_run_parts.specs.Verdict.{Agrees, AnswersWords, Count, Counts, HasCause, HasRisen, IsCall, IsOutput, IsPutFor, Noted, Prints, AnswerStands, Stream, quiet}
 use Rattle.qp_commands.specs.WordTable.{Asked}
 use Rattle.qp_run_parts.proofs.CallLemmas.{call-stands}
 use Rattle.qp_run_parts.proofs.VerdictLemmas.{prefix-whole}
@@ -104,7 +104,7 @@ module _ (held : Option Held) (asked : Option Asked) (n : Counts) (output note :
   -- a call of which all that was put has gone on
   pub whole-call : (out : Count) → put.before ≡ output.before → output.after ≡ put.after → out.before ≡ 0 → out.after ≡ 0
       → IfSome held (λ h. Agrees h asked told) → AnswersWords asked told → HasCause (record n { out = out; notes = quiet }) told → Prints held asked put.before put.after told
-      → Stands n.notes told answer → Noted asked (IsPutFor told) n.notes note.before note.after answer → IsCall held asked n output note answer
+      → AnswerStands n.notes told answer → Noted asked (IsPutFor told) n.notes note.before note.after answer → IsCall held asked n output note answer
   whole-call out first last before after agrees words cause prints stands noted =
       let caused : HasCause (record n { notes = quiet }) told = cause-kept (record n { out = out; notes = quiet }) n.out told (zero-stands out before after) cause in
       let printed : Prints held asked output.before output.after told =
@@ -114,7 +114,7 @@ module _ (held : Option Held) (asked : Option Asked) (n : Counts) (output note :
   -- a call of which a part has gone on
   pub part-call : (first : ℕ) (course : Course) (gone : ℕ) (left : List ℕ) → put.before ≡ output.before → IfSome output.before (λ w. length w ≡ first)
       → ForSome output.after (λ w. first ≤ length w) → told_by course gone left output.after ≡ put.after → IsBegun output.after put.after → HasRisen n.out
-      → Prints held asked put.before put.after told → Stands n.notes WriteFault answer → Noted asked (IsPutFor WriteFault) n.notes note.before note.after answer
+      → Prints held asked put.before put.after told → AnswerStands n.notes WriteFault answer → Noted asked (IsPutFor WriteFault) n.notes note.before note.after answer
       → IsCall held asked n output note answer
   part-call first course gone left same_first was grown same begun risen prints stands noted =
       let printed : Prints held asked output.before output.after WriteFault =

@@ -11,8 +11,8 @@ use Rattle.clap.specs.Words.{Text}
 use Rattle.qp_run_parts.specs.declared.status.Status.{Status}
 use Rattle.qp_run_parts.specs.declared.status.Status.TheVariants.{Words, Memory}
 use Rattle.qp_run_parts.specs.Conversions.{Held}
-use Rattle.qp_run_parts.specs.Notes.{number_of}
-use Rattle.qp_run_parts.specs.Verdict.{Counts, IsCall, IsPutFor, Noted, Stands, Stream}
+use Rattle.qp_run_parts.specs.Notes.{status_number}
+use Rattle.qp_run_parts.specs.Verdict.{Counts, IsCall, IsPutFor, Noted, AnswerStands, Stream}
 use Rattle.qp_commands.specs.WordTable.{command_in}
 
 -- the arguments of a process, as `env::args` gives them
@@ -30,7 +30,7 @@ unread kind = Memory
 
 -- without arguments only the line of the answer was put, which says why
 pub record IsUnread (error : Error) (n : Counts) (output note : Stream) (answer : Status) : Type 0 where
-  pub told : Stands n.notes (unread (error_kind error)) answer
+  pub told : AnswerStands n.notes (unread (error_kind error)) answer
   pub out : output.after ≡ output.before
   pub notes : Noted None (IsPutFor (unread (error_kind error))) n.notes note.before note.after answer
 
@@ -41,7 +41,7 @@ IsAnswered (Err error) held n output note answer = IsUnread error n output note 
 
 -- it ended with the number of such an answer
 abbrev pub EndsWith : ℕ → (Status → Type 0) → Type 0
-EndsWith code IsAnswer = (answer : Status) × (code ≡ number_of answer) × IsAnswer answer
+EndsWith code IsAnswer = (answer : Status) × (code ≡ status_number answer) × IsAnswer answer
 
 -- a stream of which nothing is told
 abbrev pub untold : Stream

@@ -2,7 +2,7 @@
 
 ghost use Rattle.std.specs.Prelude.{◌≡◌};
 ghost use Rattle.std.specs.Process.{exit_status};
-ghost use Rattle.qp_run_parts.specs.Notes.{number_of};
+ghost use Rattle.qp_run_parts.specs.Notes.{status_number};
 ghost use Rattle.qp_run_parts.specs.Verdict.{IsCall, count_of, stream_of, writes_of};
 ghost use Rattle.qp_commands.specs.WordTable.{command_in};
 ghost use Rattle.qp_process.specs.Process.{EndsUntold, EndsWith, IsAnswered, words_in};
@@ -90,7 +90,7 @@ pub fn program<R: Threads + Wait + Sync, F: Shelf, O: Sink + Drop, E: Sink>(
 
 /// The exit status of an answer.
 fn exit_code(status: &Status) -> ExitCode
-    ensures { exit_status result ≡ number_of status.now }
+    ensures { exit_status result ≡ status_number status.now }
 {
     ExitCode::from(status.number())
 }

@@ -13,7 +13,7 @@ use Rattle.qp_model.specs.declared.bodies.Entry.{Entry}
 use Rattle.qp_model.specs.declared.bodies.Body.{Body}
 use Rattle.qp_model.specs.declared.bodies.Body.TheVariants as item
 use Rattle.qp_model.specs.Record.{entry}
-use Rattle.qp_model.specs.Told.{Told, Event, plain, given, dropped, raised, same_in, taken}
+use Rattle.qp_model.specs.Told.{Told, Event, plain, told_new, dropped, raised, same_in, told_took}
 use Rattle.qp_model.specs.declared.words.Word.{Word}
 use Rattle.qp_model.specs.declared.words.Word.TheVariants as word
 use Rattle.qp_model.specs.History.{Touch, Draws, Shows, Neither, touch_of}
@@ -112,11 +112,11 @@ pub record Rules (sys : System) (P : Claims) : Type 0 where
   pub timer : (t : ℕ) → IsTrue (is_timer sys t) → P.names.Timer t
   pub pool : (p : ℕ) → IsTrue (is_pool sys p) → P.Pool p
   pub new : (p sig : ℕ) (pars : List ℕ) → first_pool (sizes_of sys) (length pars) ≡ Some p → P.names.Event sig pars → P.New p sig pars
-  pub made : (p n b from sig free : ℕ) (pars : List ℕ) → IsTrue (is_pool sys p) → P.Knows (given p n b from sig pars free) → P.Block p b
+  pub made : (p n b from sig free : ℕ) (pars : List ℕ) → IsTrue (is_pool sys p) → P.Knows (told_new p n b from sig pars free) → P.Block p b
   pub good : (p b r : ℕ) → P.Block p b → P.Good (entry p b r)
   pub block : (e : Entry) → 0 < e.pool → P.Good e → P.Block e.pool e.block
   pub static : (sig : ℕ) → is_static sys sig ≡ true → P.Good (entry 0 sig 0)
-  pub takes : (f l m : ℕ) (e : Entry) (ev : Event) → P.Knows (taken f l m e ev) → P.Good e
+  pub takes : (f l m : ℕ) (e : Entry) (ev : Event) → P.Knows (told_took f l m e ev) → P.Good e
   pub member : (a : ℕ) → P.names.Object a → P.Member a
   pub subscribed : (sig n set : ℕ) → P.names.Signal sig → P.Knows (plain (item.Pub sig n set)) → AllByRecursion P.Member (members set)
 
@@ -306,7 +306,7 @@ module _ (sys : System) (o : ℕ) (P : Claims) where
     Heads F head e = Leads F head (λ t. count_in t e + F t) × (Known head → P.Good e)
 
     new-block : (p n b from sig free r : ℕ) (pars : List ℕ) (F : Bag) → first_pool (sizes_of sys) (length pars) ≡ Some p → P.names.Event sig pars
-        → Leads F (given p n b from sig pars free ∷ plain (item.Inc p b r) ∷ []) (λ t. count_in t (entry p b r) + F t)
+        → Leads F (told_new p n b from sig pars free ∷ plain (item.Inc p b r) ∷ []) (λ t. count_in t (entry p b r) + F t)
     unfolding hands_by take_out stands
     new-block p n b from sig free r pars F first event H within = (
       (rules.new p sig pars first event, λ k. ((rules.made p n b from sig free pars pool k, inl loose), λ j. tt)),
@@ -342,7 +342,7 @@ module _ (sys : System) (o : ℕ) (P : Claims) where
     new-head false sig pars reserve head e F fixed event (p, n, b, from, free, r, is, at, first, more) =
         let pool : IsTrue (is_pool sys p) = first-there sys (length pars) p first in (
           leads-same F (λ t. count_in t e + F t) head _ is
-              (subst (λ x. Leads F (given p n b from sig pars free ∷ plain (item.Inc p b r) ∷ []) (λ t. count_in t x + F t)) (sym at) (new-block p n b from sig free r pars F first event)),
+              (subst (λ x. Leads F (told_new p n b from sig pars free ∷ plain (item.Inc p b r) ∷ []) (λ t. count_in t x + F t)) (sym at) (new-block p n b from sig free r pars F first event)),
           λ k. subst P.Good (sym at) (rules.good p b r (rules.made p n b from sig free pars pool (subst Known is k).0)),
         )
 

@@ -13,3 +13,12 @@ pub mod SerialLemmas
 pub mod SizeLemmas
 pub mod SourceRecords
 pub mod ReplayedLemmas
+pub mod Along
+pub mod Fronts
+pub mod Histories
+pub mod LaneSpills
+pub mod NextBlocks
+pub mod NextMay
+pub mod NextRecords
+pub mod OneThread
+pub mod Rerunning

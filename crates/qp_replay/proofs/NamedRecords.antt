@@ -32,7 +32,7 @@ use Rattle.qp_model.specs.History.{Touch, Draws, Shows, Neither, touch, touch_of
 use Rattle.qp_model.specs.Machine.{after, after_from, allowed_from, is_allowed, is_shown, shown_by}
 use Rattle.qp_model.specs.FreeBlocks.{Pool, free_blocks, pool_may, pool_next}
 use Rattle.qp_model.specs.Subscribers.{Subscribers, subscribers, subscribers_next, bits_of_set}
-use Rattle.qp_model.specs.Knowing.{event_known, event_of, given_by, known_of, last_given, life_event, told}
+use Rattle.qp_model.specs.Knowing.{event_known, event_of_entry, given_by, known_of, last_given, life_event, told}
 use Rattle.qp_model.specs.Calls.{deed_of, object_of, values_of}
 use Rattle.qp_model.specs.Parts.{members, members_below, timer_number}
 use Rattle.qp_model.specs.Sites.{blocks_of, object_at}
@@ -48,14 +48,14 @@ use Rattle.qp_model.proofs.NumberLemmas.{number-owned, every-append}
 use Rattle.qp_stim.specs.Rules as rule
 use Rattle.qp_stim.specs.Rules.{StimuliFit}
 use Rattle.qp_calls.specs.Counting.{one}
-use Rattle.qp_calls.specs.declared.tokens.Entry as token
-use Rattle.qp_calls.specs.declared.tokens.Entry.TheVariants as hand
+use Rattle.qp_calls.specs.declared.tokens.HeldEntry as token
+use Rattle.qp_calls.specs.declared.tokens.HeldEntry.TheVariants as hand
 use Rattle.qp_calls.specs.Tokens.{Token}
 use Rattle.qp_plain_sound.specs.Sound.{is_event}
 use Rattle.qp_plain_sound.proofs.CallEvents.{event-to}
 use Rattle.qp_plain_sound.proofs.SetLemmas.{bits-has, set-apart}
 use Rattle.qp_dispatch.specs.SoundFor.{HasTimer, IsHome, MayAct, MayTask}
-use Rattle.qp_dispatch.specs.Resume.{IsReady}
+use Rattle.qp_dispatch.specs.Resume.{CanTakeSteps}
 use Rattle.qp_dispatch.proofs.Naming.{declared, receives, sound-event}
 use Rattle.qp_dispatch.proofs.SoundAble.{sound-ready}
 use Rattle.qp_replay.specs.Laws.{LawfulRecordsAreNamed}
@@ -106,7 +106,7 @@ event-of : (sys : System) (chart : Chart) (inside : Option ℕ) (sig : ℕ) (par
     → IsTrue (is_event sys (record { sig = sig; pars = values_of names pars }))
 event-of sys chart inside sig pars reserve names e = event-to sys _ (sound-event sys chart inside sig pars reserve names _ e refl)
 
-deed-names : (sys : System) (me : ℕ) (at_hand : Option token.Entry) (p : Plain) → MayAct sys me at_hand p → (names : Names) → names.me ≡ me → DeedNames (system_names sys) sys me (deed_of names p)
+deed-names : (sys : System) (me : ℕ) (at_hand : Option token.HeldEntry) (p : Plain) → MayAct sys me at_hand p → (names : Names) → names.me ≡ me → DeedNames (system_names sys) sys me (deed_of names p)
 unfolding deed_of IsSoundPlain
 deed-names sys me at_hand (action.Set var value) may names is = tt
 deed-names sys me at_hand (action.Say value) may names is = tt
@@ -127,7 +127,7 @@ deed-names sys me at_hand (action.Arm t ticks interval) may names is = timer-the
 deed-names sys me at_hand (action.Rearm t ticks) may names is = timer-there sys me t (may.home.timers t may.plain.0.0 may.plain.0.1)
 deed-names sys me at_hand (action.Disarm t) may names is = timer-there sys me t (may.home.timers t may.plain.0 may.plain.1)
 
-tasks-name : (sys : System) (me : ℕ) (at_hand : Option token.Entry) (ts : List Task) → AllByRecursion (MayTask sys me at_hand) ts → AllByRecursion (TaskNames (system_names sys) sys me) ts
+tasks-name : (sys : System) (me : ℕ) (at_hand : Option token.HeldEntry) (ts : List Task) → AllByRecursion (MayTask sys me at_hand) ts → AllByRecursion (TaskNames (system_names sys) sys me) ts
 tasks-name sys me at_hand [] h = tt
 tasks-name sys me at_hand (t ∷ ts) h = (one t h.0, tasks-name sys me at_hand ts h.1)
   where
@@ -144,7 +144,7 @@ tasks-name sys me at_hand (t ∷ ts) h = (one t h.0, tasks-name sys me at_hand t
     one Restore may = tt
 
 -- and they may be done
-chart-ready : (sys : System) → IsSound sys → (d : ObjectDef) → object_at sys d.priority ≡ Some d → (chart : Chart) → chart_at sys d.chart ≡ Some chart → IsReady sys d.priority chart
+chart-ready : (sys : System) → IsSound sys → (d : ObjectDef) → object_at sys d.priority ≡ Some d → (chart : Chart) → chart_at sys d.chart ≡ Some chart → CanTakeSteps sys d.priority chart
 unfolding is_object object_at
 chart-ready sys sound d found chart its = sound-ready sys d.priority chart (d.chart - 1) home its
   where
@@ -172,7 +172,7 @@ chart-ready sys sound d found chart its = sound-ready sys d.priority chart (d.ch
 
 pub chart-names : (sys : System) → IsSound sys → (d : ObjectDef) → object_at sys d.priority ≡ Some d → (chart : Chart) → chart_at sys d.chart ≡ Some chart → ChartNames (system_names sys) sys d.priority chart
 chart-names sys sound d found chart its =
-    let ready : IsReady sys d.priority chart = chart-ready sys sound d found chart its in
+    let ready : CanTakeSteps sys d.priority chart = chart-ready sys sound d found chart its in
     record {
       start = tasks-name sys d.priority None _ ready.start;
       steps = λ leaf names sig. tasks-name sys d.priority (Some (hand.Static 0)) _ (ready.steps (hand.Static 0) leaf names sig);
@@ -474,8 +474,8 @@ module _ (sys : System) where
         step c at k = inl k
 
     -- an entry that has an event is one of these
-    event-good : (e : Entry) (ev : Event) → event_of (record { sys = sys; items = all_items lanes }) e ≡ Some ev → OfSystem e
-    unfolding event_of life_event
+    event-good : (e : Entry) (ev : Event) → event_of_entry (record { sys = sys; items = all_items lanes }) e ≡ Some ev → OfSystem e
+    unfolding event_of_entry life_event
     event-good e ev h = by_pool (e.pool == 0) refl h
       where
         new_in : (i : Item) → drawn_on (word.Pool e.pool) (touch i) ≡ true → FirstFine sys i.of i.body × SureBody i.body → NewIn e.pool i
@@ -509,7 +509,7 @@ module _ (sys : System) where
 
     record KnowsTold (t : Told) : Type 0 where
       sure_of : SureBody t.body
-      event : (f l m : ℕ) (e : Entry) (ev : Event) → t.body ≡ item.Took f l m e → t.known ≡ OfEvent ev → event_of (record { sys = sys; items = all_items lanes }) e ≡ Some ev
+      event : (f l m : ℕ) (e : Entry) (ev : Event) → t.body ≡ item.Took f l m e → t.known ≡ OfEvent ev → event_of_entry (record { sys = sys; items = all_items lanes }) e ≡ Some ev
 
     known-event : (o : Option Event) (ev : Event) → event_known o ≡ OfEvent ev → o ≡ Some ev
     known-event None ev h = absurd (cc)
@@ -520,7 +520,7 @@ module _ (sys : System) where
     told-knows o c b sure_of = record {
       sure_of = sure_of;
       event = λ f l m e ev is known.
-          known-event (event_of (record { sys = sys; items = all_items lanes }) e) ev (subst (λ x. known_of (record { sys = sys; items = all_items lanes }) o c x ≡ OfEvent ev) is known);
+          known-event (event_of_entry (record { sys = sys; items = all_items lanes }) e) ev (subst (λ x. known_of (record { sys = sys; items = all_items lanes }) o c x ≡ OfEvent ev) is known);
     }
 
     block-there : (e : Entry) → 0 < e.pool → OfSystem e → IsTrue (is_block sys e.pool e.block)

@@ -10,7 +10,7 @@ use Rattle.std.proofs.lemmas.Option.{get_or_from_slice_get, slice_get_within}
 use Rattle.qp_model.specs.declared.record.Rec.{Rec}
 use Rattle.qp_model.specs.History.{Touch, Draws, Shows, Neither, same_word}
 use Rattle.qp_model.specs.Places.{RecordPlace, item_at, must_precede, places, places_from, places_in, touch_at, touch_first}
-use Rattle.qp_replay.specs.Orders.{GoesNext, GoesOn, IsLowestOrder, IsReady, is_record}
+use Rattle.qp_replay.specs.Orders.{GoesNext, GoesNextEach, IsLowestOrder, ComesNext, is_record}
 use Rattle.qp_replay.specs.Remaining.{Blocks, HasNext, MayGo, Standing, front, head, place}
 use Rattle.qp_replay.proofs.RemainingLemmas.{lane-of, length-fronts, no-front, record-test}
 
@@ -37,7 +37,7 @@ pub record Kept (st : Standing) (order : List RecordPlace) : Type 0 where
   pub all : IsPermutation (taken 0 st.lanes st.fronts) order
   pub stand : (x : RecordPlace) → Contains order x → IsTrue (is_record st.lanes x) × (x.at < front st x.lane)
   pub passed : (x : RecordPlace) → IsTrue (is_record st.lanes x) → x.at < front st x.lane → Contains order x
-  pub lowest : GoesOn st.lanes [] order
+  pub lowest : GoesNextEach st.lanes [] order
   pub closed : (x y : RecordPlace) → Contains order y → IsTrue (is_record st.lanes x) → IsTrue (must_precede st.lanes x y) → Contains order x
   pub pairs : (i j : ℕ) (x y : RecordPlace) → slice_get order i ≡ Some x → slice_get order j ≡ Some y → IsTrue (must_precede st.lanes x y) → i < j
 
@@ -79,7 +79,7 @@ slice-last (y ∷ ys) x a (suc i) h = ⊎_elim (λ s. inl s) (λ s. inr (ap suc 
 contains-at : (order : List RecordPlace) (i : ℕ) (x : RecordPlace) → slice_get order i ≡ Some x → Contains order x
 contains-at order i x h = (i, slice_get_within order i x h, get_or_from_slice_get order i x x h)
 
-goes-more : (lanes : List (List Rec)) (before xs : List RecordPlace) (x : RecordPlace) → GoesOn lanes before xs → GoesNext lanes (before ++ xs) x → GoesOn lanes before (xs ++ x ∷ [])
+goes-more : (lanes : List (List Rec)) (before xs : List RecordPlace) (x : RecordPlace) → GoesNextEach lanes before xs → GoesNext lanes (before ++ xs) x → GoesNextEach lanes before (xs ++ x ∷ [])
 goes-more lanes before [] x on next = (subst (λ l. GoesNext lanes l x) (append-nil before) next, tt)
 goes-more lanes before (y ∷ ys) x on next = (on.0, goes-more lanes (before ++ y ∷ []) ys x on.1 (subst (λ l. GoesNext lanes l x) (sym (append_assoc before (y ∷ []) ys)) next))
 
@@ -161,10 +161,10 @@ module _ (st : Standing) (order : List RecordPlace) (n : ℕ) (kept : Kept st or
   fresh : Contains order (head st n) → ⊥
   fresh h = let old = (kept.stand (head st n) h).1 in omega (arith, old)
 
-  ready : IsReady st.lanes order (head st n)
+  ready : ComesNext st.lanes order (head st n)
   ready x is first = ⊎_elim (λ less. kept.passed x is less) (λ le. absurd (go.free x (record { waits = record { stands = is; behind = le }; first = first }))) (cases_lt x.at (front st x.lane))
 
-  no-lower : (y : RecordPlace) → y.lane < n → IsTrue (is_record st.lanes y) → (Contains order y → ⊥) → IsReady st.lanes order y → ⊥
+  no-lower : (y : RecordPlace) → y.lane < n → IsTrue (is_record st.lanes y) → (Contains order y → ⊥) → ComesNext st.lanes order y → ⊥
   no-lower y less is new before = lowest y.lane less (record { next = next; free = free })
     where
       behind : front st y.lane ≤ y.at

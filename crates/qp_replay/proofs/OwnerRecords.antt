@@ -25,7 +25,7 @@ use Rattle.qp_model.specs.Pieces.{Piece}
 use Rattle.qp_model.specs.Course.{chart_at}
 use Rattle.qp_model.specs.Ends.{is_spill, is_turn_mark, may_cut}
 use Rattle.qp_model.specs.Home.{lane_at, home_of, by_object}
-use Rattle.qp_model.specs.HomeLane.{is_at_home, are_at_home, taken_by, is_home_lane}
+use Rattle.qp_model.specs.HomeLane.{is_at_home, are_at_home, count_taken, is_home_lane}
 use Rattle.qp_model.specs.KernelLane.{Reading, Setting, lane_read, role_of}
 use Rattle.qp_model.specs.Sources.{IsSourceLane, source_records}
 use Rattle.qp_model.specs.Lawful.{Lawful, is_settle, ObjectHolds, CourseHolds, KernelHolds, cut_of, facts_of, reading_holds, setting_of}
@@ -195,8 +195,8 @@ module _ (sys : System) (stimuli : List (List Stim)) (j : Journal) (P : Claims) 
   unfolding are_at_home
   all-at-home o budget cuts n [] object h = tt
   all-at-home o budget cuts n (i ∷ is) object h =
-      let parts = and_parts (is_at_home o (n == budget) (cuts && (length is == 0)) i.of i.body) (are_at_home o budget cuts (taken_by n i.body) is) h in
-      (at-home o (n == budget) (cuts && (length is == 0)) i object parts.0, all-at-home o budget cuts (taken_by n i.body) is object parts.1)
+      let parts = and_parts (is_at_home o (n == budget) (cuts && (length is == 0)) i.of i.body) (are_at_home o budget cuts (count_taken n i.body) is) h in
+      (at-home o (n == budget) (cuts && (length is == 0)) i object parts.0, all-at-home o budget cuts (count_taken n i.body) is object parts.1)
 
   home-lin : (j.kernel == port) ≡ true → (d : ObjectDef) → IsTrue (is_object sys d.priority) → ObjectHolds sys j d → (o : ℕ) → LinOf o (records_of (facts_of sys j) o 0 (lane_items (lane_at j (home_of sys j d.priority))))
   unfolding by_object is_home_lane facts_of

@@ -10,14 +10,14 @@ use Rattle.qp_model.specs.Output.{is_lane_in_range, is_record_in_range, record_i
 use Rattle.qp_model.specs.OutputText.{line_text}
 use Rattle.qp_model.specs.Places.{RecordPlace, item_at}
 use Rattle.qp_model.specs.Record.{item_of}
-use Rattle.qp_replay.specs.Orders.{GoesOn, is_record}
+use Rattle.qp_replay.specs.Orders.{GoesNextEach, is_record}
 use Rattle.qp_replay.specs.Replaying.{IsAnswer, IsReplay}
 use Rattle.qp_replay.specs.declared.places.Replayed.{Replayed}
 use Rattle.qp_replay.specs.declared.places.Replayed.TheVariants.{Order, Cycle}
 use Rattle.qp_replay.specs.Text.{AreRecords, place_line}
 use Rattle.qp_model.proofs.AbleLemmas.{all-get}
 
-goes-stand : (lanes : List (List Rec)) (before xs : List RecordPlace) → GoesOn lanes before xs → AllByRecursion (λ x. IsTrue (is_record lanes x)) xs
+goes-stand : (lanes : List (List Rec)) (before xs : List RecordPlace) → GoesNextEach lanes before xs → AllByRecursion (λ x. IsTrue (is_record lanes x)) xs
 goes-stand lanes before [] goes = tt
 goes-stand lanes before (x ∷ xs) goes = (goes.0.stands, goes-stand lanes (before ++ x ∷ []) xs goes.1)
 

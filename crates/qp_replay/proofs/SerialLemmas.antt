@@ -20,7 +20,7 @@ use Rattle.qp_model.specs.WordLaw.{Keeps, Words}
 use Rattle.qp_model.proofs.ListLemmas.{all_below_at, filter-none}
 use Rattle.qp_model.proofs.HistoryLemmas.{length-hist}
 use Rattle.qp_replay.specs.Laws.{NamedOrdersAreSerial}
-use Rattle.qp_replay.specs.Numbers.{IsNamed, has_word, is_next_where, is_on, numbers_stand}
+use Rattle.qp_replay.specs.Numbers.{TouchKnownWords, has_word, is_next_where, is_on, numbers_stand}
 use Rattle.qp_replay.specs.Orders.{IsLowestOrder}
 use Rattle.qp_replay.specs.Replaying.{IsAnswer, IsReplay}
 use Rattle.qp_replay.specs.Remaining.{place}
@@ -207,6 +207,6 @@ named-serial sys lanes order named is numbers = record {
 }
 
 -- what is answered of any lanes says more where their words keep their law and no record touches another word
-pub serial-also : (sys : System) (lanes : List (List Rec)) → Words sys lanes → IsNamed sys lanes → (a : Replayed) → IsAnswer lanes a → IsReplay lanes a
+pub serial-also : (sys : System) (lanes : List (List Rec)) → Words sys lanes → TouchKnownWords sys lanes → (a : Replayed) → IsAnswer lanes a → IsReplay lanes a
 serial-also sys lanes words named (Order order) h = (h, named-serial sys lanes order named h.0 (numbers-hold sys lanes order words h.0))
 serial-also sys lanes words named (Cycle cycle) h = h

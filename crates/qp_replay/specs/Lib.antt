@@ -5,3 +5,5 @@ pub mod Marks
 pub mod Replaying
 pub mod Remaining
 pub mod Text
+pub mod RerunLaws
+pub mod Rerun

@@ -25,8 +25,8 @@ is_on test (Shows w mark) = test w
 is_on test Neither = true
 
 -- each record of the lanes that touches a word touches one of the system
-abbrev pub IsNamed : System → List (List Rec) → Type 0
-IsNamed sys lanes = IsTrue (list_all (λ i. is_on (has_word sys) (touch i)) (all_items lanes))
+abbrev pub TouchKnownWords : System → List (List Rec) → Type 0
+TouchKnownWords sys lanes = IsTrue (list_all (λ i. is_on (has_word sys) (touch i)) (all_items lanes))
 
 -- the touch of a word that passes the test draws or shows the number of the word's operations before it
 abbrev pub is_next_where : (Word → Bool) → List Item → Touch → Bool

@@ -10,27 +10,27 @@ unfolding item_at
 is_record lanes x = is_some (item_at lanes x)
 
 -- all records that must stand before y are among these
-abbrev pub IsReady : List (List Rec) → List RecordPlace → RecordPlace → Type 0
-IsReady lanes before y = (x : RecordPlace) → IsTrue (is_record lanes x) → IsTrue (must_precede lanes x y) → Contains before x
+abbrev pub ComesNext : List (List Rec) → List RecordPlace → RecordPlace → Type 0
+ComesNext lanes before y = (x : RecordPlace) → IsTrue (is_record lanes x) → IsTrue (must_precede lanes x y) → Contains before x
 
 -- Behind these stands x: a record that isn't among them, all that must stand before it is, and no record of a lower lane is so.
 pub record GoesNext (lanes : List (List Rec)) (before : List RecordPlace) (x : RecordPlace) : Type 0 where
   pub stands : IsTrue (is_record lanes x)
   pub fresh : Contains before x → ⊥
-  pub ready : IsReady lanes before x
-  pub lowest : (y : RecordPlace) → y.lane < x.lane → IsTrue (is_record lanes y) → (Contains before y → ⊥) → IsReady lanes before y → ⊥
+  pub ready : ComesNext lanes before x
+  pub lowest : (y : RecordPlace) → y.lane < x.lane → IsTrue (is_record lanes y) → (Contains before y → ⊥) → ComesNext lanes before y → ⊥
 
 -- each of these places goes next behind those before it
-abbrev pub GoesOn : List (List Rec) → List RecordPlace → List RecordPlace → Type 0
-GoesOn lanes before [] = ⊤
-GoesOn lanes before (x ∷ xs) = GoesNext lanes before x × GoesOn lanes (before ++ x ∷ []) xs
+abbrev pub GoesNextEach : List (List Rec) → List RecordPlace → List RecordPlace → Type 0
+GoesNextEach lanes before [] = ⊤
+GoesNextEach lanes before (x ∷ xs) = GoesNext lanes before x × GoesNextEach lanes (before ++ x ∷ []) xs
 
 -- The order of all records, each once, in which each stands behind those that must stand before it, and each next one is from the
 -- lowest lane whose next record has all that must stand before it.
 pub record IsLowestOrder (lanes : List (List Rec)) (order : List RecordPlace) : Type 0 where
   pub all : IsPermutation (places lanes) order
   pub before : (i j : ℕ) (x y : RecordPlace) → slice_get order i ≡ Some x → slice_get order j ≡ Some y → IsTrue (must_precede lanes x y) → i < j
-  pub lowest : GoesOn lanes [] order
+  pub lowest : GoesNextEach lanes [] order
 
 -- each of these must stand before the next, and the last before this one
 abbrev pub closes : List (List Rec) → RecordPlace → List RecordPlace → Bool

@@ -15,6 +15,11 @@ mod replaying;
 pub mod laws;
 mod writing;
 
+// A journal's records made once more, in the world of one thread.
+mod again;
+pub mod rerun_laws;
+
+pub use again::rerun;
 pub use marks::At;
 pub use order::{is_small, ordered};
 pub use places::{Places, Replayed};

@@ -4,7 +4,7 @@ ghost use Rattle.qp_base.specs.Counts.{Rose};
 ghost use Rattle.qp_base.specs.Sink.{AppendsPrefix, appended};
 ghost use Rattle.qp_run_parts.specs.Notes.{names_file};
 ghost use Rattle.qp_run_parts.specs.Sealed.{Seals};
-ghost use Rattle.qp_run_parts.specs.Verdict.{Agrees, AnswersWords, HasCause, IsCall, IsNamed, IsPutFor, Noted, Prints, Stands, count_of, stream_of, writes_of};
+ghost use Rattle.qp_run_parts.specs.Verdict.{Agrees, AnswersWords, HasCause, IsCall, NamesFile, IsPutFor, Noted, Prints, AnswerStands, count_of, stream_of, writes_of};
 ghost use Rattle.qp_commands.specs.WordTable.{Asked, asked_of, command_in, is_in_limits, texts};
 ghost use Rattle.qp_run_parts.specs.declared.status.Status.{Status};
 
@@ -98,7 +98,7 @@ pub fn answer<'w, R: Threads + Wait + Sync, F: Shelf, O: Sink, G: Gate>(
 ) -> Answered<'w>
     ensures told { IfSome (F.holds files.old) (λ held. Agrees held (command_in (texts words.entry.now)) result.status) }
     ensures words_told { AnswersWords (command_in (texts words.entry.now)) result.status }
-    ensures name { IsNamed (command_in (texts words.entry.now)) result.status result.name.now }
+    ensures name { NamesFile (command_in (texts words.entry.now)) result.status result.name.now }
     ensures cause { HasCause (writes_of F.faults F.misses O.faults files.old files.new out.old out.new) result.status }
     ensures out { Prints (F.holds files.old) (command_in (texts words.entry.now)) (O.written out.old) (O.written out.new) result.status }
     ensures seal { Seals (F.holds files.old) (command_in (texts words.entry.now)) (stream_of O.written out.old out.new) result.status
@@ -141,7 +141,7 @@ pub fn tell<E: Sink>(status: Status, notes: &mut E) -> Status
     requires { names_file status ≡ false }
     ensures notes { (asked : Option Asked)
         → Noted asked (IsPutFor status) (count_of E.faults notes.old notes.new) (E.written notes.old) (E.written notes.new) result }
-    ensures answer { Stands (count_of E.faults notes.old notes.new) status result }
+    ensures answer { AnswerStands (count_of E.faults notes.old notes.new) status result }
 {
     if status.is_done() {
         return status;
@@ -152,9 +152,9 @@ pub fn tell<E: Sink>(status: Status, notes: &mut E) -> Status
 
 /// Puts the line about an answer. Only a line that names a file takes memory; it names it by this name.
 pub fn report<E: Sink>(alloc: Global, name: &str, status: Status, notes: &mut E) -> Status
-    ensures notes { (asked : Option Asked) → IsNamed asked status name.now
+    ensures notes { (asked : Option Asked) → NamesFile asked status name.now
         → Noted asked (IsPutFor status) (count_of E.faults notes.old notes.new) (E.written notes.old) (E.written notes.new) result }
-    ensures answer { Stands (count_of E.faults notes.old notes.new) status result }
+    ensures answer { AnswerStands (count_of E.faults notes.old notes.new) status result }
 {
     if !status.names_file() {
         return tell(status, notes);

@@ -5,8 +5,8 @@ use Rattle.qp_model.specs.declared.systems.PoolDef.{PoolDef}
 use Rattle.qp_model.specs.declared.systems.System.{System}
 use Rattle.qp_model.specs.Sound.{IsSound, IsSoundPool}
 use Rattle.qp_check.specs.Judgeable.{IsJudgeable}
-use Rattle.qp_check_histories.specs.Numbers.{WordsFit}
-use Rattle.qp_sim_unique.proofs.FollowLemmas.{sound-followable}
+use Rattle.qp_check_words.specs.Numbers.{WordsFit}
+use Rattle.qp_unique.proofs.FollowLemmas.{sound-followable}
 
 module _ (sys : System) (sound : IsSound sys) where
   few-blocks : (ps : List PoolDef) → AllByRecursion IsSoundPool ps → AllByRecursion (λ d. d.blocks ≤ 256) ps

@@ -12,12 +12,12 @@ use Rattle.qp_system.proofs.SystemOne.{systems_are_one}
 use Rattle.qp_check.specs.Judged.{IsVerdict, trials}
 use Rattle.qp_check.proofs.VerdictLemmas.{verdicts_are_one}
 use Rattle.qp_run_parts.specs.declared.status.Status.{Status}
-use Rattle.qp_commands.specs.declared.values.Kernel.{Kernel}
-use Rattle.qp_commands.specs.declared.values.Kernel.TheVariants.{Sim}
+use Rattle.qp_commands.specs.declared.values.KernelName.{KernelName}
+use Rattle.qp_commands.specs.declared.values.KernelName.TheVariants.{Sim}
 use Rattle.qp_commands.specs.declared.values.Kind.{Kind}
 use Rattle.qp_commands.specs.declared.values.Kind.TheVariants.{Frames, Journal as Text}
 use Rattle.qp_run_parts.specs.Checks.{JudgesFiles, JudgesFound, JudgesSecond, JudgesStimuli, JudgesSystem, JudgesThird, verdict_answer}
-use Rattle.qp_gen.specs.Made.{IsMade}
+use Rattle.qp_system.specs.Made.{IsMade}
 use Rattle.qp_run_parts.specs.Conversions.{AnswersJournal, Held, answer_on, decode_on, migrate_on, said}
 use Rattle.qp_run_parts.specs.Endings.{ending_of}
 use Rattle.qp_run_parts.specs.Laws.{EndRuns, MayBeTwo, OneAnswer}
@@ -47,7 +47,7 @@ pub loaded-one : (held : Option (List ℕ)) (x y : List ℕ) → IsLoaded held x
 loaded-one held x y p q = let first = p.0 in let second = q.0 in cc
 
 -- two answers on runs of one system are one, or may be two
-ends-either : (AreNamed : System → List (List Stim) → Type 0) (kernel : Kernel) (budget : ℕ) (sys : System) (sources : List (List Stim)) → AreNamed sys sources
+ends-either : (AreNamed : System → List (List Stim) → Type 0) (kernel : KernelName) (budget : ℕ) (sys : System) (sources : List (List Stim)) → AreNamed sys sources
     → (a b : Status) → EndsRun sys sources kernel budget a → EndsRun sys sources kernel budget b → (a ≡ b) ⊎ EndRuns AreNamed kernel budget a b
 ends-either AreNamed kernel budget sys sources named a b (i, is, ends) (j, are, others) = by (journals-either kernel budget sys sources i j is are)
   where
@@ -77,10 +77,10 @@ module _ (bytes : List ℕ) where
   system-goes_on sys a read (f, refuses, other, is) = other (systems_have_no_fault bytes sys f read refuses)
 
   -- a run of the one system is one of the other
-  run-carries : (s t : System) → IsSystemOf bytes s → IsSystemOf bytes t → (sources : List (List Stim)) (kernel : Kernel) (budget : ℕ) (a : Status) → EndsRun s sources kernel budget a → EndsRun t sources kernel budget a
+  run-carries : (s t : System) → IsSystemOf bytes s → IsSystemOf bytes t → (sources : List (List Stim)) (kernel : KernelName) (budget : ℕ) (a : Status) → EndsRun s sources kernel budget a → EndsRun t sources kernel budget a
   run-carries s t p q sources kernel budget a is = subst (λ x. EndsRun x sources kernel budget a) (systems_are_one bytes s t p q) is
 
-  module _ (AreNamed : System → List (List Stim) → Type 0) (kernel : Kernel) (budget : ℕ) (s t : System) (p : IsSystemOf bytes s) (q : IsSystemOf bytes t) where
+  module _ (AreNamed : System → List (List Stim) → Type 0) (kernel : KernelName) (budget : ℕ) (s t : System) (p : IsSystemOf bytes s) (q : IsSystemOf bytes t) where
     sources-run : (found : Result (List (List Stim)) Fault) → ((sources : List (List Stim)) → found ≡ Ok sources → AreNamed s sources) → (a b : Status)
         → AnswersSources s kernel budget found a → AnswersSources t kernel budget found b → (a ≡ b) ⊎ EndRuns AreNamed kernel budget a b
     sources-run (Err fault) named a b is are = inl (is ∙ sym are)
@@ -97,7 +97,7 @@ module _ (bytes : List ℕ) where
         same : stimuli_of t other ≡ stimuli_of s text
         same = ap (stimuli_of t) (loaded-one held other text found loaded) ∙ sym (stimuli-one bytes s t text p q)
 
-  system-run : (AreNamed : System → List (List Stim) → Type 0) (kernel : Kernel) (budget : ℕ) (held : Option (List ℕ))
+  system-run : (AreNamed : System → List (List Stim) → Type 0) (kernel : KernelName) (budget : ℕ) (held : Option (List ℕ))
       → ((s : System) → IsSystemOf bytes s → (text : List ℕ) (sources : List (List Stim)) → IsLoaded held text → stimuli_of s text ≡ Ok sources → AreNamed s sources)
       → (a b : Status) → AnswersSystem bytes held kernel budget a → AnswersSystem bytes held kernel budget b → (a ≡ b) ⊎ EndRuns AreNamed kernel budget a b
   system-run AreNamed kernel budget held named a b (inl is) (inl are) = inl (refusal-one a b is are)
@@ -106,7 +106,7 @@ module _ (bytes : List ℕ) where
   system-run AreNamed kernel budget held named a b (inr (s, p, is)) (inr (t, q, are)) = stimuli-run AreNamed kernel budget s t p q held (named s p) a b is are
 
 -- two answers on runs of two files are one, or are on two runs of what the files say
-module _ (held : Held) (system stimuli : List ℕ) (kernel : Kernel) (budget : ℕ) where
+module _ (held : Held) (system stimuli : List ℕ) (kernel : KernelName) (budget : ℕ) where
   files-run-one : (a b : Status) → AnswersFiles (held system) (held stimuli) kernel budget a → AnswersFiles (held system) (held stimuli) kernel budget b
       → (a ≡ b) ⊎ EndRuns (IsInput (Some held) system stimuli) kernel budget a b
   unfolding AnswersFiles
@@ -119,7 +119,7 @@ module _ (held : Held) (system stimuli : List ℕ) (kernel : Kernel) (budget : �
       a b is (subst (λ x. AnswersSystem x (held stimuli) kernel budget b) (loaded-one (held system) other bytes found loaded) are)
 
 -- the answer where two files have a system and its stimuli
-module _ (system stimuli : Option (List ℕ)) (kernel : Kernel) (budget : ℕ) (bytes text : List ℕ) (sys : System) (sources : List (List Stim))
+module _ (system stimuli : Option (List ℕ)) (kernel : KernelName) (budget : ℕ) (bytes text : List ℕ) (sys : System) (sources : List (List Stim))
     (system_held : IsLoaded system bytes) (read : IsSystemOf bytes sys) (stimuli_held : IsLoaded stimuli text) (says : stimuli_of sys text ≡ Ok sources) (answer : Status) where
   on-stimuli : (one : System) → IsSystemOf bytes one → AnswersStimuli stimuli one kernel budget answer → EndsRun one sources kernel budget answer
   on-stimuli one of (inl ends) = absurd (loaded-goes_on 2 stimuli text answer stimuli_held ends)
@@ -140,7 +140,7 @@ module _ (system stimuli : Option (List ℕ)) (kernel : Kernel) (budget : ℕ) (
 -- two answers on runs of what the same bytes say are one, or are on two runs that may leave two journals
 runs-one : (AreNamed : System → List (List Stim) → Type 0) (bytes text : List ℕ) (s t : System) (xs ys : List (List Stim)) → AreNamed s xs
     → IsSystemOf bytes s → IsSystemOf bytes t → stimuli_of s text ≡ Ok xs → stimuli_of t text ≡ Ok ys
-    → (kernel : Kernel) (budget : ℕ) (a b : Status) → EndsRun s xs kernel budget a → EndsRun t ys kernel budget b → (a ≡ b) ⊎ EndRuns AreNamed kernel budget a b
+    → (kernel : KernelName) (budget : ℕ) (a b : Status) → EndsRun s xs kernel budget a → EndsRun t ys kernel budget b → (a ≡ b) ⊎ EndRuns AreNamed kernel budget a b
 runs-one AreNamed bytes text s t xs ys named p q says tells kernel budget a b is are =
     let both : Ok ys ≡ Ok xs = sym tells ∙ sym (stimuli-one bytes s t text p q) ∙ says in
     let same : ys ≡ xs = cc in

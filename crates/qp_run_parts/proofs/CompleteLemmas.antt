@@ -7,7 +7,7 @@ use Rattle.qp_model.specs.declared.systems.System.{System}
 use Rattle.qp_text.specs.TextLaw.{IsWritable}
 use Rattle.qp_run_parts.specs.declared.status.Status.{Status}
 use Rattle.qp_run_parts.specs.declared.status.Status.TheVariants.{Done, Words, Absent, TooLong, Refused, Asserted, Spent, Memory, ReadFault, WriteFault, Unlawful}
-use Rattle.qp_commands.specs.declared.values.Kernel.{Kernel}
+use Rattle.qp_commands.specs.declared.values.KernelName.{KernelName}
 use Rattle.qp_commands.specs.declared.values.Kind.{Kind}
 use Rattle.qp_commands.specs.declared.values.Kind.TheVariants.{Frames}
 use Rattle.qp_run_parts.specs.Conversions.{AnswersJournal, Held, answer_on, decode_on, migrate_on, said, written}
@@ -63,12 +63,12 @@ judging-failed system stimuli held n answer failed cause = λ bytes text sys sou
     by sys sources j (inr memory) = inr memory
 
 -- how the run ended, or a failure
-running-done : (system stimuli : Option (List ℕ)) (kernel : Kernel) (budget : ℕ) (n : Counts) (answer : Status) → AnswersFiles system stimuli kernel budget answer → EndsRunning system stimuli kernel budget n answer
+running-done : (system stimuli : Option (List ℕ)) (kernel : KernelName) (budget : ℕ) (n : Counts) (answer : Status) → AnswersFiles system stimuli kernel budget answer → EndsRunning system stimuli kernel budget n answer
 unfolding EndsRunning
 running-done system stimuli kernel budget n answer is = λ bytes text sys sources first read second says reads out notes.
     inl (files-run system stimuli kernel budget bytes text sys sources first read second says answer is)
 
-running-failed : (system stimuli : Option (List ℕ)) (kernel : Kernel) (budget : ℕ) (n : Counts) (answer : Status) → is_failure answer ≡ true → HasCause n answer → EndsRunning system stimuli kernel budget n answer
+running-failed : (system stimuli : Option (List ℕ)) (kernel : KernelName) (budget : ℕ) (n : Counts) (answer : Status) → is_failure answer ≡ true → HasCause n answer → EndsRunning system stimuli kernel budget n answer
 unfolding EndsRunning
 running-failed system stimuli kernel budget n answer failed cause = λ bytes text sys sources first read second says reads out notes.
     by sys sources (failed-ends n Done answer failed cause reads out notes)

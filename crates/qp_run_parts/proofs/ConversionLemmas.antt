@@ -7,21 +7,21 @@ use Rattle.qp_model.specs.Output.{has_form}
 use Rattle.qp_text.proofs.TextRead.{reading_is_exact}
 use Rattle.qp_text.specs.declared.found.TextFault as text_fault
 use Rattle.qp_text.specs.declared.found.TextFault.TheVariants as text_faults
-use Rattle.qp_text.specs.Found.{Reads}
+use Rattle.qp_text.specs.Found.{ReadsJournal}
 use Rattle.qp_text.specs.ReadText.{read_text}
 use Rattle.qp_text.specs.TextLaw.{IsWritable}
 use Rattle.qp_frames.proofs.FramesLaw.{decoded-frames}
 use Rattle.qp_frames.specs.declared.faults.FrameFault as frame_fault
 use Rattle.qp_frames.specs.declared.faults.FrameFault.TheVariants as frame_faults
 use Rattle.qp_frames.specs.declared.stream.Stream.{Stream}
-use Rattle.qp_frames.specs.Faults.{Finds, Stands, answer_of}
+use Rattle.qp_frames.specs.Faults.{Finds, IsDecoderOf, answer_of}
 use Rattle.qp_frames.specs.Stream.{decoded, ended}
 use Rattle.qp_run_parts.specs.declared.place.Place.TheVariants.{Nowhere}
 use Rattle.qp_run_parts.specs.declared.status.Status.{Status}
 use Rattle.qp_run_parts.specs.declared.status.Status.TheVariants.{Done, Refused}
 use Rattle.qp_commands.specs.declared.values.Kind.{Kind}
 use Rattle.qp_commands.specs.declared.values.Kind.TheVariants.{Journal, Frames}
-use Rattle.qp_run_parts.specs.Conversions.{HasJournal, Held, IsWrittenAs, Refuses, answer_on, frame_refusal, frames_said, migrate_on, said, text_refusal, text_said, written, other_form}
+use Rattle.qp_run_parts.specs.Conversions.{HasJournal, Held, IsWrittenAs, RefusesFile, answer_on, frame_refusal, frames_said, migrate_on, said, text_refusal, text_said, written, other_form}
 use Rattle.qp_run_parts.specs.Verdict.{AgreesJournal, is_failure}
 use Rattle.qp_run_parts.proofs.VerdictLemmas.{IfSome-all}
 
@@ -32,24 +32,24 @@ said-written Journal form j is = ap text_said ((reading_is_exact form j (written
 said-written Frames form j is = ap frames_said (decoded-frames form j is)
 
 -- what is refused
-pub text-refuses : (fault : text_fault.TextFault) (bytes : List ℕ) → Reads (Err fault) (read_text bytes) → Refuses Journal bytes (text_refusal fault)
+pub text-refuses : (fault : text_fault.TextFault) (bytes : List ℕ) → ReadsJournal (Err fault) (read_text bytes) → RefusesFile Journal bytes (text_refusal fault)
 unfolding said
 text-refuses text_faults.Memory bytes reads = (refl, inl refl)
 text-refuses (text_faults.Line number code) bytes reads = (refl, inr (ap text_said reads))
 
-pub frames-refuse : (fault : frame_fault.FrameFault) (bytes : List ℕ) → Finds (Err fault) (decoded bytes) → Refuses Frames bytes (frame_refusal fault)
+pub frames-refuse : (fault : frame_fault.FrameFault) (bytes : List ℕ) → Finds (Err fault) (decoded bytes) → RefusesFile Frames bytes (frame_refusal fault)
 unfolding said
 frames-refuse frame_faults.Memory bytes finds = (refl, inl refl)
 frames-refuse (frame_faults.At offset code want got) bytes finds = (refl, inr (ap frames_said finds))
 
 -- what a decoder with a fault refuses
-pub fault-refuses : (fault : frame_fault.FrameFault) (bytes : List ℕ) → Stands (Err fault) bytes → Refuses Frames bytes (frame_refusal fault)
+pub fault-refuses : (fault : frame_fault.FrameFault) (bytes : List ℕ) → IsDecoderOf (Err fault) bytes → RefusesFile Frames bytes (frame_refusal fault)
 fault-refuses frame_faults.Memory bytes stands = (refl, inl refl)
 fault-refuses (frame_faults.At offset code want got) bytes stands = frames-refuse (frame_faults.At offset code want got) bytes (ap ended stands.1)
 
 -- a decoder that answers a fault
-pub fed-refuses : (state : Result Stream frame_fault.FrameFault) (fault : frame_fault.FrameFault) (bytes : List ℕ) → Err fault ≡ answer_of state → Stands state bytes
-    → Refuses Frames bytes (frame_refusal fault)
+pub fed-refuses : (state : Result Stream frame_fault.FrameFault) (fault : frame_fault.FrameFault) (bytes : List ℕ) → Err fault ≡ answer_of state → IsDecoderOf state bytes
+    → RefusesFile Frames bytes (frame_refusal fault)
 fed-refuses (Ok p) fault bytes answer stands = absurd (cc)
 fed-refuses (Err other) fault bytes answer stands =
     let same : other ≡ fault = cc in

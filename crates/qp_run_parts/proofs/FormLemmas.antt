@@ -11,10 +11,10 @@ use Rattle.qp_model.specs.declared.record.Rec.{Rec}
 use Rattle.qp_model.specs.Output.{has_form, has_no_rest, is_in_range, is_lane_in_range, is_record_in_range}
 use Rattle.qp_model.specs.declared.stimulus.Stim as stimulus
 use Rattle.qp_model.specs.declared.systems.System.{System}
-use Rattle.qp_sim_unique.specs.FormLaws.{CanBeWritten}
-use Rattle.qp_sim_unique.proofs.FormLemmas.{written, written-qk, written-qv}
-use Rattle.qp_port_forms.proofs.PortForms.{written-port}
-use Rattle.qp_port_sealed.specs.ThreadRun.{IsThreadRun}
+use Rattle.qp_unique.specs.FormLaws.{CanBeWritten}
+use Rattle.qp_unique.proofs.FormLemmas.{written, written-qk, written-qv}
+use Rattle.qp_unique.proofs.PortForms.{written-port}
+use Rattle.qp_port_law.specs.ThreadRun.{IsThreadRun}
 use Rattle.qp_model.specs.Sound.{IsSound}
 use Rattle.qp_model.specs.Ends.{ends_last}
 use Rattle.qp_model.specs.History.{lane_items}
@@ -22,8 +22,8 @@ use Rattle.qp_model.specs.Lawful.{EndHolds, Lawful, deferred_of}
 use Rattle.qp_summary.specs.Written.{HasStimuli}
 use Rattle.qp_kernel_runs.specs.SimRun.{IsQvRun, IsSimRun}
 use Rattle.qp_run_parts.specs.Printed.{IsRunUnder}
-use Rattle.qp_commands.specs.declared.values.Kernel.{Kernel}
-use Rattle.qp_commands.specs.declared.values.Kernel.TheVariants.{Sim, Qk, Port, Wait, Qv}
+use Rattle.qp_commands.specs.declared.values.KernelName.{KernelName}
+use Rattle.qp_commands.specs.declared.values.KernelName.TheVariants.{Sim, Qk, Port, Wait, Qv}
 use Rattle.qp_commands.specs.declared.values.Form.{Form}
 use Rattle.qp_commands.specs.declared.values.Form.TheVariants.{One, Two}
 use Rattle.qp_commands.specs.WordTable.{is_form_of, number_of_form}
@@ -108,7 +108,7 @@ range-moves form Two j within has =
     and_from _ _ (and_from _ _ (and_from _ _ (and_from _ _ (and_from _ _ kernel budget.1) most.1) end.1) few.1) (lanes-two form j.lanes lanes.1)
 
 -- the journal of a run is lawful
-pub run-lawful : (sys : System) (sources : List (List stimulus.Stim)) (kernel : Kernel) (budget : ℕ) (j : Journal) → IsRunUnder kernel sys sources budget j
+pub run-lawful : (sys : System) (sources : List (List stimulus.Stim)) (kernel : KernelName) (budget : ℕ) (j : Journal) → IsRunUnder kernel sys sources budget j
     → Lawful sys sources j
 run-lawful sys sources Sim budget j is = is.run.lawful
 run-lawful sys sources Qk budget j is = is.lawful
@@ -131,7 +131,7 @@ module _ (sys : System) (sources : List (List stimulus.Stim)) (budget : ℕ) (j 
   port-written : IsThreadRun port sys sources budget j → CanBeWritten 1 j
   port-written is = written-port sys sources j sound few is.kernel_is (rw is.budget_is some) (rw is.budget_is most) is.lawful
 
-  pub run-form : (kernel : Kernel) → IsRunUnder kernel sys sources budget j → (to : Form) → is_form_of kernel to ≡ true
+  pub run-form : (kernel : KernelName) → IsRunUnder kernel sys sources budget j → (to : Form) → is_form_of kernel to ≡ true
       → has_form (number_of_form to) j ≡ true
   run-form Sim is One fits = (sim-written is.run).has
   run-form Sim is Two fits = refl
@@ -144,7 +144,7 @@ module _ (sys : System) (sources : List (List stimulus.Stim)) (budget : ℕ) (j 
   run-form Qv is One fits = absurd (false≢true fits)
   run-form Qv is Two fits = refl
 
-  pub run-range : (kernel : Kernel) → IsRunUnder kernel sys sources budget j → (to : Form) → is_form_of kernel to ≡ true
+  pub run-range : (kernel : KernelName) → IsRunUnder kernel sys sources budget j → (to : Form) → is_form_of kernel to ≡ true
       → is_in_range (number_of_form to) j ≡ true
   run-range Sim is to fits = range-moves 1 to j (sim-written is.run).range (run-form Sim is to fits)
   run-range Qk is to fits = range-moves 1 to j (qk-written is).range (run-form Qk is to fits)

@@ -5,19 +5,19 @@ use Rattle.qp_model.specs.declared.stimulus.Stim.{Stim}
 use Rattle.qp_model.specs.declared.systems.System.{System}
 use Rattle.qp_model.specs.OutputText.{text}
 use Rattle.qp_model.specs.Sound.{IsSound}
-use Rattle.qp_sim_unique.proofs.LowestLemmas.{one-order}
-use Rattle.qp_sim_unique.proofs.SummaryLemmas.{one-summary}
+use Rattle.qp_unique.proofs.LowestLemmas.{one-order}
+use Rattle.qp_unique.proofs.SummaryLemmas.{one-summary}
 use Rattle.qp_replay.specs.Replaying.{IsReplay}
 use Rattle.qp_replay.specs.declared.places.Replayed.{Replayed}
 use Rattle.qp_replay.specs.declared.places.Replayed.TheVariants.{Order, Cycle}
 use Rattle.qp_replay.specs.Text.{replayed_text}
 use Rattle.qp_stim.specs.Stimuli.{stimuli_of}
-use Rattle.qp_summary.specs.Written.{joined}
+use Rattle.qp_summary.specs.Written.{lines_joined}
 use Rattle.qp_system.specs.SystemOf.{IsSystemOf}
 use Rattle.qp_system.proofs.LawLemmas.{systems_are_sound}
 use Rattle.qp_system.proofs.SystemOne.{systems_are_one}
-use Rattle.qp_commands.specs.declared.values.Kernel.{Kernel}
-use Rattle.qp_commands.specs.declared.values.Kernel.TheVariants.{Sim}
+use Rattle.qp_commands.specs.declared.values.KernelName.{KernelName}
+use Rattle.qp_commands.specs.declared.values.KernelName.TheVariants.{Sim}
 use Rattle.qp_commands.specs.declared.values.Kind.{Kind}
 use Rattle.qp_commands.specs.declared.values.Kind.TheVariants.{Frames, Journal as Text}
 use Rattle.qp_commands.specs.declared.values.Output.{Output}
@@ -25,7 +25,7 @@ use Rattle.qp_commands.specs.declared.values.Output.TheVariants.{Whole, Summary}
 use Rattle.qp_commands.specs.WordTable.{CheckWords, check, decode, generate, migrate, number_of_form, replay, run}
 use Rattle.qp_run_parts.specs.declared.status.Status.{Status}
 use Rattle.qp_run_parts.specs.Conversions.{HasJournal, Held, IsDecoded, IsMigrated, WhenDone, said, written}
-use Rattle.qp_gen.specs.Made.{IsMade}
+use Rattle.qp_system.specs.Made.{IsMade}
 use Rattle.qp_run_parts.specs.Checks.{AreLawful, IsChecked}
 use Rattle.qp_run_parts.specs.Endings.{ending_of}
 use Rattle.qp_run_parts.specs.Laws.{MayBeTwo, OneOutput, PrintCycles, PrintRuns}
@@ -42,10 +42,10 @@ use Rattle.qp_run_parts.proofs.RunLemmas.{journals-either}
 print-one : (output : Output) (form : ℕ) (sys : System) → IsSound sys → (j : journal.Journal) (x y : List ℕ) → IsPrintOf output form sys j x → IsPrintOf output form sys j y → x ≡ y
 unfolding IsPrintOf
 print-one (Whole kind) form sys sound j x y is are = is ∙ sym are
-print-one Summary form sys sound j x y (lines, is, first) (others, are, second) = first ∙ ap joined (one-summary sys j lines others sound is are) ∙ sym second
+print-one Summary form sys sound j x y (lines, is, first) (others, are, second) = first ∙ ap lines_joined (one-summary sys j lines others sound is are) ∙ sym second
 
 -- two outputs of runs of one system are one, or may be two
-prints-either : (AreNamed : System → List (List Stim) → Type 0) (kernel : Kernel) (budget : ℕ) (sys : System) (sources : List (List Stim)) → AreNamed sys sources → IsSound sys → (output : Output) (form : ℕ) (a b : Status) (x y : List ℕ)
+prints-either : (AreNamed : System → List (List Stim) → Type 0) (kernel : KernelName) (budget : ℕ) (sys : System) (sources : List (List Stim)) → AreNamed sys sources → IsSound sys → (output : Output) (form : ℕ) (a b : Status) (x y : List ℕ)
     → PrintsRun sys sources kernel budget output form a x → PrintsRun sys sources kernel budget output form b y → ((a ≡ b) × (x ≡ y)) ⊎ PrintRuns AreNamed kernel budget output form a b x y
 unfolding PrintsRun PrintsOf
 prints-either AreNamed kernel budget sys sources named sound output form a b x y (i, is, shape, range, (ends, print)) (j, are, has, lies, (others, prints)) = by (journals-either kernel budget sys sources i j is are)
@@ -62,12 +62,12 @@ prints-either AreNamed kernel budget sys sources named sound output form a b x y
     )
 
 -- what is printed of a run of one of the systems of the same bytes is printed of the other's
-prints-carry : (bytes : List ℕ) (s t : System) → IsSystemOf bytes s → IsSystemOf bytes t → (sources : List (List Stim)) (kernel : Kernel) (budget : ℕ) (output : Output) (form : ℕ) (a : Status) (x : List ℕ)
+prints-carry : (bytes : List ℕ) (s t : System) → IsSystemOf bytes s → IsSystemOf bytes t → (sources : List (List Stim)) (kernel : KernelName) (budget : ℕ) (output : Output) (form : ℕ) (a : Status) (x : List ℕ)
     → PrintsRun s sources kernel budget output form a x → PrintsRun t sources kernel budget output form a x
 prints-carry bytes s t p q sources kernel budget output form a x is = subst (λ y. PrintsRun y sources kernel budget output form a x) (systems_are_one bytes s t p q) is
 
 outputs-one : (AreNamed : System → List (List Stim) → Type 0) (bytes text : List ℕ) (s t : System) (xs ys : List (List Stim)) → AreNamed s xs → IsSystemOf bytes s → IsSystemOf bytes t → stimuli_of s text ≡ Ok xs → stimuli_of t text ≡ Ok ys
-    → (kernel : Kernel) (budget : ℕ) (output : Output) (form : ℕ) (a b : Status) (x y : List ℕ)
+    → (kernel : KernelName) (budget : ℕ) (output : Output) (form : ℕ) (a b : Status) (x y : List ℕ)
     → PrintsRun s xs kernel budget output form a x → PrintsRun t ys kernel budget output form b y → ((a ≡ b) × (x ≡ y)) ⊎ PrintRuns AreNamed kernel budget output form a b x y
 outputs-one AreNamed bytes text s t xs ys named p q says tells kernel budget output form a b x y is are =
     let both : Ok ys ≡ Ok xs = sym tells ∙ sym (stimuli-one bytes s t text p q) ∙ says in
@@ -75,7 +75,7 @@ outputs-one AreNamed bytes text s t xs ys named p q says tells kernel budget out
     prints-either AreNamed kernel budget s xs named (systems_are_sound bytes s p) output form a b x y is
     (prints-carry bytes t s q p xs kernel budget output form b y (subst (λ zs. PrintsRun t zs kernel budget output form b y) same are))
 
-run-one : (held : Held) (system stimuli : List ℕ) (kernel : Kernel) (budget : ℕ) (output : Output) (form : ℕ) (a b : Status) (x y : List ℕ)
+run-one : (held : Held) (system stimuli : List ℕ) (kernel : KernelName) (budget : ℕ) (output : Output) (form : ℕ) (a b : Status) (x y : List ℕ)
     → IsRun (Some held) system stimuli kernel budget output form a x → IsRun (Some held) system stimuli kernel budget output form b y
     → ((a ≡ b) × (x ≡ y)) ⊎ PrintRuns (IsInput (Some held) system stimuli) kernel budget output form a b x y
 run-one held system stimuli kernel budget output form a b x y (s, xs, input, is) (t, ys, other, are) =

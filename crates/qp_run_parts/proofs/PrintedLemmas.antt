@@ -4,13 +4,13 @@ use Rattle.qp_model.specs.declared.journals.Journal.{Journal}
 use Rattle.qp_model.specs.declared.stimulus.Stim.{Stim}
 use Rattle.qp_model.specs.declared.systems.System.{System}
 use Rattle.qp_model.specs.Output.{has_form, is_in_range}
-use Rattle.qp_gen.specs.Made.{IsMade}
+use Rattle.qp_system.specs.Made.{IsMade}
 use Rattle.qp_summary.specs.declared.summary.SummaryFault.TheVariants as fault
-use Rattle.qp_summary.specs.Written.{Fails, Writes, joined}
+use Rattle.qp_summary.specs.Written.{SummaryFails, Writes, lines_joined}
 use Rattle.qp_run_parts.specs.declared.status.Status.{Status}
 use Rattle.qp_run_parts.specs.declared.status.Status.TheVariants.{Words, Memory, WriteFault}
-use Rattle.qp_commands.specs.declared.values.Kernel.{Kernel}
-use Rattle.qp_commands.specs.declared.values.Kernel.TheVariants.{Sim}
+use Rattle.qp_commands.specs.declared.values.KernelName.{KernelName}
+use Rattle.qp_commands.specs.declared.values.KernelName.TheVariants.{Sim}
 use Rattle.qp_commands.specs.declared.values.Kind.{Kind}
 use Rattle.qp_commands.specs.declared.values.Output.{Output}
 use Rattle.qp_commands.specs.declared.values.Output.TheVariants.{Whole, Summary}
@@ -31,14 +31,14 @@ module _ (sys : System) (j : Journal) (told : Status) (ends : told ≡ ending_of
   module _ (form : ℕ) where
     pub summary-printed : {T : Type 0} (x : T) → Writes {T = T} (Ok x) sys j old new faults faults' → IsPrinted (PrintsOf Summary form sys j) old new faults faults' told
     unfolding IsPrinted PrintsOf IsPrintOf Writes
-    summary-printed x (lines, is, got, same) = inr (told, joined lines, (ends, (lines, is, refl)), inl (refl, got))
+    summary-printed x (lines, is, got, same) = inr (told, lines_joined lines, (ends, (lines, is, refl)), inl (refl, got))
 
     pub summary-failed : (T : Type 0) → Writes {T = T} (Err fault.Failed) sys j old new faults faults' → IsPrinted (PrintsOf Summary form sys j) old new faults faults' WriteFault
-    unfolding IsPrinted PrintsOf IsPrintOf Writes Fails
-    summary-failed T (lines, is, part, rose) = inr (told, joined lines, (ends, (lines, is, refl)), inr (refl, part, rose))
+    unfolding IsPrinted PrintsOf IsPrintOf Writes SummaryFails
+    summary-failed T (lines, is, part, rose) = inr (told, lines_joined lines, (ends, (lines, is, refl)), inr (refl, part, rose))
 
     pub summary-memory : (T : Type 0) → Writes {T = T} (Err fault.Memory) sys j old new faults faults' → IsPrinted (PrintsOf Summary form sys j) old new faults faults' Memory
-    unfolding IsPrinted Writes Fails
+    unfolding IsPrinted Writes SummaryFails
     summary-memory T (same, still) = inl (refl, same)
 
 -- memory was refused before anything was printed
@@ -49,7 +49,7 @@ memory-printed P got faults = inl (refl, refl)
 -- ---- what was printed of a run
 
 -- what was printed of a run's journal
-pub journal-printed : (sys : System) (sources : List (List Stim)) (kernel : Kernel) (budget : ℕ) (j : Journal) → IsRunUnder kernel sys sources budget j
+pub journal-printed : (sys : System) (sources : List (List Stim)) (kernel : KernelName) (budget : ℕ) (j : Journal) → IsRunUnder kernel sys sources budget j
     → (output : Output) (form : ℕ) → IsTrue (has_form form j) → IsTrue (is_in_range form j) → (old new : Option (List ℕ)) (faults faults' : ℕ) (answer : Status) → IsPrinted (PrintsOf output form sys j) old new faults faults' answer
     → IsPrinted (PrintsRun sys sources kernel budget output form) old new faults faults' answer
 unfolding IsPrinted PrintsRun
@@ -57,7 +57,7 @@ journal-printed sys sources kernel budget j is output form shape range old new f
 journal-printed sys sources kernel budget j is output form shape range old new faults faults' answer (inr (told, whole, prints, wrote)) =
     inr (told, whole, (j, is, shape, range, prints), wrote)
 
-module _ (sys : System) (sources : List (List Stim)) (kernel : Kernel) (budget : ℕ) (output : Output) (form : ℕ) where
+module _ (sys : System) (sources : List (List Stim)) (kernel : KernelName) (budget : ℕ) (output : Output) (form : ℕ) where
   abbrev Prints : Status → List ℕ → Type 0
   Prints = PrintsRun sys sources kernel budget output form
 

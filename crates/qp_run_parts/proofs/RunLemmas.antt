@@ -8,14 +8,14 @@ use Rattle.qp_model.specs.Ends.{is_spill}
 use Rattle.qp_model.specs.History.{all_items}
 use Rattle.qp_model.specs.Sound.{IsSound}
 use Rattle.qp_stim.specs.Rules.{StimuliFit}
-use Rattle.qp_sim_unique.specs.JournalLaws.{IsOneThreadJournal}
-use Rattle.qp_sim_unique.proofs.OnlyLemmas.{all-one, unspilt-one}
+use Rattle.qp_unique.specs.JournalLaws.{IsOneThreadJournal}
+use Rattle.qp_unique.proofs.OnlyLemmas.{all-one, unspilt-one}
 use Rattle.qp_model.specs.Kernels.{sim, qv, has_one_order}
 use Rattle.qp_model.specs.Lawful.{Lawful}
 use Rattle.qp_kernel_runs.specs.SimRun.{IsQvRun, IsSimRun}
-use Rattle.qp_commands.specs.declared.values.Kernel.{Kernel}
-use Rattle.qp_commands.specs.declared.values.Kernel.TheVariants.{Sim, Qk, Port, Wait, Qv}
-use Rattle.qp_sim_unique.specs.Tidy.{LacksStimulus, is_short}
+use Rattle.qp_commands.specs.declared.values.KernelName.{KernelName}
+use Rattle.qp_commands.specs.declared.values.KernelName.TheVariants.{Sim, Qk, Port, Wait, Qv}
+use Rattle.qp_unique.specs.Tidy.{LacksStimulus, is_short}
 use Rattle.qp_run_parts.specs.Laws.{HasSpill, HaveSpilt, MayBeTwo, MayLeave}
 use Rattle.qp_run_parts.specs.Printed.{HaltedFull, IsOnlyRun, IsRunUnder}
 
@@ -82,7 +82,7 @@ runs-either IsRun i j is are =
     by false clean false unspilt one two = inl (are.only_unspilt unspilt i is.run clean)
 
 -- two journals of runs are one, or may be two
-pub journals-either : (kernel : Kernel) (budget : ℕ) (sys : System) (sources : List (List Stim)) (i j : Journal) → IsRunUnder kernel sys sources budget i → IsRunUnder kernel sys sources budget j
+pub journals-either : (kernel : KernelName) (budget : ℕ) (sys : System) (sources : List (List Stim)) (i j : Journal) → IsRunUnder kernel sys sources budget i → IsRunUnder kernel sys sources budget j
     → (i ≡ j) ⊎ MayBeTwo kernel i j
 journals-either Sim budget sys sources i j is are = runs-either (λ other. IsSimRun sys sources budget other) i j is are
 journals-either Qk budget sys sources i j is are = inr tt

@@ -6,7 +6,7 @@ use Rattle.qp_model.specs.declared.journals.Journal.{Journal}
 use Rattle.qp_model.specs.declared.stimulus.Stim.{Stim}
 use Rattle.qp_model.specs.declared.systems.System.{System}
 use Rattle.qp_wait_runs.specs.Handed.{WasSealedFor}
-use Rattle.qp_commands.specs.declared.values.Kernel.{Kernel}
+use Rattle.qp_commands.specs.declared.values.KernelName.{KernelName}
 use Rattle.qp_commands.specs.declared.values.Output.{Output}
 use Rattle.qp_commands.specs.WordTable.{Asked, check, decode, generate, has_threads, migrate, number_of_form, replay, run}
 use Rattle.qp_run_parts.specs.declared.status.Status.{Status}
@@ -16,7 +16,7 @@ use Rattle.qp_run_parts.specs.Conversions.{Held}
 use Rattle.qp_run_parts.specs.Printed.{IsPrinted, IsRunUnder, PrintsOf}
 use Rattle.qp_run_parts.specs.declared.ran.Ran.{Ran}
 use Rattle.qp_run_parts.specs.Sealed.{IsSealed, IsSealedRun, Seals, SealsOne, is_run_ended, kept_seal, sealed_in}
-use Rattle.qp_run_parts.specs.Verdict.{Count, Stands, Stream, is_refusal}
+use Rattle.qp_run_parts.specs.Verdict.{Count, AnswerStands, Stream, is_refusal}
 
 abbrev pub no_journal : Option Journal
 no_journal = None
@@ -44,7 +44,7 @@ sealed-on sys journal threaded is (Ok x) (Err e) at was = tt
 sealed-on sys journal threaded is (Err d) (Ok y) at was = absurd (cc)
 sealed-on sys journal threaded is (Err d) (Err e) at was = tt
 
-module _ (sys : System) (sources : List (List Stim)) (kernel : Kernel) (budget : ℕ) (output : Output) (form : ℕ) (old new : Option (List ℕ)) where
+module _ (sys : System) (sources : List (List Stim)) (kernel : KernelName) (budget : ℕ) (output : Output) (form : ℕ) (old new : Option (List ℕ)) where
   -- the journal that was printed
   printed-one : (j : Journal) (faults faults' : ℕ) (answer : Status) → IsRunUnder kernel sys sources budget j → WasSealedFor sys j → is_run_ended answer ≡ true
       → IsPrinted (PrintsOf output form sys j) old new faults faults' answer → IsSealedRun sys sources kernel budget output form old new answer j
@@ -87,7 +87,7 @@ refused-left threads answer X refuses = none-left threads answer X (other answer
     other (status.Unlawful definition site) refuses = refl
 
 -- once its line was put
-module _ (n : Count) (told answer : Status) (stands : Stands n told answer) where
+module _ (n : Count) (told answer : Status) (stands : AnswerStands n told answer) where
   one-stands : (threads : Bool) (IsIt : Status → Journal → Type 0) (seal : Option Journal) → SealsOne threads told (IsIt told) seal → SealsOne threads answer (IsIt answer) (kept_seal answer seal)
   one-stands threads IsIt seal left = by stands
     where
@@ -106,7 +106,7 @@ module _ (n : Count) (told answer : Status) (stands : Stands n told answer) wher
       kept false true left = left
       kept false false left = refl
 
-      by : Stands n told answer → SealsOne threads answer (IsIt answer) (kept_seal answer seal)
+      by : AnswerStands n told answer → SealsOne threads answer (IsIt answer) (kept_seal answer seal)
       by (inl same) = subst (λ a. SealsOne threads a (IsIt a) (kept_seal a seal)) (sym same) (kept threads (is_run_ended told) left)
       by (inr (inl (memory, names))) = none Memory refl memory
       by (inr (inr (failed, rose, other))) = none WriteFault refl failed
@@ -139,18 +139,18 @@ unended-seals held (Some (replay w)) output answer other = refl
 unended-seals held (Some (generate w)) output answer other = refl
 
 -- nor does one that failed, whatever its line comes to
-pub failed-seals : (held : Option Held) (asked : Option Asked) (output : Stream) (n : Count) (told answer : Status) → is_run_ended told ≡ false → Stands n told answer
+pub failed-seals : (held : Option Held) (asked : Option Asked) (output : Stream) (n : Count) (told answer : Status) → is_run_ended told ≡ false → AnswerStands n told answer
     → Seals held asked output answer None
 failed-seals held asked output n told answer other stands = unended-seals held asked output answer (ended stands)
   where
-    ended : Stands n told answer → is_run_ended answer ≡ false
+    ended : AnswerStands n told answer → is_run_ended answer ≡ false
     ended (inl same) = ap is_run_ended same ∙ other
     ended (inr (inl (memory, names))) = ap is_run_ended memory
     ended (inr (inr (failed, rose, done))) = ap is_run_ended failed
 
 -- what was left of a call whose output has gone on whole, once its line was put
 pub whole-seals : (held : Option Held) (asked : Option Asked) (output put : Stream) (n : Count) (told answer : Status) (seal : Option Journal)
-    → put.before ≡ output.before → output.after ≡ put.after → Stands n told answer → Seals held asked put told seal → Seals held asked output answer (kept_seal answer seal)
+    → put.before ≡ output.before → output.after ≡ put.after → AnswerStands n told answer → Seals held asked put told seal → Seals held asked output answer (kept_seal answer seal)
 whole-seals held asked output put n told answer seal first last stands left =
     seals-stand n told answer stands held asked output seal
     (subst (λ w. Seals held asked (record { before = w; after = output.after }) told seal) first

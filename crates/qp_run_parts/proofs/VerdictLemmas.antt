@@ -12,12 +12,12 @@ use Rattle.qp_system.specs.SystemOf.{IsSystemOf}
 use Rattle.qp_run_parts.specs.declared.status.Status.{Status}
 use Rattle.qp_run_parts.specs.declared.status.Status.TheVariants.{Done, Words, Absent, TooLong, Refused, Asserted, Spent, Memory, ReadFault, WriteFault, Unlawful}
 use Rattle.qp_run_parts.specs.Conversions.{Held, PrintsOne, decode_on, migrate_on}
-use Rattle.qp_commands.specs.declared.values.Kernel.{Kernel}
+use Rattle.qp_commands.specs.declared.values.KernelName.{KernelName}
 use Rattle.qp_commands.specs.declared.values.Kind.TheVariants.{Frames}
 use Rattle.qp_run_parts.specs.Loads.{IsLoaded}
-use Rattle.qp_run_parts.specs.Notes.{line_of, names_file, is_done}
+use Rattle.qp_run_parts.specs.Notes.{line_of, names_file, is_quiet_success}
 use Rattle.qp_run_parts.specs.Refusals.{RefusesFirst, RefusesSecond}
-use Rattle.qp_run_parts.specs.Verdict.{Agrees, AgreesCheck, AgreesFiles, AgreesJournal, AgreesRun, AnswersFiles, AnswersSystem, AnswersStimuli, AnswersWords, Count, Counts, FailsToLoad, HasCause, HasRisen, IsAnswer, IsInput, IsPutFor, Noted, Stands, AnswersSources, EndsMade, EndsRun, is_failure, quiet}
+use Rattle.qp_run_parts.specs.Verdict.{Agrees, AgreesCheck, AgreesFiles, AgreesJournal, AgreesRun, AnswersFiles, AnswersSystem, AnswersStimuli, AnswersWords, Count, Counts, FailsToLoad, HasCause, HasRisen, IsAnswer, IsInput, IsPutFor, Noted, AnswerStands, AnswersSources, EndsMade, EndsRun, is_failure, quiet}
 use Rattle.qp_commands.specs.WordTable.{Asked, CheckWords, MigrateWords, RunWords, check, decode, generate, migrate, number_of_form, replay, run}
 
 -- a fact of what the shelf holds, where it tells
@@ -35,12 +35,12 @@ unfolding IsAnswer
 told-unnamed o = IfSome-all o (λ held. inr refl)
 
 -- what refuses the stimuli is the answer on them
-refusal-answers : (sys : System) (kernel : Kernel) (budget : ℕ) (found : Result (List (List Stim)) Fault) (status : Status) → RefusesSecond found status → AnswersSources sys kernel budget found status
+refusal-answers : (sys : System) (kernel : KernelName) (budget : ℕ) (found : Result (List (List Stim)) Fault) (status : Status) → RefusesSecond found status → AnswersSources sys kernel budget found status
 refusal-answers sys kernel budget (Err fault) status is = is
 refusal-answers sys kernel budget (Ok sources) status is = absurd is
 
 -- what is answered on two files is answered on a run of them
-module _ (o : Option Held) (system stimuli : List ℕ) (kernel : Kernel) (budget : ℕ) where
+module _ (o : Option Held) (system stimuli : List ℕ) (kernel : KernelName) (budget : ℕ) where
   -- the system's file was not loaded
   pub told-load : (status : Status) → IfSome o (λ held. FailsToLoad 1 (held system) status) → AgreesRun o system stimuli kernel budget status
   unfolding AnswersFiles
@@ -138,8 +138,8 @@ pub failure-agrees : (o : Option Held) (asked : Option Asked) (status : Status) 
 failure-agrees o asked status failed = IfSome-all o (λ held. inl failed)
 
 -- an answer that isn't `Done`
-pub not-done : (answer : Status) → is_done answer ≡ false → answer ≡ Done → ⊥
-not-done answer other done = false≢true (sym other ∙ ap is_done done)
+pub not-done : (answer : Status) → is_quiet_success answer ≡ false → answer ≡ Done → ⊥
+not-done answer other done = false≢true (sym other ∙ ap is_quiet_success done)
 
 -- the line of an answer was put
 module _ (asked : Option Asked) (WouldBe : Status → Type 0) (n : Count) (old new : Option (List ℕ)) where
@@ -184,7 +184,7 @@ noted-put asked n old new told answer line other is (inr (failed, rose, part)) =
     subst (λ a. Noted asked (IsPutFor told) n old new a) (sym failed) (noted-fault asked (IsPutFor told) n old new told (inl refl) rose (rw is at part))
 
 -- nothing was put
-pub noted-done : (asked : Option Asked) (WouldBe : Status → Type 0) (n : Count) (old : Option (List ℕ)) (answer : Status) → is_done answer ≡ true → Noted asked WouldBe n old old answer
+pub noted-done : (asked : Option Asked) (WouldBe : Status → Type 0) (n : Count) (old : Option (List ℕ)) (answer : Status) → is_quiet_success answer ≡ true → Noted asked WouldBe n old old answer
 unfolding Noted
 noted-done asked WouldBe n old Done done = refl
 noted-done asked WouldBe n old Words done = absurd (false≢true done)
@@ -213,22 +213,22 @@ widened n Memory cause = cause
 widened n ReadFault cause = cause
 widened n (Unlawful definition at) cause = cause
 
-pub cause-stands : (n : Counts) (told answer : Status) → HasCause (record n { notes = quiet }) told → Stands n.notes told answer → HasCause n answer
+pub cause-stands : (n : Counts) (told answer : Status) → HasCause (record n { notes = quiet }) told → AnswerStands n.notes told answer → HasCause n answer
 cause-stands n told answer cause (inl same) = rw same (widened n told cause)
 cause-stands n told answer cause (inr (inl (memory, names))) = rw memory tt
 cause-stands n told answer cause (inr (inr (failed, rose, other))) = rw failed (inr rose)
 
-pub agrees-stands : (o : Option Held) (asked : Option Asked) (n : Count) (told answer : Status) → IfSome o (λ held. Agrees held asked told) → Stands n told answer → IfSome o (λ held. Agrees held asked answer)
+pub agrees-stands : (o : Option Held) (asked : Option Asked) (n : Count) (told answer : Status) → IfSome o (λ held. Agrees held asked told) → AnswerStands n told answer → IfSome o (λ held. Agrees held asked answer)
 agrees-stands o asked n told answer agrees (inl same) = rw same agrees
 agrees-stands o asked n told answer agrees (inr (inl (memory, names))) = failure-agrees o asked answer (ap is_failure memory)
 agrees-stands o asked n told answer agrees (inr (inr (failed, rose, other))) = failure-agrees o asked answer (ap is_failure failed)
 
-answers_none : (n : Count) (told answer : Status) → AnswersWords None told → Stands n told answer → AnswersWords None answer
+answers_none : (n : Count) (told answer : Status) → AnswersWords None told → AnswerStands n told answer → AnswersWords None answer
 answers_none n told answer told_so (inl same) = rw same told_so
 answers_none n told answer told_so (inr (inl (memory, names))) = inr (inl memory)
 answers_none n told answer told_so (inr (inr (failed, rose, other))) = inr (inr failed)
 
-pub answers-stands : (asked : Option Asked) (n : Count) (told answer : Status) → AnswersWords asked told → Stands n told answer → AnswersWords asked answer
+pub answers-stands : (asked : Option Asked) (n : Count) (told answer : Status) → AnswersWords asked told → AnswerStands n told answer → AnswersWords asked answer
 answers-stands None n told answer words stands = answers_none n told answer words stands
 answers-stands (Some asked) n told answer other (inl same) = rw same other
 answers-stands (Some asked) n told answer other (inr (inl (memory, names))) = rw memory (λ e. cc)
@@ -265,7 +265,7 @@ module _ (IsWhole : Status → List ℕ → Type 0) (old new : Option (List ℕ)
   prints_failed ReadFault other prints = inl prints
   prints_failed (Unlawful definition at) other prints = inl prints
 
-  pub prints-stands : (n : Count) (told answer : Status) → PrintsOne IsWhole old new told → Stands n told answer → PrintsOne IsWhole old new answer
+  pub prints-stands : (n : Count) (told answer : Status) → PrintsOne IsWhole old new told → AnswerStands n told answer → PrintsOne IsWhole old new answer
   prints-stands n told answer prints (inl same) = rw same prints
   prints-stands n told answer prints (inr (inl (memory, names))) = rw memory (prints_named told names prints)
   prints-stands n told answer prints (inr (inr (failed, rose, other))) = rw failed (prints_failed told other prints)

@@ -68,8 +68,8 @@ is_of_content (Refused file code at) = true
 is_of_content answer = false
 
 -- a file's bytes are refused so, or memory was refused
-abbrev pub Refuses : Kind → List ℕ → Status → Type 0
-Refuses kind bytes answer = (is_of_content answer ≡ true) × ((answer ≡ Memory) ⊎ (said kind bytes ≡ Err answer))
+abbrev pub RefusesFile : Kind → List ℕ → Status → Type 0
+RefusesFile kind bytes answer = (is_of_content answer ≡ true) × ((answer ≡ Memory) ⊎ (said kind bytes ≡ Err answer))
 
 -- the answer on what a file says, by the answer on its journal
 abbrev pub answer_on : (journal.Journal → Status) → Result (ℕ × journal.Journal) Status → Status

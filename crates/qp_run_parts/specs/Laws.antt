@@ -11,17 +11,17 @@ use Rattle.qp_replay.specs.Orders.{IsCycle}
 use Rattle.qp_replay.specs.declared.places.Replayed.TheVariants.{Cycle}
 use Rattle.qp_replay.specs.Text.{replayed_text}
 use Rattle.qp_run_parts.specs.declared.status.Status.{Status}
-use Rattle.qp_commands.specs.declared.values.Kernel.{Kernel}
-use Rattle.qp_commands.specs.declared.values.Kernel.TheVariants.{Sim, Qk, Port, Wait, Qv}
+use Rattle.qp_commands.specs.declared.values.KernelName.{KernelName}
+use Rattle.qp_commands.specs.declared.values.KernelName.TheVariants.{Sim, Qk, Port, Wait, Qv}
 use Rattle.qp_commands.specs.declared.values.Output.{Output}
 use Rattle.qp_commands.specs.declared.values.Output.TheVariants.{Summary}
 use Rattle.qp_commands.specs.WordTable.{Asked, CheckWords, generate, number_of_form, replay, run}
-use Rattle.qp_gen.specs.Made.{IsMade}
+use Rattle.qp_system.specs.Made.{IsMade}
 use Rattle.qp_run_parts.specs.Checks.{AreLawful}
 use Rattle.qp_run_parts.specs.Conversions.{Held}
 use Rattle.qp_run_parts.specs.Endings.{ending_of}
 use Rattle.qp_run_parts.specs.Printed.{HaltedFull, IsRunUnder, PrintsOf, made_budget}
-use Rattle.qp_sim_unique.specs.Tidy.{is_short}
+use Rattle.qp_unique.specs.Tidy.{is_short}
 use Rattle.qp_run_parts.specs.Verdict.{IsAnswer, IsInput, IsOutput}
 
 -- a lane of the journal ended with a `spill`
@@ -38,7 +38,7 @@ abbrev pub HaveSpilt : (i j : journal.Journal) → Type 0
 HaveSpilt i j = (HasSpill i ⊎ HasSpill j) × (MayLeave i j × MayLeave j i)
 
 -- where runs under this kernel may leave two journals
-abbrev pub MayBeTwo : Kernel → (i j : journal.Journal) → Type 0
+abbrev pub MayBeTwo : KernelName → (i j : journal.Journal) → Type 0
 MayBeTwo Sim i j = HaveSpilt i j
 MayBeTwo Qk i j = ⊤
 MayBeTwo Port i j = ⊤
@@ -46,7 +46,7 @@ MayBeTwo Wait i j = ⊤
 MayBeTwo Qv i j = HaveSpilt i j
 
 -- two lawful journals of one system and its stimuli, which are named so, with one kernel and one budget, that may be two
-pub record TwoRuns (AreNamed : System → List (List Stim) → Type 0) (kernel : Kernel) (budget : ℕ) : Type 0 where
+pub record TwoRuns (AreNamed : System → List (List Stim) → Type 0) (kernel : KernelName) (budget : ℕ) : Type 0 where
   pub sys : System
   pub sources : List (List Stim)
   pub named : AreNamed sys sources
@@ -57,7 +57,7 @@ pub record TwoRuns (AreNamed : System → List (List Stim) → Type 0) (kernel :
   pub may_be_two : MayBeTwo kernel first second
 
 -- these are the answers on two such runs
-abbrev pub EndRuns : (System → List (List Stim) → Type 0) → Kernel → ℕ → (a b : Status) → Type 0
+abbrev pub EndRuns : (System → List (List Stim) → Type 0) → KernelName → ℕ → (a b : Status) → Type 0
 EndRuns AreNamed kernel budget a b = (two : TwoRuns AreNamed kernel budget) × (a ≡ ending_of two.first) × (b ≡ ending_of two.second)
 
 -- of the system and the stimuli of the two files, or of those that the number makes
@@ -73,7 +73,7 @@ abbrev pub OneAnswer : Type 0
 OneAnswer = (held : Held) (asked : Option Asked) (a b : Status) → IsAnswer held asked a → IsAnswer held asked b → (a ≡ b) ⊎ MayDiffer held asked a b
 
 -- this is what is printed of two such runs, with the answers
-abbrev pub PrintRuns : (System → List (List Stim) → Type 0) → Kernel → ℕ → Output → ℕ → (a b : Status) → (x y : List ℕ) → Type 0
+abbrev pub PrintRuns : (System → List (List Stim) → Type 0) → KernelName → ℕ → Output → ℕ → (a b : Status) → (x y : List ℕ) → Type 0
 PrintRuns AreNamed kernel budget output form a b x y =
     (two : TwoRuns AreNamed kernel budget) × PrintsOf output form two.sys two.first a x × PrintsOf output form two.sys two.second b y
 

@@ -10,18 +10,18 @@ use Rattle.qp_run_parts.specs.declared.status.Status.{Status}
 use Rattle.qp_run_parts.specs.declared.status.Status.TheVariants.{Done, Words, Absent, TooLong, Refused, Asserted, Spent, Memory, ReadFault, WriteFault, Unlawful}
 
 -- the exit status
-abbrev pub number_of : Status → ℕ
-number_of Done = 0
-number_of Words = 1
-number_of (Absent file) = 2
-number_of (TooLong file len) = 2
-number_of (Refused file code at) = 2
-number_of (Asserted code lane) = 3
-number_of (Spent lane) = 4
-number_of Memory = 5
-number_of ReadFault = 6
-number_of WriteFault = 7
-number_of (Unlawful definition at) = 8
+abbrev pub status_number : Status → ℕ
+status_number Done = 0
+status_number Words = 1
+status_number (Absent file) = 2
+status_number (TooLong file len) = 2
+status_number (Refused file code at) = 2
+status_number (Asserted code lane) = 3
+status_number (Spent lane) = 4
+status_number Memory = 5
+status_number ReadFault = 6
+status_number WriteFault = 7
+status_number (Unlawful definition at) = 8
 
 -- a place in a file
 abbrev pub place_text : place.Place → List ℕ
@@ -60,9 +60,9 @@ line_of asked WriteFault = codes "qp: write fault\n"
 line_of asked (Unlawful definition at) = codes "qp: broken D" ++ decimal definition ++ site_text at ++ codes "\n"
 
 -- the run was done, and there is no line
-abbrev pub is_done : Status → Bool
-is_done Done = true
-is_done status = false
+abbrev pub is_quiet_success : Status → Bool
+is_quiet_success Done = true
+is_quiet_success status = false
 
 -- the line names a file
 abbrev pub names_file : Status → Bool

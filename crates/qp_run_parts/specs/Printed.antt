@@ -8,17 +8,17 @@ use Rattle.qp_model.specs.History.{lane_items}
 use Rattle.qp_model.specs.Home.{lane_at}
 use Rattle.qp_model.specs.Output.{has_form, is_in_range}
 use Rattle.qp_model.specs.OutputSummary.{IsSummary}
-use Rattle.qp_summary.specs.Written.{joined}
+use Rattle.qp_summary.specs.Written.{lines_joined}
 use Rattle.qp_kernel_runs.specs.SimRun.{IsQvRun, IsSimRun}
 use Rattle.qp_model.specs.Kernels.{port, qk}
-use Rattle.qp_port_sealed.specs.ThreadRun.{IsThreadRun}
-use Rattle.qp_gen.specs.Made.{IsMade}
-use Rattle.qp_sim_unique.specs.JournalLaws.{IsUnspilt}
-use Rattle.qp_sim_unique.specs.Tidy.{is_short}
+use Rattle.qp_port_law.specs.ThreadRun.{IsThreadRun}
+use Rattle.qp_system.specs.Made.{IsMade}
+use Rattle.qp_unique.specs.JournalLaws.{IsUnspilt}
+use Rattle.qp_unique.specs.Tidy.{is_short}
 use Rattle.qp_run_parts.specs.declared.status.Status.{Status}
 use Rattle.qp_run_parts.specs.declared.status.Status.TheVariants.{Memory}
-use Rattle.qp_commands.specs.declared.values.Kernel.{Kernel}
-use Rattle.qp_commands.specs.declared.values.Kernel.TheVariants.{Sim, Qk, Port, Wait, Qv}
+use Rattle.qp_commands.specs.declared.values.KernelName.{KernelName}
+use Rattle.qp_commands.specs.declared.values.KernelName.TheVariants.{Sim, Qk, Port, Wait, Qv}
 use Rattle.qp_commands.specs.declared.values.Output.{Output}
 use Rattle.qp_commands.specs.declared.values.Output.TheVariants.{Whole, Summary}
 use Rattle.qp_run_parts.specs.Conversions.{IsWrittenAs, written}
@@ -43,7 +43,7 @@ pub record IsOnlyRun (IsRun : Journal → Type 0) (j : Journal) : Type 0 where
   pub only_unspilt : IsOnlyUnspilt IsRun j
 
 -- a lawful journal of this system and these stimuli, of this kernel and with this budget
-abbrev pub IsRunUnder : Kernel → System → List (List Stim) → ℕ → Journal → Type 0
+abbrev pub IsRunUnder : KernelName → System → List (List Stim) → ℕ → Journal → Type 0
 IsRunUnder Sim sys sources budget j = IsOnlyRun (λ other. IsSimRun sys sources budget other) j
 IsRunUnder Qk sys sources budget j = IsThreadRun qk sys sources budget j
 IsRunUnder Port sys sources budget j = IsThreadRun port sys sources budget j
@@ -53,7 +53,7 @@ IsRunUnder Qv sys sources budget j = IsOnlyRun (λ other. IsQvRun sys sources bu
 -- what is printed of a journal: the whole of it in this form, or the lines of its summary one after another
 unfoldable pub IsPrintOf : Output → ℕ → System → Journal → List ℕ → Type 0
 IsPrintOf (Whole kind) form sys j whole = whole ≡ written kind form j
-IsPrintOf Summary form sys j whole = (lines : List (List ℕ)) × IsSummary sys j lines × (whole ≡ joined lines)
+IsPrintOf Summary form sys j whole = (lines : List (List ℕ)) × IsSummary sys j lines × (whole ≡ lines_joined lines)
 
 -- the same with the answer: what the journal's records say
 unfoldable pub PrintsOf : Output → ℕ → System → Journal → Status → List ℕ → Type 0
@@ -61,7 +61,7 @@ PrintsOf output form sys j answer whole = (answer ≡ ending_of j) × IsPrintOf 
 
 -- what is printed of a run of this system and these stimuli under this kernel with this budget, and the answer with it; the journal has
 -- the form and is in range, so that its text or frames are of no other
-unfoldable pub PrintsRun : System → List (List Stim) → Kernel → ℕ → Output → ℕ → Status → List ℕ → Type 0
+unfoldable pub PrintsRun : System → List (List Stim) → KernelName → ℕ → Output → ℕ → Status → List ℕ → Type 0
 PrintsRun sys sources kernel budget output form answer whole =
     (j : Journal) × IsRunUnder kernel sys sources budget j × IsTrue (has_form form j) × IsTrue (is_in_range form j)
     × PrintsOf output form sys j answer whole

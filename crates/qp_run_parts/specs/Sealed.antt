@@ -6,7 +6,7 @@ use Rattle.qp_model.specs.declared.journals.Journal.{Journal}
 use Rattle.qp_model.specs.declared.stimulus.Stim.{Stim}
 use Rattle.qp_model.specs.declared.systems.System.{System}
 use Rattle.qp_wait_runs.specs.Handed.{WasSealedFor}
-use Rattle.qp_commands.specs.declared.values.Kernel.{Kernel}
+use Rattle.qp_commands.specs.declared.values.KernelName.{KernelName}
 use Rattle.qp_commands.specs.declared.values.Output.{Output}
 use Rattle.qp_commands.specs.WordTable.{Asked, has_threads, number_of_form, run}
 use Rattle.qp_run_parts.specs.declared.ran.Ran.{Ran}
@@ -46,7 +46,7 @@ abbrev pub SealsOne : (threads : Bool) → Status → (Journal → Type 0) → O
 SealsOne threads answer IsIt seal = MatchBool (threads && is_run_ended answer) ((j : Journal) × (seal ≡ Some j) × IsIt j) (seal ≡ None)
 
 -- a lawful journal of a run of this system and these stimuli, sealed of the lanes of one table for it, and the very one that was printed or summed up
-pub record IsSealedRun (sys : System) (sources : List (List Stim)) (kernel : Kernel) (budget : ℕ) (output : Output) (form : ℕ) (old new : Option (List ℕ)) (answer : Status) (j : Journal) : Type 0 where
+pub record IsSealedRun (sys : System) (sources : List (List Stim)) (kernel : KernelName) (budget : ℕ) (output : Output) (form : ℕ) (old new : Option (List ℕ)) (answer : Status) (j : Journal) : Type 0 where
   pub run : IsRunUnder kernel sys sources budget j
   pub sealed : WasSealedFor sys j
   pub whole : List ℕ
@@ -54,7 +54,7 @@ pub record IsSealedRun (sys : System) (sources : List (List Stim)) (kernel : Ker
   pub got : new ≡ appended old whole
 
 -- the same of two files
-pub record IsSealed (held : Option Held) (system_name stimuli_name : List ℕ) (kernel : Kernel) (budget : ℕ) (output : Output) (form : ℕ) (old new : Option (List ℕ)) (answer : Status) (j : Journal) : Type 0 where
+pub record IsSealed (held : Option Held) (system_name stimuli_name : List ℕ) (kernel : KernelName) (budget : ℕ) (output : Output) (form : ℕ) (old new : Option (List ℕ)) (answer : Status) (j : Journal) : Type 0 where
   pub sys : System
   pub sources : List (List Stim)
   pub input : IsInput held system_name stimuli_name sys sources

@@ -5,14 +5,14 @@ use Rattle.qp_base.specs.Sink.{AppendsPrefix, appended}
 use Rattle.qp_model.specs.declared.journals.Journal as journal
 use Rattle.qp_model.specs.declared.stimulus.Stim.{Stim}
 use Rattle.qp_model.specs.declared.systems.System.{System}
-use Rattle.qp_gen.specs.Made.{IsMade}
+use Rattle.qp_system.specs.Made.{IsMade}
 use Rattle.qp_stim.specs.Stimuli.{Fault, stimuli_of}
 use Rattle.qp_system.specs.SystemOf.{IsSystemOf}
 use Rattle.qp_run_parts.specs.declared.place.Place.TheVariants.{Line}
 use Rattle.qp_run_parts.specs.declared.status.Status.{Status}
 use Rattle.qp_run_parts.specs.declared.status.Status.TheVariants.{Done, Words, Absent, TooLong, Refused, Asserted, Spent, Memory, ReadFault, WriteFault}
-use Rattle.qp_commands.specs.declared.values.Kernel.{Kernel}
-use Rattle.qp_commands.specs.declared.values.Kernel.TheVariants.{Sim}
+use Rattle.qp_commands.specs.declared.values.KernelName.{KernelName}
+use Rattle.qp_commands.specs.declared.values.KernelName.TheVariants.{Sim}
 use Rattle.qp_commands.specs.declared.values.Kind.{Kind}
 use Rattle.qp_commands.specs.declared.values.Kind.TheVariants.{Frames, Journal as Text}
 use Rattle.qp_commands.specs.declared.values.Output.{Output}
@@ -28,26 +28,26 @@ use Rattle.qp_commands.specs.WordTable.{Asked, CheckWords, check, decode, genera
 use Rattle.qp_text.specs.TextLaw.{IsWritable}
 
 -- the answer on a run of this system and these stimuli: what the records of a lawful journal of them say
-abbrev pub EndsRun : System → List (List Stim) → Kernel → ℕ → Status → Type 0
+abbrev pub EndsRun : System → List (List Stim) → KernelName → ℕ → Status → Type 0
 EndsRun sys sources kernel budget answer = (j : journal.Journal) × IsRunUnder kernel sys sources budget j × (answer ≡ ending_of j)
 
 -- the answer by what the stimuli's file says
-abbrev pub AnswersSources : System → Kernel → ℕ → Result (List (List Stim)) Fault → Status → Type 0
+abbrev pub AnswersSources : System → KernelName → ℕ → Result (List (List Stim)) Fault → Status → Type 0
 AnswersSources sys kernel budget (Err fault) answer = answer ≡ Refused 2 fault.code (Line fault.line)
 AnswersSources sys kernel budget (Ok sources) answer = EndsRun sys sources kernel budget answer
 
 -- the answer from the stimuli's file on
-abbrev pub AnswersStimuli : Option (List ℕ) → System → Kernel → ℕ → Status → Type 0
+abbrev pub AnswersStimuli : Option (List ℕ) → System → KernelName → ℕ → Status → Type 0
 AnswersStimuli held sys kernel budget answer =
     EndsAtLoad 2 held answer ⊎ ((bytes : List ℕ) × IsLoaded held bytes × AnswersSources sys kernel budget (stimuli_of sys bytes) answer)
 
 -- the answer from the content of the system's file on
-abbrev pub AnswersSystem : List ℕ → Option (List ℕ) → Kernel → ℕ → Status → Type 0
+abbrev pub AnswersSystem : List ℕ → Option (List ℕ) → KernelName → ℕ → Status → Type 0
 AnswersSystem bytes stimuli kernel budget answer =
     RefusesFirst bytes answer ⊎ ((sys : System) × IsSystemOf bytes sys × AnswersStimuli stimuli sys kernel budget answer)
 
 -- the answer from the system's file on
-unfoldable pub AnswersFiles : (system stimuli : Option (List ℕ)) → Kernel → ℕ → Status → Type 0
+unfoldable pub AnswersFiles : (system stimuli : Option (List ℕ)) → KernelName → ℕ → Status → Type 0
 unfolding stimuli_of ending_of
 AnswersFiles system stimuli kernel budget answer =
     EndsAtLoad 1 system answer ⊎ ((bytes : List ℕ) × IsLoaded system bytes × AnswersSystem bytes stimuli kernel budget answer)
@@ -83,7 +83,7 @@ is_failure answer = false
 abbrev pub Agrees : Held → Option Asked → Status → Type 0
 Agrees held asked answer = (is_failure answer ≡ true) ⊎ IsAnswer held asked answer
 
-abbrev pub AgreesFiles : (system stimuli : Option (List ℕ)) → Kernel → ℕ → Status → Type 0
+abbrev pub AgreesFiles : (system stimuli : Option (List ℕ)) → KernelName → ℕ → Status → Type 0
 AgreesFiles system stimuli kernel budget answer = (is_failure answer ≡ true) ⊎ AnswersFiles system stimuli kernel budget answer
 
 -- a file was not loaded
@@ -91,7 +91,7 @@ abbrev pub FailsToLoad : ℕ → Option (List ℕ) → Status → Type 0
 FailsToLoad file held answer = (is_failure answer ≡ true) ⊎ EndsAtLoad file held answer
 
 -- a failure, or else the answer on files that the shelf tells: of a run, a conversion or a judgement
-abbrev pub AgreesRun : Option Held → (system stimuli : List ℕ) → Kernel → ℕ → Status → Type 0
+abbrev pub AgreesRun : Option Held → (system stimuli : List ℕ) → KernelName → ℕ → Status → Type 0
 AgreesRun held system stimuli kernel budget answer = IfSome held (λ h. AgreesFiles (h system) (h stimuli) kernel budget answer)
 
 abbrev pub AgreesJournal : Option Held → Kind → (journal.Journal → Status) → List ℕ → Status → Type 0
@@ -169,12 +169,12 @@ AnswersWords None answer = (answer ≡ Words) ⊎ ((answer ≡ Memory) ⊎ (answ
 AnswersWords (Some asked) answer = answer ≢ Words
 
 -- the word that a line names, where it names a file
-abbrev pub IsNamed : Option Asked → Status → List ℕ → Type 0
-IsNamed asked answer name = names_file answer ≡ true → operand_in asked (file_of answer) ≡ name
+abbrev pub NamesFile : Option Asked → Status → List ℕ → Type 0
+NamesFile asked answer name = names_file answer ≡ true → operand_in asked (file_of answer) ≡ name
 
 -- how an answer stands once its line was put: as it was, or memory was refused to a line that names a file, or the put failed
-abbrev pub Stands : Count → (told answer : Status) → Type 0
-Stands n told answer =
+abbrev pub AnswerStands : Count → (told answer : Status) → Type 0
+AnswerStands n told answer =
     (answer ≡ told) ⊎ (((answer ≡ Memory) × (names_file told ≡ true)) ⊎ ((answer ≡ WriteFault) × HasRisen n × (told ≢ Done)))
 
 -- what the two files of a run say: a system and stimuli
@@ -187,7 +187,7 @@ pub record IsInput (held : Option Held) (system_name stimuli_name : List ℕ) (s
   pub stimuli_read : stimuli_of sys stimuli ≡ Ok sources
 
 -- the output of a run, and the answer with it: what is printed of a run of the system and the stimuli of two files
-abbrev pub IsRun : Option Held → (system_name stimuli_name : List ℕ) → Kernel → ℕ → Output → ℕ → Status → List ℕ → Type 0
+abbrev pub IsRun : Option Held → (system_name stimuli_name : List ℕ) → KernelName → ℕ → Output → ℕ → Status → List ℕ → Type 0
 IsRun held system_name stimuli_name kernel budget output form answer whole =
     (sys : System) × (sources : List (List Stim)) × IsInput held system_name stimuli_name sys sources
     × PrintsRun sys sources kernel budget output form answer whole
@@ -225,7 +225,7 @@ EndsJudging system stimuli held n answer =
     → (HasRisen n.reads → ⊥) → (HasRisen n.out → ⊥) → (HasRisen n.notes → ⊥) → Judges sys sources j answer ⊎ (answer ≡ Memory)
 
 -- two files that the shelf tells have a system and its stimuli, and are run
-unfoldable pub EndsRunning : (system stimuli : Option (List ℕ)) → Kernel → ℕ → Counts → Status → Type 0
+unfoldable pub EndsRunning : (system stimuli : Option (List ℕ)) → KernelName → ℕ → Counts → Status → Type 0
 unfolding stimuli_of ending_of
 EndsRunning system stimuli kernel budget n answer =
     (bytes text : List ℕ) (sys : System) (sources : List (List Stim))

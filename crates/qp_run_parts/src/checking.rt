@@ -3,7 +3,7 @@ ghost use Rattle.std.specs.Prelude.{◌≡◌, ◌≢◌, ◌≤◌, ◌⊎◌, 
 ghost use Rattle.qp_model.specs.Sound.{IsSound};
 ghost use Rattle.qp_stim.specs.Rules.{StimuliFit};
 ghost use Rattle.qp_run_parts.specs.Checks.{AreLawful, IsChecked, IsLawfulText, JudgesFound, is_of_files, third};
-ghost use Rattle.qp_run_parts.specs.Conversions.{IsFoundIn, PrintsOne, Refuses, WhenDone, said};
+ghost use Rattle.qp_run_parts.specs.Conversions.{IsFoundIn, PrintsOne, RefusesFile, WhenDone, said};
 ghost use Rattle.qp_run_parts.specs.Verdict.{AgreesCheck, HasCause, JudgesCall, is_failure, is_refusal, reads_of, writes_of};
 ghost use Rattle.qp_commands.specs.WordTable.{check_words};
 ghost use Rattle.qp_run_parts.specs.declared.status.Status.{Status};
@@ -36,7 +36,7 @@ fn in_third(status: Status) -> Status
 /// The journal of the third file's text.
 fn journal_in(alloc: Global, bytes: &[u8]) -> Result<Found, Status>
     ensures journal { IfOk result (IsFoundIn Kind.Journal bytes.now) }
-    ensures told { IfErr result (λ status. (refused : Status) × (status ≡ third refused) × Refuses Kind.Journal bytes.now refused) }
+    ensures told { IfErr result (λ status. (refused : Status) × (status ≡ third refused) × RefusesFile Kind.Journal bytes.now refused) }
 {
     match journal_of_text(alloc, bytes) {
         Ok(found) => Ok(found),

@@ -4,7 +4,7 @@ ghost use Rattle.std.specs.List.{list_all};
 ghost use Rattle.qp_model.specs.Kinds.{REST};
 ghost use Rattle.qp_model.specs.declared.record.Rec.{Rec};
 ghost use Rattle.qp_model.specs.Output.{has_form, has_no_rest, is_in_range};
-ghost use Rattle.qp_run_parts.specs.Conversions.{HasJournal, IsDecoded, IsFoundIn, IsMigrated, IsWrittenAs, PrintsOne, Refuses, WhenDone, decode_on, frame_refusal, migrate_on, text_refusal, written};
+ghost use Rattle.qp_run_parts.specs.Conversions.{HasJournal, IsDecoded, IsFoundIn, IsMigrated, IsWrittenAs, PrintsOne, RefusesFile, WhenDone, decode_on, frame_refusal, migrate_on, text_refusal, written};
 ghost use Rattle.qp_run_parts.specs.Verdict.{AgreesJournal, HasCause, is_refusal, reads_of, writes_of};
 ghost use Rattle.qp_commands.specs.WordTable.{number_of_form};
 ghost use Rattle.qp_run_parts.specs.declared.status.Status.{Status};
@@ -56,7 +56,7 @@ impl From<FrameFault> for Status {
 /// The journal of a text.
 pub fn journal_of_text(alloc: Global, bytes: &[u8]) -> Result<Found, Status>
     ensures journal { IfOk result (IsFoundIn Kind.Journal bytes.now) }
-    ensures refused { IfErr result (Refuses Kind.Journal bytes.now) }
+    ensures refused { IfErr result (RefusesFile Kind.Journal bytes.now) }
 {
     Ok(read_journal(alloc, bytes)?)
 }
@@ -64,7 +64,7 @@ pub fn journal_of_text(alloc: Global, bytes: &[u8]) -> Result<Found, Status>
 /// The journal of frames.
 fn journal_of_frames(alloc: Global, bytes: &[u8]) -> Result<Found, Status>
     ensures journal { IfOk result (IsFoundIn Kind.Frames bytes.now) }
-    ensures refused { IfErr result (Refuses Kind.Frames bytes.now) }
+    ensures refused { IfErr result (RefusesFile Kind.Frames bytes.now) }
 {
     let mut decoder = Decoder::new(alloc);
     decoder.feed(bytes)?;
@@ -74,7 +74,7 @@ fn journal_of_frames(alloc: Global, bytes: &[u8]) -> Result<Found, Status>
 /// The journal of a file's bytes, which are text or frames.
 fn journal_of(alloc: Global, kind: Kind, bytes: &[u8]) -> Result<Found, Status>
     ensures journal { IfOk result (IsFoundIn kind bytes.now) }
-    ensures refused { IfErr result (Refuses kind bytes.now) }
+    ensures refused { IfErr result (RefusesFile kind bytes.now) }
 {
     match kind {
         Kind::Journal => journal_of_text(alloc, bytes),

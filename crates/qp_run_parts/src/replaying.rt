@@ -15,8 +15,7 @@ ghost use Rattle.qp_run_parts.specs.declared.status.Status.{Status};
 use crate::checking::{Judged, judge_files};
 use crate::status::Status;
 use qp_base::{Memory, Shelf, Sink};
-use qp_replay::{Replayed, replay, write_replayed};
-use qp_replay_rerun::rerun;
+use qp_replay::{Replayed, replay, rerun, write_replayed};
 use std::alloc::Global;
 
 /// Makes the journal's records once more along its order, where it has one. What this shows is proved; it asks for memory alone.

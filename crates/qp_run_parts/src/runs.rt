@@ -17,7 +17,7 @@ ghost use Rattle.qp_run_parts.specs.Sealed.{IsSealed, IsSealedRun, SealsOne, jou
 ghost use Rattle.qp_run_parts.specs.Verdict.{AgreesRun, Count, EndsMade, HasCause, IsInput, IsRun, count_of, is_failure, is_refusal, quiet, reads_of, writes_of};
 ghost use Rattle.qp_commands.specs.WordTable.{has_threads, is_form_of, number_of_form};
 ghost use Rattle.qp_run_parts.specs.declared.status.Status.{Status};
-ghost use Rattle.qp_commands.specs.declared.values.Kernel.TheVariants.{Sim, Qv};
+ghost use Rattle.qp_commands.specs.declared.values.KernelName.TheVariants.{Sim, Qv};
 ghost use Rattle.qp_commands.specs.declared.values.Output.TheVariants.{Summary};
 
 use crate::conversions::write;
@@ -26,12 +26,12 @@ use crate::ran::{Finished, Ran};
 use crate::reading::{stimuli_in, system_in};
 use crate::status::Status;
 use qp_base::{Gate, Memory, Shelf, Sink};
-use qp_commands::{Form, Kernel, Output};
-use qp_gen::generate;
+use qp_commands::{Form, KernelName, Output};
 use qp_kernel_end::{Rest, outcome_of};
 use qp_kernel_runs::{Simulated, qv_with_rests, sim_with_rests};
 use qp_model::{Journal, Stimuli, System};
 use qp_summary::{SummaryFault, write_summary_at};
+use qp_system::generate;
 use qp_wait_runs::{run_port, run_qk, run_wait};
 use std::alloc::Global;
 use std::sync::Wait;
@@ -135,7 +135,7 @@ fn run_in_turn<R: Wait>(
 fn run_under<R: Threads + Wait + Sync, G: Gate>(
     rt: &R,
     alloc: Global,
-    kernel: Kernel,
+    kernel: KernelName,
     system: &System,
     stimuli: &Stimuli,
     budget: u32,
@@ -151,11 +151,11 @@ fn run_under<R: Threads + Wait + Sync, G: Gate>(
     ensures sealed { IfOk result (λ ran. IfSome (sealed_in ran) (WasSealedFor system.now)) }
 {
     match kernel {
-        Kernel::Sim => run_alone(rt, alloc, system, stimuli, budget).map(Ran::Alone),
-        Kernel::Qk => run_qk(rt, alloc, system, stimuli, budget, gate).map(Ran::Threaded),
-        Kernel::Port => run_port(rt, alloc, system, stimuli, budget, gate).map(Ran::Threaded),
-        Kernel::Wait => run_wait(rt, alloc, system, stimuli, budget, gate).map(Ran::Threaded),
-        Kernel::Qv => run_in_turn(rt, alloc, system, stimuli, budget).map(Ran::Alone),
+        KernelName::Sim => run_alone(rt, alloc, system, stimuli, budget).map(Ran::Alone),
+        KernelName::Qk => run_qk(rt, alloc, system, stimuli, budget, gate).map(Ran::Threaded),
+        KernelName::Port => run_port(rt, alloc, system, stimuli, budget, gate).map(Ran::Threaded),
+        KernelName::Wait => run_wait(rt, alloc, system, stimuli, budget, gate).map(Ran::Threaded),
+        KernelName::Qv => run_in_turn(rt, alloc, system, stimuli, budget).map(Ran::Alone),
     }
 }
 
@@ -163,7 +163,7 @@ fn run_under<R: Threads + Wait + Sync, G: Gate>(
 fn run_and_print<R: Threads + Wait + Sync, O: Sink, G: Gate>(
     rt: &R,
     alloc: Global,
-    kernel: Kernel,
+    kernel: KernelName,
     system: &System,
     stimuli: &Stimuli,
     budget: u32,
@@ -213,7 +213,7 @@ fn prepare<F: Shelf>(
     ensures sound { IfOk result (λ input. IsSound input.system) }
     ensures fit { IfOk result (λ input. StimuliFit input.system input.stimuli) }
 
-    ensures told { IfErr result (λ status. (kernel : Kernel) (budget : ℕ)
+    ensures told { IfErr result (λ status. (kernel : KernelName) (budget : ℕ)
         → AgreesRun (F.holds files.old) system.now stimuli.now kernel budget status) }
     ensures cause { IfErr result (HasCause (reads_of F.faults F.misses files.old files.new)) }
     ensures about { IfErr result (λ status. (is_refusal status ≡ true) × (status ≢ Status.Words)) }
@@ -233,7 +233,7 @@ pub fn run_files<R: Threads + Wait + Sync, F: Shelf, O: Sink, G: Gate>(
     files: &mut F,
     system: &str,
     stimuli: &str,
-    kernel: Kernel,
+    kernel: KernelName,
     budget: u32,
     output: Output,
     form: Form,

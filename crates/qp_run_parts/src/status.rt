@@ -1,7 +1,7 @@
 //! How a call of the program ends.
 ghost use Rattle.std.specs.Prelude.{codes, ◌≡◌, ◌++◌, ◌≤◌, Option, length, decimal, string_bytes, true, false, IfOk};
 ghost use Rattle.qp_run_parts.specs.Endings.{status_of};
-ghost use Rattle.qp_run_parts.specs.Notes.{number_of, line_of, named_line, names_file, file_of, is_done, place_text, site_text};
+ghost use Rattle.qp_run_parts.specs.Notes.{status_number, line_of, named_line, names_file, file_of, is_quiet_success, place_text, site_text};
 ghost use Rattle.qp_run_parts.specs.Refusals.{system_refusal, stimuli_refusal};
 ghost use Rattle.qp_run_parts.specs.Sealed.{is_run_ended};
 ghost use Rattle.qp_commands.specs.WordTable.{Asked, operand_in};
@@ -70,7 +70,7 @@ impl Status {
 
     /// The number with which the process ends.
     pub fn number(&self) -> u8
-        ensures { result ≡ number_of self.now }
+        ensures { result ≡ status_number self.now }
     {
         match self {
             Status::Done => 0,
@@ -87,7 +87,7 @@ impl Status {
 
     /// Whether the call was done. Then there is no line on the notes.
     pub fn is_done(&self) -> bool
-        ensures { result ≡ is_done self.now }
+        ensures { result ≡ is_quiet_success self.now }
     {
         matches!(self, Status::Done)
     }

@@ -3,7 +3,7 @@ use Rattle.std.proofs.Common.{ℕ, ◌<◌, List, length, arith, sym, subst}
 use Rattle.atomic_table.specs.Seated.{TableId}
 use Rattle.qp_model.specs.declared.journals.Journal.{Journal}
 use Rattle.qp_calls.specs.LaneView.{LaneView}
-use Rattle.qp_port_quiet.specs.Sealed.{SealsLanes}
+use Rattle.qp_port_law.specs.Sealed.{SealsLanes}
 use Rattle.qp_shared_lane.specs.Lane.{world_of}
 use Rattle.qp_shared.specs.declared.shared.Shared.{Shared}
 use Rattle.qp_shared.specs.Ending.{AreAll}

@@ -25,16 +25,16 @@ use Rattle.qp_table.specs.declared.view.Serve.{Serve}
 use Rattle.qp_table.specs.declared.view.View.{View}
 use Rattle.qp_table.proofs.Bounds.{map-small}
 use Rattle.qp_table.proofs.Start.{fitting, object-within}
-use Rattle.qp_shared_views.specs.Words.{place_of, is_here, first_value, value_seen, latest, mark_seen, shown_seen, as_shown}
-use Rattle.qp_shared_views.specs.Lane.{own_recs, on_table_of, tell, event_seen, number_of, tokens, tokens_in, lane_mark, lane_of}
-use Rattle.qp_side_words.specs.Rule.{SideFitting, signal_at, timer_at}
-use Rattle.qp_side_words.specs.Told.{last_seen}
-use Rattle.qp_side_words.specs.declared.SideView.{SideView}
+use Rattle.qp_table.specs.Words.{place_of, is_here, first_value, value_seen, latest, mark_seen, shown_seen, as_shown}
+use Rattle.qp_table.specs.Lane.{own_recs, on_table_of, tell, event_seen, lane_number, tokens, tokens_in, lane_mark, lane_of}
+use Rattle.qp_side.specs.Rule.{SideFitting, signal_at, timer_at}
+use Rattle.qp_side.specs.Told.{last_seen}
+use Rattle.qp_side.specs.declared.view.SideView.{SideView}
 use Rattle.qp_shared_lane.specs.Holds.{LaneHolds, on_side_of, told_by, borne_out, KnowSubscribers, AreFormer, side_mark}
 use Rattle.qp_shared_lane.specs.Lane.{lane_with}
 use Rattle.qp_shared_ends.proofs.Maps.{free-ascend}
-use Rattle.qp_shared_steps.proofs.Maps.{ones-length}
-use Rattle.qp_shared_seats.proofs.Pasts.{first-mark}
+use Rattle.qp_table.proofs.Maps.{ones-length}
+use Rattle.qp_shared_ends.proofs.SeatPasts.{first-mark}
 use Rattle.qp_shared.specs.Starting.{IsBareLog, AreFirstViews, StartsAs}
 
 pub side-fitting : (sys : System) → IsSound sys → SideFitting sys
@@ -87,16 +87,16 @@ module _ (sys : System) (sound : IsSound sys) (count n : ℕ) (g : Log) (bare : 
   unfolding on_side_of own_recs lane_items
   no-recs-side = refl
 
-  same-number : number_of s.view ≡ number_of v
-  unfolding number_of
+  same-number : lane_number s.view ≡ lane_number v
+  unfolding lane_number
   same-number = refl
 
-  number-is : number_of v ≡ n
-  unfolding number_of
+  number-is : lane_number v ≡ n
+  unfolding lane_number
   number-is = refl
 
   pub first-holds : 1 + length ks ≡ cond (eqb n 0) (50 - count) 1 → 1 + length js ≡ cond (eqb n 0) (50 - count) 1 → LaneHolds sys count 0 g [] v s
-  unfolding KnowSubscribers AreFormer ceiling_in number_of
+  unfolding KnowSubscribers AreFormer ceiling_in lane_number
   first-holds rights side_rights = record {
     fitting = fitting sys sound;
     side_fitting = side-fitting sys sound;
@@ -184,7 +184,7 @@ module _ (sys : System) (sound : IsSound sys) (count n : ℕ) (g : Log) (bare : 
       go false here = refl
 
   pub first-starts : (world : List ℕ) → StartsAs world sys n (lane_with world sys 0 g [] v s)
-  unfolding lane_of own_after hands_after number_of
+  unfolding lane_of own_after hands_after lane_number
   first-starts world = record {
     new = record {
       told = nothing-told;

@@ -9,12 +9,12 @@ use Rattle.qp_model.specs.declared.record.Rec.{Rec}
 use Rattle.qp_calls.specs.LaneView.{LaneView}
 use Rattle.qp_table.specs.Counting.{Each}
 use Rattle.qp_table.specs.Rule.{is_serve}
-use Rattle.qp_table.specs.After.{passing, failing, joined}
+use Rattle.qp_table.specs.After.{passing, failing, views_joined}
 use Rattle.qp_table.specs.declared.view.View.{View}
-use Rattle.qp_side_words.specs.Told.{both_of}
-use Rattle.qp_side_words.specs.declared.SideView.{SideView}
+use Rattle.qp_side.specs.Told.{both_of}
+use Rattle.qp_side.specs.declared.view.SideView.{SideView}
 use Rattle.qp_shared_lane.specs.declared.lane.LaneState.{LaneState}
-use Rattle.qp_shared_side.specs.Seats.{in_set}
+use Rattle.qp_side.specs.Seats.{in_set}
 use Rattle.qp_shared_ends.specs.Joining.{all_both, all_joined, recs_in, side_of, table_of}
 use Rattle.qp_shared.specs.declared.lane.SharedLane.{SharedLane}
 use Rattle.qp_shared.specs.declared.shared.Shared.{Shared}
@@ -30,9 +30,9 @@ each-mid P [] l zs e = e.0
 each-mid P (y ∷ ys) l zs e = each-mid P ys l zs e.1
 
 -- one lane more
-pub joined-more : (ys : List SharedLane) (l : SharedLane) (v : View) → all_joined v (map table_of (states (ys ++ l ∷ []))) ≡ joined (all_joined v (map table_of (states ys))) (table_of l.state)
+pub joined-more : (ys : List SharedLane) (l : SharedLane) (v : View) → all_joined v (map table_of (states (ys ++ l ∷ []))) ≡ views_joined (all_joined v (map table_of (states ys))) (table_of l.state)
 joined-more [] l v = refl
-joined-more (y ∷ ys) l v = joined-more ys l (joined v (table_of y.state))
+joined-more (y ∷ ys) l v = joined-more ys l (views_joined v (table_of y.state))
 
 pub both-more : (ys : List SharedLane) (l : SharedLane) (v : SideView) → all_both v (map side_of (states (ys ++ l ∷ []))) ≡ both_of (all_both v (map side_of (states ys))) (side_of l.state)
 both-more [] l v = refl

@@ -7,25 +7,25 @@ use Rattle.qp_model.specs.declared.words.Word.TheVariants as word
 use Rattle.qp_model.specs.Told.{ToldItem}
 use Rattle.qp_calls.specs.LaneView.{NotShown}
 use Rattle.qp_calls_log.specs.declared.log.Log.{Log}
-use Rattle.qp_calls_meet.specs.Meeting.{is_met, Met}
-use Rattle.qp_table.specs.After.{joined, onlooker}
+use Rattle.qp_calls_log.specs.Meeting.{is_met, Met}
+use Rattle.qp_table.specs.After.{views_joined, onlooker}
 use Rattle.qp_table.specs.declared.view.View.{View}
-use Rattle.qp_shared_views.specs.Words.{mark_seen}
-use Rattle.qp_shared_views.specs.Lane.{Standing, lane_of, lane_mark, number_of, own_recs}
-use Rattle.qp_shared_views.specs.Telling.{is_on_table, Meets}
-use Rattle.qp_shared_views.proofs.LawLemmas.{meets_see_both}
-use Rattle.qp_side_words.specs.declared.SideView.{SideView}
+use Rattle.qp_table.specs.Words.{mark_seen}
+use Rattle.qp_table.specs.Lane.{Standing, lane_of, lane_mark, lane_number, own_recs}
+use Rattle.qp_table.specs.Telling.{is_on_table, Meets}
+use Rattle.qp_table.proofs.ViewLawLemmas.{meets_see_both}
+use Rattle.qp_side.specs.declared.view.SideView.{SideView}
 use Rattle.qp_shared_lane.specs.Holds.{LaneHolds, told_by}
 use Rattle.qp_shared_lane.specs.Lane.{standing, lane_with, state_view}
 use Rattle.qp_shared_lane.specs.declared.lane.LaneState.{LaneState}
 use Rattle.qp_shared_lane.proofs.LawLemmas.{looks_keep_the_lane, worlds_name_tables}
-use Rattle.qp_shared_seats.specs.Seats.{IsOnePast}
+use Rattle.qp_shared_ends.specs.Seats.{IsOnePast}
 
 -- a view with what another has seen
 abbrev pub met : View → View → View
 met v w = record v { seen = v.seen ++ w.seen }
 
-pub joined-onlooker : (v w : View) → joined v (onlooker w) ≡ met v w
+pub joined-onlooker : (v w : View) → views_joined v (onlooker w) ≡ met v w
 joined-onlooker v w = λ i. record {
   logs = append-nil v.logs i;
   lane_numbers = append-nil v.lane_numbers i;
@@ -68,7 +68,7 @@ module _ (world : List ℕ) (sys : System) (by count ceiling : ℕ) (g : Log) (n
   both = meets_see_both at other (told_by g numbers v) theirs g.spare more v w past.was same past.one past.first
 
   meets-as : Meets (lane_with world sys by g numbers v s) (lane_of other theirs more w) (lane_with world sys by g numbers (met v w) s)
-  unfolding number_of
+  unfolding lane_number
   meets-as = both
 
   beside-is : (x : Word) → is_met x ≡ false → (lane_with world sys by g numbers (met v w) s).mark x ≡ (lane_with world sys by g numbers v s).mark x
@@ -97,7 +97,7 @@ module _ (world : List ℕ) (sys : System) (by count ceiling : ℕ) (g : Log) (n
   rise (word.Timer k) = omega arith
 
   pub lane-keeps : LaneHolds sys count ceiling g numbers v s → LaneHolds sys count ceiling g numbers (met v w) s
-  unfolding number_of own_recs
+  unfolding lane_number own_recs
   lane-keeps h = (looks_keep_the_lane world sys by count ceiling g numbers v s (met v w) s (word.Pool 0) 0 NotShown h
       (record {
         logs = refl;

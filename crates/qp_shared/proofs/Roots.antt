@@ -6,9 +6,9 @@ use Rattle.qp_table.specs.Rule.{is_number}
 use Rattle.qp_table.specs.After.{nothing, newcomer, passing, failing}
 use Rattle.qp_table.specs.declared.view.Serve.{Serve}
 use Rattle.qp_table.specs.declared.view.View.{View}
-use Rattle.qp_side_words.specs.Told.{side_root, root_less, seat_with}
-use Rattle.qp_side_words.specs.declared.SideView.{SideView}
-use Rattle.qp_shared_seats.specs.Seats.{root_left, lane_new, with_number}
+use Rattle.qp_side.specs.Told.{side_root, root_less, seat_with}
+use Rattle.qp_side.specs.declared.view.SideView.{SideView}
+use Rattle.qp_shared_ends.specs.Seats.{root_left, lane_new, with_number}
 use Rattle.qp_shared.specs.Starting.{AreFirstViews}
 
 numbers-are : (k : ℕ) → k < 49 → count_up k (49 - k) ≡ k ∷ count_up (k + 1) (49 - (k + 1))

@@ -18,12 +18,12 @@ use Rattle.qp_model.specs.Sites.{object_at}
 use Rattle.qp_model.specs.Sound.{IsSound}
 use Rattle.qp_model.specs.WordLaw.{is_object}
 use Rattle.qp_table.specs.Counting.{Each, many}
-use Rattle.qp_table.specs.First.{IsFresh, first_serves}
+use Rattle.qp_table.specs.First.{IsFreshServe, first_serves}
 use Rattle.qp_table.specs.Rule.{is_serve}
 use Rattle.qp_table.specs.After.{passing, failing}
 use Rattle.qp_table.specs.declared.view.Serve.{Serve}
 use Rattle.qp_table.proofs.Start.{object-within, serves-once}
-use Rattle.qp_shared_side.specs.Seats.{in_set}
+use Rattle.qp_side.specs.Seats.{in_set}
 use Rattle.qp_shared.specs.Starting.{objects_for, given, left}
 
 -- whether the set has the object
@@ -69,11 +69,11 @@ any-failing m o (x ∷ xs) = go (in_set m x) refl (eqb x.object o) refl (any-fai
     go false e true f h = (λ i. f i || list_any (is_serve o) (failing (in_set m) xs)) ∙ sym (λ i. not (same false e f i) && true)
     go false e false f h = (λ i. f i || list_any (is_serve o) (failing (in_set m) xs)) ∙ h
 
-pub failing-fresh : (t : Serve → Bool) (xs : List Serve) → Each IsFresh xs → Each IsFresh (failing t xs)
+pub failing-fresh : (t : Serve → Bool) (xs : List Serve) → Each IsFreshServe xs → Each IsFreshServe (failing t xs)
 failing-fresh t [] e = tt
 failing-fresh t (x ∷ xs) e = go (t x) (failing-fresh t xs e.1)
   where
-    go : (b : Bool) → Each IsFresh (failing t xs) → Each IsFresh (cond b (failing t xs) (x ∷ failing t xs))
+    go : (b : Bool) → Each IsFreshServe (failing t xs) → Each IsFreshServe (cond b (failing t xs) (x ∷ failing t xs))
     go true r = r
     go false r = (e.0, r)
 

@@ -7,11 +7,11 @@ use Rattle.qp_model.proofs.ListLemmas.{nothing-left}
 use Rattle.qp_model.specs.declared.systems.System.{System}
 use Rattle.qp_calls.specs.LaneView.{LaneView}
 use Rattle.qp_table.specs.Counting.{Each}
-use Rattle.qp_table.specs.After.{joined}
+use Rattle.qp_table.specs.After.{views_joined}
 use Rattle.qp_table.specs.declared.view.View.{View}
-use Rattle.qp_side_words.specs.Told.{both_of}
-use Rattle.qp_side_words.specs.declared.SideView.{SideView}
-use Rattle.qp_shared_views.specs.Lane.{number_of, lane_of}
+use Rattle.qp_side.specs.Told.{both_of}
+use Rattle.qp_side.specs.declared.view.SideView.{SideView}
+use Rattle.qp_table.specs.Lane.{lane_number, lane_of}
 use Rattle.qp_shared_lane.specs.declared.lane.LaneState.{LaneState}
 use Rattle.qp_shared_lane.specs.Lane.{state_view}
 use Rattle.qp_shared_lane.proofs.LawLemmas.{worlds_name_tables}
@@ -67,7 +67,7 @@ unfolding sum_of
 joined-sum [] v = omega arith
 joined-sum (l ∷ ls) v =
     let w : View = l.state.seat.me.0 in
-    let r = joined-sum ls (joined v w) in let a = length-append v.logs w.logs in let b = length-append v.lane_numbers w.lane_numbers in
+    let r = joined-sum ls (views_joined v w) in let a = length-append v.logs w.logs in let b = length-append v.lane_numbers w.lane_numbers in
     r ∙ (let z : length (v.logs ++ w.logs) + length (v.lane_numbers ++ w.lane_numbers) + sum_of share ls ≡ length v.logs + length v.lane_numbers + (length w.logs + length w.lane_numbers + sum_of share ls) = omega arith in z)
 
 both-sum : (ls : List SharedLane) (v : SideView) → length (all_both v (map side_of (states ls))).view.logs + length (all_both v (map side_of (states ls))).view.lane_numbers ≡ length v.view.logs + length v.view.lane_numbers + sum_of side_share ls
@@ -111,12 +111,12 @@ with-zero n f (l ∷ ls) e z = go (eqb (state_view l.state).lane 0) e.0.0 (sym (
     go false is z r q = let a = q (omega arith) in let a0 = a.0 in (omega arith, a.1)
 
 shares : (s : Shared) (n : ℕ) (ls : List SharedLane) → Each (λ (v : LaneView). v.world ≡ world_name s n) (map lane_view ls) → Each (Shares n share) (states ls) × Each (Shares n side_share) (states ls)
-unfolding lane_of number_of
+unfolding lane_of lane_number
 shares s n [] e = (tt, tt)
 shares s n (l ∷ ls) e =
     let r = shares s n ls e.1 in let g : LaneState = l.state in let count = (is-on s n g e.0).1 in let one = g.holds.lane in let side_one = g.holds.side_lane in
-    let a : share g ≡ cond (eqb (number_of g.seat.me.0) 0) (50 - n) 1 = subst (λ k. share g ≡ cond (eqb (number_of g.seat.me.0) 0) (50 - k) 1) count g.holds.rights in
-    let b : side_share g ≡ cond (eqb (number_of g.seat.me.0) 0) (50 - n) 1 = subst (λ k. side_share g ≡ cond (eqb (number_of g.seat.me.0) 0) (50 - k) 1) count g.holds.side_rights in
+    let a : share g ≡ cond (eqb (lane_number g.seat.me.0) 0) (50 - n) 1 = subst (λ k. share g ≡ cond (eqb (lane_number g.seat.me.0) 0) (50 - k) 1) count g.holds.rights in
+    let b : side_share g ≡ cond (eqb (lane_number g.seat.me.0) 0) (50 - n) 1 = subst (λ k. side_share g ≡ cond (eqb (lane_number g.seat.me.0) 0) (50 - k) 1) count g.holds.side_rights in
     let p : 0 < share g = omega arith in let q : 0 < side_share g = omega arith in
     (((a, p), r.0), ((b, q), r.1))
 

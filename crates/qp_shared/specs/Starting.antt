@@ -8,13 +8,13 @@ use Rattle.qp_model.specs.Sound.{IsSound}
 use Rattle.qp_model.specs.WordLaw.{is_object}
 use Rattle.qp_calls.specs.LaneView.{LaneView, IsNew}
 use Rattle.qp_table.specs.Counting.{Each}
-use Rattle.qp_table.specs.First.{IsFresh}
+use Rattle.qp_table.specs.First.{IsFreshServe}
 use Rattle.qp_table.specs.Rule.{is_serve}
 use Rattle.qp_table.specs.After.{nothing, newcomer}
 use Rattle.qp_table.specs.declared.view.View.{View}
 use Rattle.qp_calls_log.specs.declared.log.Log.{Log}
-use Rattle.qp_side_words.specs.Told.{side_root}
-use Rattle.qp_side_words.specs.declared.SideView.{SideView}
+use Rattle.qp_side.specs.Told.{side_root}
+use Rattle.qp_side.specs.declared.view.SideView.{SideView}
 use Rattle.qp_shared_lane.specs.Lane.{world_of}
 use Rattle.qp_shared.specs.declared.shared.Shared.{Shared}
 use Rattle.qp_shared.specs.declared.shared.Root.{Root}
@@ -53,7 +53,7 @@ pub record IsRootAt (s : Shared) (k : ℕ) (r : Root) : Type 0 where
   pub bare : r.side.me.1 ≡ []
   pub table : r.seat.me.0 ≡ newcomer (count_up k (49 - k)) r.seat.me.0.serves
   pub side_table : r.side.me.0 ≡ side_root (0 ∷ count_up k (49 - k)) r.seat.me.0.serves
-  pub fresh : Each IsFresh r.seat.me.0.serves
+  pub fresh : Each IsFreshServe r.seat.me.0.serves
 
 -- The root of these tables: it has all numbers and serves all objects
 pub record IsRootOf (s : Shared) (r : Root) : Type 0 where

@@ -3,7 +3,7 @@ use Rattle.std.specs.Prelude.{◌≡◌, ◌<◌, List, ℕ, length}
 use Rattle.qp_model.specs.declared.journals.Journal.{Journal}
 use Rattle.qp_model.specs.declared.systems.System.{System}
 use Rattle.qp_calls.specs.LaneView.{LaneView}
-use Rattle.qp_port_quiet.specs.Sealed.{SealsLanes}
+use Rattle.qp_port_law.specs.Sealed.{SealsLanes}
 use Rattle.qp_table.specs.Counting.{Each}
 
 -- lanes of one table, by its name; the lanes of a world of one thread have none

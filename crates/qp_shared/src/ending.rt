@@ -8,8 +8,8 @@ ghost use Rattle.qp_model.specs.History.{lane_items, all_items};
 ghost use Rattle.qp_model.specs.Ends.{is_assert, is_end};
 ghost use Rattle.qp_model.specs.End.{end_of};
 ghost use Rattle.qp_table.specs.Counting.{Each};
-ghost use Rattle.qp_table.specs.After.{joined};
-ghost use Rattle.qp_side_words.specs.Told.{both_of};
+ghost use Rattle.qp_table.specs.After.{views_joined};
+ghost use Rattle.qp_side.specs.Told.{both_of};
 ghost use Rattle.qp_shared_ends.specs.Joining.{all_both, all_joined, recs_in, side_of, table_of};
 ghost use Rattle.qp_shared.specs.Ending.{IsOn, states};
 
@@ -18,10 +18,10 @@ use atomic_table::Seat;
 use qp_calls_log::Log;
 use qp_model::ends::{ASSERTED, QUIET, SPENT};
 use qp_model::{Lane, Lanes, Rec};
+use qp_shared_ends::table;
 use qp_shared_lane::{LaneState, SideSeat};
-use qp_shared_seats::table;
 use qp_shared_words::Words;
-use qp_side_words::SideView;
+use qp_side::SideView;
 use qp_table::View;
 
 /// Whether the record is an assertion.
@@ -82,7 +82,7 @@ pub(crate) fn end_of(lanes: &Lanes) -> u8
 /// Seats on both tables, of the same views, and the records of a lane that ends.
 fn take_in(
     words: &Words,
-    side: &qp_shared_side::Words,
+    side: &qp_side::Words,
     seat: &mut Seat<(), View>,
     beside: &mut Seat<(), SideView>,
     lane: SharedLane<'_>,
@@ -92,7 +92,7 @@ fn take_in(
     requires on { IsOn words.now.shared.table_id side.now.shared.table_id lane.state }
     ensures own { seat.new.table_id ≡ seat.old.table_id }
     ensures beside { beside.new.table_id ≡ beside.old.table_id }
-    ensures table { seat.new.me.0 ≡ joined seat.old.me.0 (table_of lane.entry.state) }
+    ensures table { seat.new.me.0 ≡ views_joined seat.old.me.0 (table_of lane.entry.state) }
     ensures side { beside.new.me.0 ≡ both_of beside.old.me.0 (side_of lane.entry.state) }
     ensures records { result ≡ recs_in lane.entry.state }
 {
@@ -107,14 +107,14 @@ fn take_in(
     let Log { recs, .. } = log;
     let all = table::move_all(words, &mut own);
     table::join_seats(words, seat, all);
-    qp_shared_side::seats::join_seats(side, beside, its);
+    qp_side::words::join_seats(side, beside, its);
     Lane { items: recs }
 }
 
 /// Lanes are taken in, one after another, and their records moved into the room.
 pub(crate) fn gather(
     words: &Words,
-    side: &qp_shared_side::Words,
+    side: &qp_side::Words,
     seat: &mut Seat<(), View>,
     beside: &mut Seat<(), SideView>,
     lanes: Vec<SharedLane<'_>>,

@@ -2,12 +2,12 @@
 
 ghost use Rattle.std.specs.Prelude.{◌≡◌};
 ghost use Rattle.qp_shared_lane.specs.Lane.{state_view};
-ghost use Rattle.qp_calls_meet.specs.Meeting.{IsTogether, Met};
+ghost use Rattle.qp_calls_log.specs.Meeting.{IsTogether, Met};
 
 use crate::lane::SharedLane;
-use qp_calls_meet::Meets;
+use qp_calls_log::Meets;
+use qp_shared_ends::table;
 use qp_shared_lane::LaneState;
-use qp_shared_seats::table;
 
 fn meet(lane: &mut LaneState<'_>, other: &mut LaneState<'_>)
     requires { IsTogether (state_view lane.old) (state_view other.old) }

@@ -2,7 +2,7 @@
 
 use crate::lane::SharedLane;
 use qp_base::{Ev, Steps};
-use qp_calls::{Arm, Claim, Counts, Dec, Entry, Fresh, Give, Hold, Ops, RoomFault, Take, Tick};
+use qp_calls::{Arm, Claim, Counts, Dec, Fresh, Give, HeldEntry, Hold, Ops, RoomFault, Take, Tick};
 use qp_model::Rec;
 use std::sync::Wait;
 use std::sync::ledger::Ledger;
@@ -64,14 +64,14 @@ impl Ops for SharedLane<'_> {
     fn claim<L: Ledger>(
         &mut self,
         to: u8,
-        e: Entry,
+        e: HeldEntry,
         margin: Option<u8>,
         steps: &mut Steps<L>,
     ) -> Claim {
         qp_shared_queues::claim(&mut self.state, to, e, margin, steps)
     }
 
-    fn lifo<L: Ledger>(&mut self, e: Entry, steps: &mut Steps<L>) -> Claim {
+    fn lifo<L: Ledger>(&mut self, e: HeldEntry, steps: &mut Steps<L>) -> Claim {
         qp_shared_queues::lifo(&mut self.state, e, steps)
     }
 
@@ -124,7 +124,7 @@ impl Ops for SharedLane<'_> {
         qp_shared_signals::stopped(&mut self.state)
     }
 
-    fn leave(&mut self, e: Entry) {
+    fn leave(&mut self, e: HeldEntry) {
         qp_shared_blocks::leave(&mut self.state, e);
     }
 

@@ -2,7 +2,7 @@
 
 ghost use Rattle.std.specs.Prelude.{◌≡◌, ◌≤◌, [], map, length, IfOk};
 ghost use Rattle.std.specs.Vec.{vec_capacity};
-ghost use Rattle.qp_port_quiet.specs.Sealed.{SealsLanes};
+ghost use Rattle.qp_port_law.specs.Sealed.{SealsLanes};
 ghost use Rattle.qp_shared.specs.Lane.{lane_view, records_of};
 ghost use Rattle.qp_shared.specs.Ending.{AreAll};
 ghost use Rattle.qp_shared.specs.WasSealed.{WasSealed, WasSealed-prop, WasSealedFor};
@@ -13,8 +13,8 @@ use crate::shared::Shared;
 use qp_base::Memory;
 use qp_calls_log::Log;
 use qp_model::{Journal, Lane, Lanes};
+use qp_shared_ends::table;
 use qp_shared_lane::{LaneState, SideSeat};
-use qp_shared_seats::table;
 
 /// A journal into which all lanes of one table were sealed, and which carries that it is so.
 #[derive(Drop)]
@@ -85,7 +85,7 @@ impl Shared<'_> {
             records,
         );
         table::know_end(&self.words, &mut seat);
-        qp_shared_side::seats::know_whole(&self.side, &mut beside);
+        qp_side::words::know_whole(&self.side, &mut beside);
         let lanes = Lanes { items: records };
         let end = end_of(&lanes);
         Journal {

@@ -7,7 +7,7 @@ use atomic_table::Seat;
 use qp_base::Memory;
 use qp_model::System;
 use qp_shared_words::Words;
-use qp_side_words::SideView;
+use qp_side::SideView;
 use qp_table::View;
 use std::alloc::Global;
 
@@ -18,7 +18,7 @@ pub struct Shared<'s> {
     pub(crate) sys: &'s System,
     pub(crate) alloc: Global,
     pub(crate) words: Words,
-    pub(crate) side: qp_shared_side::Words,
+    pub(crate) side: qp_side::Words,
     ghost wide: { words.shared.table_id.words ≡ 21128 },
     ghost side_wide: { side.shared.table_id.words ≡ 4489 },
     ghost key: { words.shared.key ≡ sys.now },
@@ -42,7 +42,7 @@ impl<'s> Shared<'s> {
         ensures root { IfOk result (λ t. IsRootOf t.0 t.1) }
     {
         let (words, seat) = qp_shared_words::new_words(alloc, sys)?;
-        let (side, root) = qp_shared_side::seats::new_words(alloc, sys)?;
+        let (side, root) = qp_side::words::new_words(alloc, sys)?;
         let shared = Shared {
             sys,
             alloc,

@@ -7,7 +7,7 @@ ghost use Rattle.qp_model.specs.Sound.{IsSound};
 ghost use Rattle.qp_table.specs.Counting.{Each};
 ghost use Rattle.qp_table.specs.Rule.{is_serve};
 ghost use Rattle.qp_table.specs.After.{passing, failing};
-ghost use Rattle.qp_shared_side.specs.Seats.{in_set};
+ghost use Rattle.qp_side.specs.Seats.{in_set};
 ghost use Rattle.qp_shared.specs.Lane.{lane_view};
 ghost use Rattle.qp_shared.specs.Starting.{AreFirst, AreFirstViews, AreGiven, FirstLane, HasLeft, IsBareLog, IsGiven, IsRootAt, IsRootOf, objects_for, rest_of, serves_all, serves_one};
 
@@ -16,12 +16,11 @@ use crate::shared::{Root, Shared};
 use atomic_table::Seat;
 use qp_base::Memory;
 use qp_calls_log::Log;
+use qp_shared_ends::{side, table};
 use qp_shared_lane::{Ends, LaneState, Rings, SideSeat};
-use qp_shared_seats::{side, table};
-use qp_shared_side::seats::give_seat;
-use qp_shared_views::Numbers;
-use qp_side_words::SideView;
-use qp_table::View;
+use qp_side::SideView;
+use qp_side::words::give_seat;
+use qp_table::{Numbers, View};
 use std::alloc::Global;
 
 /// Logs without records.

@@ -27,11 +27,11 @@ use Rattle.qp_calls.specs.LaneView.{Gains, FreeBlocks}
 use Rattle.qp_calls.specs.Clauses.{GoesBack, StandsFresh}
 use Rattle.qp_calls.specs.declared.tokens.Fresh.{Fresh}
 use Rattle.qp_calls_log.specs.declared.log.Log.{Log}
-use Rattle.qp_shared_views.specs.Words.{place_of, is_here, value_seen, mark_seen}
-use Rattle.qp_shared_views.specs.Lane.{lane_of, tokens, tokens_in, event_seen, told_as}
-use Rattle.qp_shared_views.proofs.Gaining.{mark-here, mark-was, mark-rises, shown-here}
-use Rattle.qp_shared_views.proofs.Hands.{tokens-out, loose-true}
-use Rattle.qp_shared_steps.specs.Told.{HasPlace}
+use Rattle.qp_table.specs.Words.{place_of, is_here, value_seen, mark_seen}
+use Rattle.qp_table.specs.Lane.{lane_of, tokens, tokens_in, event_seen, told_as}
+use Rattle.qp_table.proofs.Gaining.{mark-here, mark-was, mark-rises, shown-here}
+use Rattle.qp_table.proofs.Hands.{tokens-out, loose-true}
+use Rattle.qp_table.specs.Told.{HasPlace}
 use Rattle.qp_shared_lane.specs.declared.lane.LaneState.{LaneState}
 use Rattle.qp_shared_lane.specs.Holds.{LaneHolds, told_by}
 use Rattle.qp_shared_lane.specs.Lane.{world_in, lane_with, state_view}

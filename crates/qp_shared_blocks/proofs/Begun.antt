@@ -6,11 +6,11 @@ use Rattle.qp_table.specs.Counting.{many, without}
 use Rattle.qp_table.specs.Rule.{is_spot, gives_of}
 use Rattle.qp_table.specs.After.{spot, begun_give, read_by, reading}
 use Rattle.qp_table.specs.declared.view.Fill.{Fill}
-use Rattle.qp_table.specs.declared.view.Give.{Give}
+use Rattle.qp_table.specs.declared.view.PendingGive.{PendingGive}
 use Rattle.qp_table.specs.declared.view.Spot.{Spot}
 use Rattle.qp_table.specs.declared.view.View.{View}
 use Rattle.qp_table.proofs.Counting.{many-snoc, many-without}
-use Rattle.qp_shared_steps.specs.Asked.{is_unfinished, is_begun}
+use Rattle.qp_table.specs.Asked.{is_unfinished, is_begun}
 use Rattle.qp_shared_lane.specs.Holds.{IsStill}
 
 or-rest : (b r : Bool) → (b || r) ≡ false → r ≡ false
@@ -45,7 +45,7 @@ module _ {A : Type 0} (p q : A → Bool) where
 spot-same : (q c p b : ℕ) (x : Spot) → is_spot p b x ≡ true → is_spot q c x ≡ (eqb p q && eqb b c)
 spot-same q c p b x h = let z = and_parts (eqb x.pool p) (eqb x.block b) h in (λ i. eqb (eqb-true x.pool p z.0 i) q && eqb (eqb-true x.block b z.1 i) c)
 
-give-same : (q c p b : ℕ) (x : Give) → gives_of p b x ≡ true → is_begun q c x ≡ true → (eqb p q && eqb b c) ≡ true
+give-same : (q c p b : ℕ) (x : PendingGive) → gives_of p b x ≡ true → is_begun q c x ≡ true → (eqb p q && eqb b c) ≡ true
 give-same q c p b x h begun =
     let z = and_parts (eqb x.pool p) (eqb x.block b) h in let y = and_parts (gives_of q c x) x.read begun in
     (λ i. eqb (sym (eqb-true x.pool p z.0) i) q && eqb (sym (eqb-true x.block b z.1) i) c) ∙ y.0
@@ -73,7 +73,7 @@ module _ (p b : ℕ) (event : List ℕ) where
   read-step false true x y h k = k h
   read-step t false x y h k = absurd (cc)
 
-  pub all-done : (gs : List Give) → list_any (is_unfinished []) gs ≡ false → list_any (is_unfinished []) (reading p b (gs ++ begun_give p b event ∷ [])) ≡ false
+  pub all-done : (gs : List PendingGive) → list_any (is_unfinished []) gs ≡ false → list_any (is_unfinished []) (reading p b (gs ++ begun_give p b event ∷ [])) ≡ false
   all-done [] h = ap (λ (t : Bool). (not (cond t true false) || false) || false) here
   all-done (g ∷ gs) h = read-step (gives_of p b g) g.read (list_any (is_unfinished []) gs) (list_any (is_unfinished []) (reading p b (gs ++ begun_give p b event ∷ []))) h (all-done gs)
 
@@ -88,7 +88,7 @@ module _ (p b : ℕ) (event : List ℕ) where
     and-on true = refl
     and-on false = refl
 
-    one-more : (gs : List Give) → many (is_begun q c) gs + cond (eqb p q && eqb b c) 1 0 ≤ many (is_begun q c) (reading p b (gs ++ begun_give p b event ∷ []))
+    one-more : (gs : List PendingGive) → many (is_begun q c) gs + cond (eqb p q && eqb b c) 1 0 ≤ many (is_begun q c) (reading p b (gs ++ begun_give p b event ∷ []))
     one-more [] = let one : cond {A = ℕ} ((eqb p q && eqb b c) && cond (gives_of p b (begun_give p b event)) true false) 1 0 ≡ cond (eqb p q && eqb b c) 1 0 = ap (λ (t : Bool). cond {A = ℕ} ((eqb p q && eqb b c) && cond t true false) 1 0) here ∙ ap (λ (t : Bool). cond {A = ℕ} t 1 0) (and-on (eqb p q && eqb b c)) in omega arith
     one-more (g ∷ gs) = let r = one-more gs in let m = read-more (gives_of q c g) (gives_of p b g) g.read in omega arith
 

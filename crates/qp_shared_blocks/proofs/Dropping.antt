@@ -22,11 +22,11 @@ use Rattle.qp_calls.specs.LaneView.{References}
 use Rattle.qp_calls.specs.Clauses.{DropsOne, StandsHold}
 use Rattle.qp_calls.proofs.HandLemmas.{same-equal}
 use Rattle.qp_calls_log.specs.declared.log.Log.{Log}
-use Rattle.qp_shared_views.specs.Words.{mark_seen}
-use Rattle.qp_shared_views.specs.Lane.{lane_of, tokens, tokens_in, has_content, event_seen, told_as}
-use Rattle.qp_shared_views.proofs.Gaining.{mark-here, mark-was, mark-rises, shown-here}
-use Rattle.qp_shared_views.proofs.Hands.{tokens-out, refs-out, loose-true}
-use Rattle.qp_shared_steps.specs.Told.{DropTold, HasPlace}
+use Rattle.qp_table.specs.Words.{mark_seen}
+use Rattle.qp_table.specs.Lane.{lane_of, tokens, tokens_in, has_content, event_seen, told_as}
+use Rattle.qp_table.proofs.Gaining.{mark-here, mark-was, mark-rises, shown-here}
+use Rattle.qp_table.proofs.Hands.{tokens-out, refs-out, loose-true}
+use Rattle.qp_table.specs.Told.{DropTold, HasPlace}
 use Rattle.qp_shared_lane.specs.declared.lane.LaneState.{LaneState}
 use Rattle.qp_shared_lane.specs.Holds.{LaneHolds, told_by, was_seen, IsPlaced, IsWorn}
 use Rattle.qp_shared_lane.specs.Lane.{world_in, lane_with, state_view}

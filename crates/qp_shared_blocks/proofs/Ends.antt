@@ -12,7 +12,7 @@ use Rattle.qp_table.specs.declared.view.View.{View}
 use Rattle.qp_table.proofs.Bounds.{Ascends, pool-ascends, map-small, bits-on}
 use Rattle.qp_table.proofs.Steps.{pool-of, x-is}
 use Rattle.qp_table.proofs.Tokens.{at-le, held-stands, standing, used-alone}
-use Rattle.qp_shared_steps.proofs.LawLemmas.{backs_tell, more_references_tell}
+use Rattle.qp_table.proofs.StepLawLemmas.{backs_tell, more_references_tell}
 use Rattle.qp_shared_blocks.specs.Ends.{AnotherTold, ReturnTold}
 
 with-ascends : (b lo n : ℕ) (xs : List ℕ) → lo ≤ b → b < n → Ascends lo n xs → Ascends lo n (with_number b xs)

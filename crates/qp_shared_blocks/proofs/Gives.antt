@@ -12,7 +12,7 @@ use Rattle.qp_model.specs.declared.words.Word.{Word}
 use Rattle.qp_model.specs.declared.words.Word.TheVariants as word
 use Rattle.qp_model.specs.declared.bodies.Body.TheVariants.{New, NoBlock}
 use Rattle.qp_model.specs.Record.{Item, item_of}
-use Rattle.qp_model.specs.Told.{ToldItem, Event, given, plain, for_object}
+use Rattle.qp_model.specs.Told.{ToldItem, Event, told_new, plain, for_object}
 use Rattle.qp_model.specs.History.{mark_of, touch, touch_of, same_word}
 use Rattle.qp_model.specs.WordLaw.{is_pool}
 use Rattle.qp_table.specs.TwoTables.{on_side, on_table}
@@ -30,16 +30,16 @@ use Rattle.qp_calls.specs.LaneView.{Shown, Gains, FreeBlocks, References, first_
 use Rattle.qp_calls.specs.Clauses.{FitsPool, GivesOut, GivesNone as NoneGiven, Tries, shortage_of}
 use Rattle.qp_calls.specs.declared.tokens.Fresh.{Fresh}
 use Rattle.qp_calls_log.specs.declared.log.Log.{Log}
-use Rattle.qp_shared_views.specs.Words.{value_seen, mark_seen, shown_seen, as_shown}
-use Rattle.qp_shared_views.specs.Lane.{lane_of, lane_mark, tokens, tokens_in, event_seen, told_as, number_of}
-use Rattle.qp_shared_views.specs.Telling.{Saw, Touches, TouchesTwo, Rises}
-use Rattle.qp_shared_views.proofs.Gaining.{mark-here, mark-was, mark-else, mark-rises, shown-here, shown-else}
-use Rattle.qp_shared_views.proofs.LawLemmas.{seen_words_rise, gives_gain}
-use Rattle.qp_shared_views.proofs.Saying.{same-more, logged-one, logged-number}
-use Rattle.qp_shared_views.proofs.Hands.{eq-turned}
-use Rattle.qp_shared_steps.specs.Asked.{size_of}
-use Rattle.qp_shared_steps.specs.Told.{HasPlace, free_of, shortage_rec}
-use Rattle.qp_shared_loops.specs.Ends.{Gives, GivesNone, GiveEnds, was_seen_as, word_without}
+use Rattle.qp_table.specs.Words.{value_seen, mark_seen, shown_seen, as_shown}
+use Rattle.qp_table.specs.Lane.{lane_of, lane_mark, tokens, tokens_in, event_seen, told_as, lane_number}
+use Rattle.qp_table.specs.Telling.{Saw, Touches, TouchesTwo, Rises}
+use Rattle.qp_table.proofs.Gaining.{mark-here, mark-was, mark-else, mark-rises, shown-here, shown-else}
+use Rattle.qp_table.proofs.ViewLawLemmas.{seen_words_rise, gives_gain}
+use Rattle.qp_table.proofs.Saying.{same-more, logged-one, logged-number}
+use Rattle.qp_table.proofs.Hands.{eq-turned}
+use Rattle.qp_table.specs.Asked.{size_of}
+use Rattle.qp_table.specs.Told.{HasPlace, free_of, shortage_rec}
+use Rattle.qp_shared_loops.specs.Ends.{LoopGives, GivesNone, GiveEnds, was_seen_as, word_without}
 use Rattle.qp_shared_loops.specs.declared.gives.Life.{Life}
 use Rattle.qp_shared_lane.specs.declared.lane.LaneState.{LaneState}
 use Rattle.qp_shared_lane.specs.Holds.{LaneHolds, told_by, was_seen, side_mark, is_borne_out, IsPlaced}
@@ -210,7 +210,7 @@ new-placed v u p b from fresh used place placed q c h = bool-dec (is_spot q c (s
     (λ e. let z = and_parts (eqb p q) (eqb b c) e in subst (λ x. HasPlace x c) (eqb-true p q z.0) (subst (λ x. HasPlace p x) (eqb-true b c z.1) place))
     (λ e. placed q c (let i = ap (many (is_spot q c)) fresh in let j = ap (many (is_spot q c)) used in let s = many-snoc (is_spot q c) v.fresh (spot p b from) in let z = ap (λ (t : Bool). cond {A = ℕ} t 1 0) e in omega arith))
 
-module _ (l : LaneState) (p : ℕ) (reserve : Option ℕ) (ev : Event) (b from : ℕ) (u : View) (x : ℕ) (g : Log) (more : List ℕ) (r : Rec) (small : p < 16) (told : Gives l.sys.now p l.by reserve ev.sig ev.pars l.seat.me.0 x b from u)
+module _ (l : LaneState) (p : ℕ) (reserve : Option ℕ) (ev : Event) (b from : ℕ) (u : View) (x : ℕ) (g : Log) (more : List ℕ) (r : Rec) (small : p < 16) (told : LoopGives l.sys.now p l.by reserve ev.sig ev.pars l.seat.me.0 x b from u)
     (put : IsPut r (free_of x) l.log l.numbers.list g more) (is : item_of r ≡ record { of = l.by; body = New p (x / 4294967296) b from ev.sig ev.pars }) where
   abbrev was : View
   was = l.seat.me.0
@@ -219,7 +219,7 @@ module _ (l : LaneState) (p : ℕ) (reserve : Option ℕ) (ev : Event) (b from :
   number = x / 4294967296
 
   abbrev newest : ToldItem
-  newest = for_object l.by (given p number b from ev.sig ev.pars (free_of x))
+  newest = for_object l.by (told_new p number b from ev.sig ev.pars (free_of x))
 
   abbrev pool : Word
   pool = word.Pool p
@@ -312,7 +312,7 @@ module _ (l : LaneState) (p : ℕ) (reserve : Option ℕ) (ev : Event) (b from :
   pub given-holds : LaneHolds l.sys.now l.count l.ceiling g more u l.side.seat.me.0
   given-holds = kept.holds
 
-  after-is : lane_of (record { world = world_in l; sys = l.sys.now; number = number_of was; by = l.by; stops = l.log.stops.list; answered = l.log.answered.list; side = side_mark l.sys.now l.side.seat.me.0 }) (told_by l.log l.numbers.list was ++ newest ∷ []) g.spare u
+  after-is : lane_of (record { world = world_in l; sys = l.sys.now; number = lane_number was; by = l.by; stops = l.log.stops.list; answered = l.log.answered.list; side = side_mark l.sys.now l.side.seat.me.0 }) (told_by l.log l.numbers.list was ++ newest ∷ []) g.spare u
       ≡ lane_with (world_in l) l.sys.now l.by g more u l.side.seat.me.0
   after-is = (λ i. lane_of (record { world = world_in l; sys = l.sys.now; number = sym follows.number i; by = l.by; stops = sym put.stops i; answered = sym put.answered i; side = side_mark l.sys.now l.side.seat.me.0 }) (sym kept.told i) g.spare u)
 
@@ -326,7 +326,7 @@ module _ (l : LaneState) (p : ℕ) (reserve : Option ℕ) (ev : Event) (b from :
 
   gained : Gains (newest ∷ []) (state_view l) (lane_with (world_in l) l.sys.now l.by g more u l.side.seat.me.0)
   gained = subst (Gains (newest ∷ []) (state_view l)) after-is
-      (gives_gain (record { world = world_in l; sys = l.sys.now; number = number_of was; by = l.by; stops = l.log.stops.list; answered = l.log.answered.list; side = side_mark l.sys.now l.side.seat.me.0 }) (told_by l.log l.numbers.list was) l.log.spare g.spare was told.mid u pool block (suc number) from newest
+      (gives_gain (record { world = world_in l; sys = l.sys.now; number = lane_number was; by = l.by; stops = l.log.stops.list; answered = l.log.answered.list; side = side_mark l.sys.now l.side.seat.me.0 }) (told_by l.log l.numbers.list was) l.log.spare g.spare was told.mid u pool block (suc number) from newest
       pool-rises block-rises touches (keeps-all l.sys.now l.count l.ceiling l.log l.numbers.list was l.side.seat.me.0 l.holds (world_in l) l.by u follows))
 
   shown-of : mark_seen l.sys.now was.seen pool ≡ number → shown_seen l.sys.now was.seen pool ≡ FreeBlocks (free_of x)
@@ -371,7 +371,7 @@ module _ (l : LaneState) (p : ℕ) (reserve : Option ℕ) (ev : Event) (b from :
 
 module _ (l : LaneState) (p : ℕ) (reserve : Option ℕ) (ev : Event) (x : ℕ) (o : Option Life) (life : Life) (is_given : o ≡ Some life) (u : View) (ends : GiveEnds l.words.now.shared.key p l.by reserve ev.sig ev.pars l.seat.me.0 x o u) (fits : FitsPool (state_view l).sys p ev)
     (g : Log) (more : List ℕ) (r : Rec) (k : ℕ) (put : IsPut r k l.log l.numbers.list g more) (k_is : k ≡ free_of x) (is : item_of r ≡ record { of = l.by; body = New p (x / 4294967296) life.block life.from ev.sig ev.pars }) where
-  gave : Gives l.sys.now p l.by reserve ev.sig ev.pars l.seat.me.0 x life.block life.from u
+  gave : LoopGives l.sys.now p l.by reserve ev.sig ev.pars l.seat.me.0 x life.block life.from u
   gave = subst (λ s. GiveEnds s p l.by reserve ev.sig ev.pars l.seat.me.0 x (Some life) u) l.key (subst (λ q. GiveEnds l.words.now.shared.key p l.by reserve ev.sig ev.pars l.seat.me.0 x q u) is_given ends)
 
   put-free : IsPut r (free_of x) l.log l.numbers.list g more

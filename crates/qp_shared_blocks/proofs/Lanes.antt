@@ -6,10 +6,10 @@ use Rattle.qp_table.specs.After.{HasRoom, ref}
 use Rattle.qp_calls.specs.Tokens.{Hold, Held, Loose, stands}
 use Rattle.qp_calls.specs.Clauses.{StandsHold, StandsFresh}
 use Rattle.qp_calls.specs.declared.tokens.Fresh.{Fresh}
-use Rattle.qp_shared_views.specs.Lane.{lane_of, has_content, is_read}
-use Rattle.qp_shared_views.proofs.Hands.{read-has, read-small}
-use Rattle.qp_shared_steps.specs.Asked.{is_begun}
-use Rattle.qp_shared_steps.specs.Told.{HasPlace}
+use Rattle.qp_table.specs.Lane.{lane_of, has_content, is_read}
+use Rattle.qp_table.proofs.Hands.{read-has, read-small}
+use Rattle.qp_table.specs.Asked.{is_begun}
+use Rattle.qp_table.specs.Told.{HasPlace}
 use Rattle.qp_shared_lane.specs.declared.lane.LaneState.{LaneState}
 use Rattle.qp_shared_lane.specs.Lane.{state_view}
 use Rattle.qp_shared_lane.proofs.LawLemmas.{spare_gives_room, hands_stand}

@@ -26,12 +26,12 @@ use Rattle.qp_calls.specs.Clauses.{Makes, MakesMore, StandsFresh}
 use Rattle.qp_calls.specs.declared.tokens.Fresh.{Fresh}
 use Rattle.qp_calls.proofs.HandLemmas.{same-equal}
 use Rattle.qp_calls_log.specs.declared.log.Log.{Log}
-use Rattle.qp_shared_views.specs.Words.{mark_seen, shown_seen}
-use Rattle.qp_shared_views.specs.Lane.{lane_of, event_at, event_seen, tokens, tokens_in, has_content, is_read, told_as}
-use Rattle.qp_shared_views.specs.Telling.{Saw}
-use Rattle.qp_shared_views.proofs.Gaining.{mark-here, mark-was, mark-rises, shown-here}
-use Rattle.qp_shared_views.proofs.Hands.{tokens-out, refs-in, eq-turned}
-use Rattle.qp_shared_steps.specs.Told.{FirstTold, HasPlace}
+use Rattle.qp_table.specs.Words.{mark_seen, shown_seen}
+use Rattle.qp_table.specs.Lane.{lane_of, event_read, event_seen, tokens, tokens_in, has_content, is_read, told_as}
+use Rattle.qp_table.specs.Telling.{Saw}
+use Rattle.qp_table.proofs.Gaining.{mark-here, mark-was, mark-rises, shown-here}
+use Rattle.qp_table.proofs.Hands.{tokens-out, refs-in, eq-turned}
+use Rattle.qp_table.specs.Told.{FirstTold, HasPlace}
 use Rattle.qp_shared_lane.specs.declared.lane.LaneState.{LaneState}
 use Rattle.qp_shared_lane.specs.Holds.{LaneHolds, told_by, IsRead}
 use Rattle.qp_shared_lane.specs.Lane.{world_in, lane_with, state_view}
@@ -45,12 +45,12 @@ use Rattle.qp_shared_blocks.proofs.Parts.{still-same, placed-same, worn-same, he
 
 -- What was read, with one event more.
 
-event-more : (qs : List Content) (q : Content) (e : Entry) → list_any (λ (c : Content). is_entry e c.entry) qs ≡ true → event_at (qs ++ q ∷ []) e ≡ event_at qs e
+event-more : (qs : List Content) (q : Content) (e : Entry) → list_any (λ (c : Content). is_entry e c.entry) qs ≡ true → event_read (qs ++ q ∷ []) e ≡ event_read qs e
 event-more [] q e h = absurd (cc)
 event-more (x ∷ qs) q e h = go (is_entry e x.entry) h (event-more qs q e)
   where
-    go : (t : Bool) → (t || list_any (λ (c : Content). is_entry e c.entry) qs) ≡ true → (list_any (λ (c : Content). is_entry e c.entry) qs ≡ true → event_at (qs ++ q ∷ []) e ≡ event_at qs e)
-        → cond {A = Event} t (event_in x.event) (event_at (qs ++ q ∷ []) e) ≡ cond {A = Event} t (event_in x.event) (event_at qs e)
+    go : (t : Bool) → (t || list_any (λ (c : Content). is_entry e c.entry) qs) ≡ true → (list_any (λ (c : Content). is_entry e c.entry) qs ≡ true → event_read (qs ++ q ∷ []) e ≡ event_read qs e)
+        → cond {A = Event} t (event_in x.event) (event_read (qs ++ q ∷ []) e) ≡ cond {A = Event} t (event_in x.event) (event_read qs e)
     go true h r = refl
     go false h r = r h
 
@@ -65,7 +65,7 @@ seen-more : (qs : List Content) (q : Content) (e : Entry) → IsTrue (has_conten
 unfolding event_seen
 seen-more qs q e h = go (eqb e.pool 0) h
   where
-    go : (t : Bool) → (t || list_any (λ (c : Content). is_entry e c.entry) qs) ≡ true → cond {A = Event} t (record { sig = e.block; pars = [] }) (event_at (qs ++ q ∷ []) e) ≡ cond {A = Event} t (record { sig = e.block; pars = [] }) (event_at qs e)
+    go : (t : Bool) → (t || list_any (λ (c : Content). is_entry e c.entry) qs) ≡ true → cond {A = Event} t (record { sig = e.block; pars = [] }) (event_read (qs ++ q ∷ []) e) ≡ cond {A = Event} t (record { sig = e.block; pars = [] }) (event_read qs e)
     go true h = refl
     go false h = event-more qs q e h
 

@@ -16,7 +16,7 @@ use Rattle.qp_calls.specs.Tokens.{Token, hands_after, handles}
 use Rattle.qp_calls_log.specs.declared.log.Log.{Log}
 use Rattle.qp_calls_log.specs.LaneLaws.{TellsLog, told-items}
 use Rattle.qp_calls_log.proofs.NoteLemmas.{note-off, note-hands, note-handles}
-use Rattle.qp_shared_views.specs.Lane.{lane_of, told_as}
+use Rattle.qp_table.specs.Lane.{lane_of, told_as}
 use Rattle.qp_shared_lane.specs.declared.lane.LaneState.{LaneState}
 use Rattle.qp_shared_lane.specs.Holds.{LaneHolds, FormerIs}
 use Rattle.qp_shared_lane.specs.Lane.{world_in, lane_with, state_view}

@@ -14,9 +14,9 @@ use Rattle.qp_table.specs.declared.view.Glance.{Glance}
 use Rattle.qp_table.specs.declared.view.Content.{Content}
 use Rattle.qp_table.specs.declared.view.View.{View}
 use Rattle.qp_calls.specs.Tokens.{Token, Held, Loose, token_of}
-use Rattle.qp_shared_views.specs.Words.{mark_seen}
-use Rattle.qp_shared_views.specs.Lane.{tokens, has_content, is_read, event_seen}
-use Rattle.qp_shared_steps.specs.Asked.{is_unfinished, is_begun}
+use Rattle.qp_table.specs.Words.{mark_seen}
+use Rattle.qp_table.specs.Lane.{tokens, has_content, is_read, event_seen}
+use Rattle.qp_table.specs.Asked.{is_unfinished, is_begun}
 use Rattle.qp_shared_lane.specs.Holds.{IsRead, IsStill, IsPlaced, IsWorn, was_seen}
 use Rattle.qp_shared_lane.specs.More.{Grown}
 

@@ -9,8 +9,8 @@ use Rattle.qp_table.specs.After.{ref}
 use Rattle.qp_table.specs.declared.view.View.{View}
 use Rattle.qp_calls.specs.Clauses.{IsEvent}
 use Rattle.qp_calls.specs.Tokens.{Hold}
-use Rattle.qp_shared_views.specs.Lane.{lane_of, event_seen}
-use Rattle.qp_shared_steps.specs.Told.{ReadTold}
+use Rattle.qp_table.specs.Lane.{lane_of, event_seen}
+use Rattle.qp_table.specs.Told.{ReadTold}
 use Rattle.qp_shared_lane.specs.declared.lane.LaneState.{LaneState}
 use Rattle.qp_shared_lane.specs.Holds.{LaneHolds}
 use Rattle.qp_shared_lane.specs.Used.{HasEnds}

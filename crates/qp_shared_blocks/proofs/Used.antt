@@ -7,7 +7,7 @@ use Rattle.qp_table.specs.After.{spot}
 use Rattle.qp_table.specs.declared.view.Spot.{Spot}
 use Rattle.qp_table.specs.declared.view.View.{View}
 use Rattle.qp_table.proofs.Tokens.{at-some}
-use Rattle.qp_shared_steps.specs.Told.{DropTold, FirstTold, HasPlace}
+use Rattle.qp_table.specs.Told.{DropTold, FirstTold, HasPlace}
 use Rattle.qp_shared_loops.specs.declared.gives.Life.{Life}
 use Rattle.qp_shared_loops.specs.Ends.{GiveEnds}
 use Rattle.qp_shared_lane.specs.Used.{HasEnds}

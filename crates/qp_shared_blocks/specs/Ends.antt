@@ -2,7 +2,7 @@
 use Rattle.std.specs.Prelude.{ℕ, ◌+◌, ◌%◌, ◌^◌, ◌<◌}
 use Rattle.qp_model.specs.declared.systems.System.{System}
 use Rattle.qp_table.specs.declared.view.View.{View}
-use Rattle.qp_shared_steps.specs.Told.{BackTold, MoreTold}
+use Rattle.qp_table.specs.Told.{BackTold, MoreTold}
 
 -- a used block comes back, whose bit was not in the map
 abbrev pub ReturnTold : System → ℕ → ℕ → ℕ → ℕ → View → ℕ → View → Type 0

@@ -4,7 +4,7 @@ ghost use Rattle.std.specs.Prelude.{◌≡◌, ◌≤◌, ◌<◌};
 ghost use Rattle.std.specs.Option.{unwrap_or};
 ghost use Rattle.qp_model.specs.Record.{item_of};
 ghost use Rattle.qp_model.specs.declared.words.Word.TheVariants as word;
-ghost use Rattle.qp_calls.specs.Clauses.{FitsPool, Gives, Tries, draws_given, event_of, shortage_of};
+ghost use Rattle.qp_calls.specs.Clauses.{FitsPool, GivesBlock, Tries, draws_given, event_of, shortage_of};
 ghost use Rattle.qp_shared_lane.specs.Lane.{state_view};
 
 use qp_base::{Ev, Steps};
@@ -12,7 +12,7 @@ use qp_calls::{Fresh, Give};
 use qp_model::Rec;
 use qp_shared_lane::{LaneState, put};
 use qp_shared_loops::gives::{free_of, give_block};
-use qp_shared_views::UNIT;
+use qp_table::UNIT;
 use std::sync::ledger::Ledger;
 
 /// The record of too few free blocks.
@@ -37,7 +37,7 @@ pub fn give<L: Ledger>(
 ) -> Give
     requires room { 0 < (state_view lane.old).spare }
     requires fits { FitsPool (state_view lane.old).sys pool (event_of ev.now) }
-    ensures gives { Gives pool reserve (event_of ev.now) (state_view lane.old) (state_view lane.new) result }
+    ensures gives { GivesBlock pool reserve (event_of ev.now) (state_view lane.old) (state_view lane.new) result }
     ensures tries { Tries (word.Pool pool) (draws_given result)
         steps.old steps.new (state_view lane.old) (state_view lane.new) }
 {

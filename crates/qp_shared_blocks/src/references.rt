@@ -8,8 +8,8 @@ use crate::steps::another;
 use qp_calls::{Dec, Fresh, Hold};
 use qp_model::Rec;
 use qp_shared_lane::{LaneState, put};
-use qp_shared_views::UNIT;
 use qp_shared_words::blocks::{drop_reference, first_reference};
+use qp_table::UNIT;
 
 /// Makes the first reference to a block.
 pub fn first(lane: &mut LaneState<'_>, f: Fresh) -> Hold

@@ -8,7 +8,7 @@ use crate::steps::put_back;
 use qp_calls::Fresh;
 use qp_model::Rec;
 use qp_shared_lane::{LaneState, put};
-use qp_shared_views::UNIT;
+use qp_table::UNIT;
 
 /// Gives the block back. Its record states after how many operations its life ended, which the lane remembers since it dropped the last
 /// reference.

@@ -5,16 +5,15 @@ ghost use Rattle.std.specs.Prelude.{◌≡◌, ◌<◌};
 ghost use Rattle.qp_table.specs.Counting.{many};
 ghost use Rattle.qp_table.specs.Rule.{is_ref, is_spot_at};
 ghost use Rattle.qp_table.specs.After.{HasRoom};
-ghost use Rattle.qp_shared_steps.specs.Told.{HasPlace};
+ghost use Rattle.qp_table.specs.Told.{HasPlace};
 ghost use Rattle.qp_shared_blocks.specs.Ends.{AnotherTold, ReturnTold};
 
 use atomic_table::Seat;
-use qp_shared_views::UNIT;
 use qp_shared_words::Words;
 use qp_shared_words::blocks::bit_of;
 use qp_shared_words::places::{block_at, pool_at};
 use qp_shared_words::steps::{About, NOTHING, add};
-use qp_table::View;
+use qp_table::{UNIT, View};
 use std::marker::Brand;
 
 /// Puts back a used block, whose life ended at `at` operations, and answers the pool's word as it was.

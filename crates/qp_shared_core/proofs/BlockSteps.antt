@@ -12,20 +12,20 @@ use Rattle.qp_model.specs.declared.bodies.Body.TheVariants.{Back}
 use Rattle.qp_model.specs.declared.words.Word.TheVariants as word
 use Rattle.qp_model.specs.WordLaw.{is_block}
 use Rattle.qp_table.specs.Counting.{many, without}
-use Rattle.qp_table.specs.Rule.{pool_at, block_at, event_at, is_ref, is_spot, is_spot_at, is_value, fills_of, gives_of, Holds}
+use Rattle.qp_table.specs.Rule.{pool_at, block_at, event_word_at, is_ref, is_spot, is_spot_at, is_value, fills_of, gives_of, Holds}
 use Rattle.qp_table.specs.After.{HasRoom, rec_of, spot, ref}
-use Rattle.qp_table.specs.declared.view.Give.{Give}
+use Rattle.qp_table.specs.declared.view.PendingGive.{PendingGive}
 use Rattle.qp_table.specs.declared.view.Glance.{Glance}
 use Rattle.qp_table.specs.declared.view.Spot.{Spot}
 use Rattle.qp_table.specs.declared.view.View.{View}
 use Rattle.qp_table.proofs.Counting.{total-at}
 use Rattle.qp_table.proofs.Tokens.{fresh-alone, used-alone, standing, held-stands}
 use Rattle.qp_table.proofs.Steps.{inc-says, dec-says, back-says, block-below, x-count, y-is}
-use Rattle.qp_shared_steps.specs.Asked.{is_begun, is_asked, size_of as room_of}
-use Rattle.qp_shared_steps.specs.Told.{DropTold, FirstTold, MoreTold, BackTold, FromTold, FillTold, ReadTold}
-use Rattle.qp_core_seats.specs.Seats.{may_act, may_add, glance, noting}
-use Rattle.qp_core_seats.specs.Blocks.{added, number_in, bit_of, size_of, has_left, is_unfinished, asks_for, is_ref_to, is_done, has_ready, with_ref, without_ref}
-use Rattle.qp_core_seats.specs.declared.seats.Seat.{Seat}
+use Rattle.qp_table.specs.Asked.{is_begun, is_asked, size_of as room_of}
+use Rattle.qp_table.specs.Told.{DropTold, FirstTold, MoreTold, BackTold, FromTold, FillTold, ReadTold}
+use Rattle.qp_core_steps.specs.Seats.{may_act, may_add, glance, noting}
+use Rattle.qp_core_steps.specs.Blocks.{added, number_of_word, bit_of, size_of, has_left, is_unfinished, asks_for, is_ref_to, is_give_over, has_ready, with_ref, without_ref}
+use Rattle.qp_core_steps.specs.declared.seats.Seat.{Seat}
 use Rattle.qp_core_steps.specs.declared.ops.Op.TheVariants as op
 use Rattle.qp_shared_core.specs.CoreStep.{seat_of, IsCoreStep}
 use Rattle.qp_shared_core.proofs.Seating.{lt-of, le-of, many-any, none-any, any-then, if-list, same-number, size-is, acts, adds}
@@ -86,10 +86,10 @@ module _ (sys : System) (words : List ℕ) (views : List View) (holds : Holds sy
           let f = total-at (λ (z : View). many (is_spot p b) z.fresh) views id v at in let s3 = s.3 in absurd (omega arith)
 
   -- a give that was read is finished, where no word is left
-  done : (p b : ℕ) → many (fills_of p b) v.fills ≡ 0 → 0 < many (is_begun p b) v.gives → list_any (is_done v.fills p b) v.gives ≡ true
-  done p b written begun = any-then (is_begun p b) (is_done v.fills p b) finished v.gives (many-any (is_begun p b) v.gives begun)
+  done : (p b : ℕ) → many (fills_of p b) v.fills ≡ 0 → 0 < many (is_begun p b) v.gives → list_any (is_give_over v.fills p b) v.gives ≡ true
+  done p b written begun = any-then (is_begun p b) (is_give_over v.fills p b) finished v.gives (many-any (is_begun p b) v.gives begun)
     where
-      finished : (g : Give) → is_begun p b g ≡ true → is_done v.fills p b g ≡ true
+      finished : (g : PendingGive) → is_begun p b g ≡ true → is_give_over v.fills p b g ≡ true
       finished g h =
           let a = and_parts (gives_of p b g) g.read h in let c = and_parts (eqb g.pool p) (eqb g.block b) a.0 in
           let left : has_left v.fills g ≡ false = (λ i. list_any (fills_of (eqb-true g.pool p c.0 i) (eqb-true g.block b c.1 i)) v.fills) ∙ none-any (fills_of p b) v.fills written in
@@ -105,7 +105,7 @@ module _ (sys : System) (words : List ℕ) (views : List View) (holds : Holds sy
       let m : n + 4294967297 ≡ added n 4294967297 = sym (mod-eq_of_lt (omega arith)) in
       record {
         may = and_from (may_add 49 x && is_block sys p b) (list_any (is_ref_to p b) v.hands || has_ready x p b) (and_from (may_add 49 x) (is_block sys p b) (adds sys words views holds id v at o room) block)
-            (or_right (list_any (is_ref_to p b) v.hands) (has_ready x p b) (and_from (list_any (is_spot p b) v.fresh) (list_any (is_done v.fills p b) v.gives) (many-any (is_spot p b) v.fresh mine) (done p b written begun)));
+            (or_right (list_any (is_ref_to p b) v.hands) (has_ready x p b) (and_from (list_any (is_spot p b) v.fresh) (list_any (is_give_over v.fills p b) v.gives) (many-any (is_spot p b) v.fresh mine) (done p b written begun)));
         goes = (
           r,
           inc-says o p b (n / 4294967296),
@@ -153,7 +153,7 @@ module _ (sys : System) (words : List ℕ) (views : List View) (holds : Holds sy
       let bit : bit_of b ≡ 2 ^ b = bit-is b place.2 in
       let k_is : k ≡ 4294967296 + bit_of b = is ∙ ap (λ z. 4294967296 + z) (sym bit) in
       let wraps : n + k ≡ added n (4294967296 + bit_of b) = sym (mod-eq_of_lt (omega arith)) ∙ ap (added n) k_is in
-      let to : m ≡ number_in (get_or words (block_at p b) 0) = sym worn.1 ∙ sym (x-count sys words views holds id v at room o p b block) in
+      let to : m ≡ number_of_word (get_or words (block_at p b) 0) = sym worn.1 ∙ sym (x-count sys words views holds id v at room o p b block) in
       record {
         may = and_from (may_add 49 x && is_block sys p b) (list_any (is_spot p b) v.used) (and_from (may_add 49 x) (is_block sys p b) (adds sys words views holds id v at o room) block) some_used;
         goes = (
@@ -182,8 +182,8 @@ module _ (sys : System) (words : List ℕ) (views : List View) (holds : Holds sy
     goes = (set-get_or words (block_at p b) 0, ap (seat_of o) told.0);
   }
 
-  pub fill-is : (p b j n : ℕ) → 0 < many (is_value p b j n) v.fills → IsTrue (list_any (is_asked p b j n) v.gives) → (u : View) → FillTold p b j n v (get_or words (event_at p b j) 0) u
-      → IsCoreStep sys o (op.Fill p b j n) words v (set words (event_at p b j) n) u
+  pub fill-is : (p b j n : ℕ) → 0 < many (is_value p b j n) v.fills → IsTrue (list_any (is_asked p b j n) v.gives) → (u : View) → FillTold p b j n v (get_or words (event_word_at p b j) 0) u
+      → IsCoreStep sys o (op.Fill p b j n) words v (set words (event_word_at p b j) n) u
   fill-is p b j n left asked u told = record {
     may = and_from (may_act 49 x) (list_any (asks_for v.fills p b j n) v.gives) (acts sys words views holds id v at o) (any-then (is_asked p b j n) (asks_for v.fills p b j n) asks v.gives asked);
     goes = (refl, ap (seat_of o) told);
@@ -192,7 +192,7 @@ module _ (sys : System) (words : List ℕ) (views : List View) (holds : Holds sy
       filling : list_any (fills_of p b) v.fills ≡ true
       filling = any-then (is_value p b j n) (fills_of p b) (λ f h. (and_parts (fills_of p b f) (eqb f.place j) (and_parts (fills_of p b f && eqb f.place j) (eqb f.value n) h).0).0) v.fills (many-any (is_value p b j n) v.fills left)
 
-      asks : (g : Give) → is_asked p b j n g ≡ true → asks_for v.fills p b j n g ≡ true
+      asks : (g : PendingGive) → is_asked p b j n g ≡ true → asks_for v.fills p b j n g ≡ true
       asks g h =
           let a = and_parts (gives_of p b g && nat_lt j (length g.event)) (get_or g.event j 0 == n) h in let c = and_parts (gives_of p b g) (nat_lt j (length g.event)) a.0 in
           let d = and_parts (eqb g.pool p) (eqb g.block b) c.0 in
@@ -200,12 +200,12 @@ module _ (sys : System) (words : List ℕ) (views : List View) (holds : Holds sy
           and_from ((gives_of p b g && is_unfinished v.fills g) && nat_lt j (length g.event)) (get_or g.event j 0 == n)
           (and_from (gives_of p b g && is_unfinished v.fills g) (nat_lt j (length g.event)) (and_from (gives_of p b g) (is_unfinished v.fills g) c.0 (or_right (not g.read) (has_left v.fills g) there)) c.1) a.1
 
-  pub read-is : (p b k j : ℕ) → 0 < p → 0 < many (is_ref p b k) v.hands → j ≤ room_of sys p → (u : View) → ReadTold sys p b k j v (get_or words (event_at p b j) 0) u
-      → IsCoreStep sys o (op.Read p b j) words v (set words (event_at p b j) (get_or words (event_at p b j) 0)) u
+  pub read-is : (p b k j : ℕ) → 0 < p → 0 < many (is_ref p b k) v.hands → j ≤ room_of sys p → (u : View) → ReadTold sys p b k j v (get_or words (event_word_at p b j) 0) u
+      → IsCoreStep sys o (op.Read p b j) words v (set words (event_word_at p b j) (get_or words (event_word_at p b j) 0)) u
   read-is p b k j pos mine inside u told =
       let stands = standing sys views holds.now id v at holds.tokens p b k (held-stands sys views holds.now id v at holds.tokens p b k pos mine) in
       let size = size-is sys p in
       record {
         may = and_from (is_block sys p b && list_any (is_ref_to p b) v.hands) (nat_le j (size_of sys p)) (and_from (is_block sys p b) (list_any (is_ref_to p b) v.hands) stands.0 (ref-to p b k v.hands mine)) (le-of j (size_of sys p) (omega arith));
-        goes = (set-get_or words (event_at p b j) 0, ap (seat_of o) told.0);
+        goes = (set-get_or words (event_word_at p b j) 0, ap (seat_of o) told.0);
       }

@@ -28,14 +28,14 @@ use Rattle.qp_table.proofs.Counting.{total-at, many-snoc}
 use Rattle.qp_table.proofs.Bounds.{Ascends, pool-ascends, pool-count, map-small, refs-count}
 use Rattle.qp_table.proofs.Steps.{new-says}
 use Rattle.qp_table.proofs.Looks.{short-says, no_block-says}
-use Rattle.qp_shared_steps.specs.Asked.{is_unfinished, size_of as room_of}
-use Rattle.qp_shared_steps.specs.Told.{EyePoolTold, GiveTold, IsLowest, free_of, shortage_rec}
-use Rattle.qp_shared_steps.proofs.Found.{get-set}
-use Rattle.qp_shared_steps.proofs.Maps.{ones-length, give-map}
-use Rattle.qp_core_seats.specs.Seats.{may_add, glance, noting}
-use Rattle.qp_core_seats.specs.Blocks.{added, number_in, low_in, lowest, bit_of, size_of, fits, with_give}
-use Rattle.qp_core_seats.specs.declared.seats.Seat.{Seat}
-use Rattle.qp_core_seats.proofs.BlockLemmas.{lowest-first}
+use Rattle.qp_table.specs.Asked.{is_unfinished, size_of as room_of}
+use Rattle.qp_table.specs.Told.{EyePoolTold, GiveTold, IsLowest, free_of, shortage_rec}
+use Rattle.qp_table.proofs.Found.{get-set}
+use Rattle.qp_table.proofs.Maps.{ones-length, give-map}
+use Rattle.qp_core_steps.specs.Seats.{may_add, glance, noting}
+use Rattle.qp_core_steps.specs.Blocks.{added, number_of_word, low_in, lowest, bit_of, size_of, fits, with_give}
+use Rattle.qp_core_steps.specs.declared.seats.Seat.{Seat}
+use Rattle.qp_core_steps.proofs.BlockLemmas.{lowest-first}
 use Rattle.qp_core_steps.specs.Looks.{ones, states_pool, states}
 use Rattle.qp_core_steps.specs.declared.ops.Op.TheVariants as op
 use Rattle.qp_core_steps.proofs.LookLemmas.{ones-length as core-ones}
@@ -152,7 +152,7 @@ module _ (sys : System) (words : List ℕ) (views : List View) (holds : Holds sy
       block = and_from (is_pool sys p) (nat_lt b (blocks_of sys p)) pool (lt-of b (blocks_of sys p) map.1)
 
       -- the block's word, which stays, shows where the life begins
-      from-here : from ≡ number_in (get_or words (block_at p b) 0)
+      from-here : from ≡ number_of_word (get_or words (block_at p b) 0)
       from-here =
           let there : get_elem? (set views id u) id ≡ some u = get-set views id v u at in
           let t = total-at (λ (z : View). many (is_spot_at p b from) z.fresh) (set views id u) id u there in
@@ -165,8 +165,8 @@ module _ (sys : System) (words : List ℕ) (views : List View) (holds : Holds sy
           let stays : get_or (set words (pool_at p) new) (block_at p b) 0 ≡ get_or words (block_at p b) 0 = get_or-set_other words (pool_at p) (block_at p b) new 0 (λ e. absurd (omega arith)) in
           omega arith
 
-      from-is : from ≡ number_in (get_or words (block_at p c) 0)
-      from-is = from-here ∙ ap (λ k. number_in (get_or words (block_at p k) 0)) first-is
+      from-is : from ≡ number_of_word (get_or words (block_at p c) 0)
+      from-is = from-here ∙ ap (λ k. number_of_word (get_or words (block_at p k) 0)) first-is
 
       given : IsCoreStep sys o (op.Give p ev) words v (set words (pool_at p) new) u
       given = record {

@@ -24,7 +24,7 @@ use Rattle.qp_table.specs.Rule.{queue_at, cell_at, mark_in, is_ref, is_place, on
 use Rattle.qp_table.specs.After.{HasRoom, InHand, rec_of, place, bump, glanced, noted, laid, learned}
 use Rattle.qp_table.specs.QueueLaws.{f_in, l_in, m_in, cells_of, front_cell}
 use Rattle.qp_table.specs.declared.view.CellPlace.{CellPlace}
-use Rattle.qp_table.specs.declared.view.Log.{Log}
+use Rattle.qp_table.specs.declared.view.SeatLog.{SeatLog}
 use Rattle.qp_table.specs.declared.view.Serve.{Serve}
 use Rattle.qp_table.specs.declared.view.View.{View}
 use Rattle.qp_table.proofs.Counting.{total-at}
@@ -32,12 +32,12 @@ use Rattle.qp_table.proofs.Marks.{high-mark, own-counts, first-small, line-shows
 use Rattle.qp_table.proofs.Tokens.{standing, held-stands}
 use Rattle.qp_table.proofs.QueueSteps.{post-says, lifo-says, took-says}
 use Rattle.qp_table.proofs.Looks.{seen-says, nil-says, full-says, no_entry-says, no_lifo-says}
-use Rattle.qp_shared_views.proofs.Own.{served-own}
-use Rattle.qp_shared_steps.specs.Asked.{older, oldest, IsOldest}
-use Rattle.qp_shared_steps.specs.Told.{SeenTold, NilTold, nil_rec, free_in, refusal_rec, EyeTold, TryTold, claimed_at, SwapTold, freed, FreeTold, EyeLastTold, LastTold, put_first_at, before_front}
-use Rattle.qp_core_seats.specs.Seats.{may_act, may_add, glance, noting}
-use Rattle.qp_core_seats.specs.Blocks.{added}
-use Rattle.qp_core_seats.specs.declared.seats.Seat.{Seat}
+use Rattle.qp_table.proofs.Own.{served-own}
+use Rattle.qp_table.specs.Asked.{older, oldest, IsOldest}
+use Rattle.qp_table.specs.Told.{SeenTold, NilTold, nil_rec, free_in, refusal_rec, EyeTold, TryTold, claimed_at, SwapTold, freed, FreeTold, EyeLastTold, LastTold, put_first_at, before_front}
+use Rattle.qp_core_steps.specs.Seats.{may_act, may_add, glance, noting}
+use Rattle.qp_core_steps.specs.Blocks.{added}
+use Rattle.qp_core_steps.specs.declared.seats.Seat.{Seat}
 use Rattle.qp_core_steps.specs.Looks.{counts_match, entries_in, states_queue, states}
 use Rattle.qp_core_steps.specs.Queues.{entry_for, in_hand, has_room, count_in, serves_it, bumped, with_claim, with_lifo, without_take, older as core_older, oldest as core_oldest, is_claimed, front_at, before_at, entry_in, front_cell_of}
 use Rattle.qp_core_steps.specs.declared.ops.Op.{Op}
@@ -60,7 +60,7 @@ oldest-same : (a : ℕ) (xs : List CellPlace) → oldest a xs ≡ core_oldest a 
 oldest-same a [] = refl
 oldest-same a (x ∷ xs) = λ i. cond {A = Option CellPlace} (eqb x.queue a) (Some ((older-same x (oldest a xs) ∙ ap (core_older x) (oldest-same a xs)) i)) (oldest-same a xs i)
 
-bump-same : (now : Now) (logs : List Log) (a l m : ℕ) (xs : List Serve) → l + m ≤ 1 → Each (Served now logs) xs → bumped a l m xs ≡ bump a l m xs
+bump-same : (now : Now) (logs : List SeatLog) (a l m : ℕ) (xs : List Serve) → l + m ≤ 1 → Each (Served now logs) xs → bumped a l m xs ≡ bump a l m xs
 bump-same now logs a l m [] le e = refl
 bump-same now logs a l m (x ∷ xs) le e =
     let f = e.0.few in let p : added x.lifos l ≡ x.lifos + l = mod-eq_of_lt (omega arith) in let q : added x.takes m ≡ x.takes + m = mod-eq_of_lt (omega arith) in

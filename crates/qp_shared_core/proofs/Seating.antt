@@ -14,12 +14,12 @@ use Rattle.qp_model.specs.Parts.{sizes_of}
 use Rattle.qp_table.specs.Counting.{Each, total, many}
 use Rattle.qp_table.specs.Rule.{Holds}
 use Rattle.qp_table.specs.After.{HasRoom, logged}
-use Rattle.qp_table.specs.declared.view.Log.{Log}
+use Rattle.qp_table.specs.declared.view.SeatLog.{SeatLog}
 use Rattle.qp_table.specs.declared.view.View.{View}
-use Rattle.qp_core_seats.specs.Seats.{may_act, may_add}
-use Rattle.qp_core_seats.specs.Blocks.{size_of}
-use Rattle.qp_shared_steps.specs.Asked.{size_of as room_of}
-use Rattle.qp_shared_views.specs.Lane.{first_number}
+use Rattle.qp_core_steps.specs.Seats.{may_act, may_add}
+use Rattle.qp_core_steps.specs.Blocks.{size_of}
+use Rattle.qp_table.specs.Asked.{size_of as room_of}
+use Rattle.qp_table.specs.Lane.{first_number}
 use Rattle.qp_shared_core.specs.CoreStep.{seat_of}
 
 pub lt-of : (x y : ℕ) → x < y → nat_lt x y ≡ true
@@ -65,7 +65,7 @@ module _ {A : Type 0} where
   if-list true xs x = refl
   if-list false xs x = sym (append-nil xs)
 
-pub same-number : (r : Rec) (logs : List Log) → first_number (logged r logs) ≡ first_number logs
+pub same-number : (r : Rec) (logs : List SeatLog) → first_number (logged r logs) ≡ first_number logs
 same-number r [] = refl
 same-number r (g ∷ gs) = refl
 
@@ -87,7 +87,7 @@ module _ (sys : System) (words : List ℕ) (views : List View) (holds : Holds sy
   below : first_number v.logs < 49
   below = let c = holds.logs.count in go v.logs (holds.logs.own id v at)
     where
-      go : (logs : List Log) → Each (λ (g : Log). get_elem? holds.lanes g.number ≡ some g.recs) logs → first_number logs < 49
+      go : (logs : List SeatLog) → Each (λ (g : SeatLog). get_elem? holds.lanes g.number ≡ some g.recs) logs → first_number logs < 49
       go [] e = omega arith
       go (g ∷ gs) e = let w = within holds.lanes g.number g.recs e.0 in let c = holds.logs.count in omega arith
 
@@ -95,4 +95,4 @@ module _ (sys : System) (words : List ℕ) (views : List View) (holds : Holds sy
   acts = lt-of (first_number v.logs) 49 below
 
   pub adds : HasRoom v → may_add 49 (seat_of o v) ≡ true
-  adds room = and_from (nat_lt (first_number v.logs) 49) (nat_lt (total (λ (g : Log). length g.recs) v.logs) 1000001) (lt-of (first_number v.logs) 49 below) (lt-of (total (λ (g : Log). length g.recs) v.logs) 1000001 room.room)
+  adds room = and_from (nat_lt (first_number v.logs) 49) (nat_lt (total (λ (g : SeatLog). length g.recs) v.logs) 1000001) (lt-of (first_number v.logs) 49 below) (lt-of (total (λ (g : SeatLog). length g.recs) v.logs) 1000001 room.room)

@@ -5,10 +5,10 @@ use lib.ListN.{get_elem?}
 use Rattle.qp_model.specs.declared.systems.System.{System}
 use Rattle.qp_table.specs.Rule.{Holds}
 use Rattle.qp_table.specs.declared.view.View.{View}
-use Rattle.qp_core_seats.specs.declared.seats.Seat.{Seat}
+use Rattle.qp_core_steps.specs.declared.seats.Seat.{Seat}
 use Rattle.qp_core_steps.specs.declared.ops.Op.{Op}
 use Rattle.qp_core_steps.specs.Steps.{may_step, Steps_one}
-use Rattle.qp_shared_views.specs.Lane.{first_number}
+use Rattle.qp_table.specs.Lane.{first_number}
 
 -- a lane's view as a seat of the core, which adds records for object o: without the events that it read and the lane numbers that it may hand out
 abbrev pub seat_of : ℕ → View → Seat

@@ -1,4 +1,4 @@
--- Each step of a running lane is one of the core, whatever the other lanes are. Its conditions are those of its law in qp_shared_steps.
+-- Each step of a running lane is one of the core, whatever the other lanes are. Its conditions are those of its law in qp_table.
 use Rattle.std.specs.Prelude.{◌≡◌, ℕ, ◌+◌, ◌%◌, ◌^◌, ◌<◌, ◌≤◌, eqb, Bool, [], ◌∷◌, length, IsTrue, IsFalse, Some, None}
 use Rattle.std.specs.declared.option.Option.{Option}
 use Rattle.std.specs.List.{list_any}
@@ -11,13 +11,13 @@ use Rattle.qp_model.specs.declared.words.Word.TheVariants as word
 use Rattle.qp_model.specs.Sites.{ring_of}
 use Rattle.qp_model.specs.WordLaw.{is_pool, is_object}
 use Rattle.qp_table.specs.Counting.{many}
-use Rattle.qp_table.specs.Rule.{pool_at, block_at, event_at, queue_at, cell_at, is_ref, is_spot, is_spot_at, is_value, fills_of, is_place, on_queue, is_serve, is_lifo, is_took, records, code, IsContent}
+use Rattle.qp_table.specs.Rule.{pool_at, block_at, event_word_at, queue_at, cell_at, is_ref, is_spot, is_spot_at, is_value, fills_of, is_place, on_queue, is_serve, is_lifo, is_took, records, code, IsContent}
 use Rattle.qp_table.specs.After.{HasRoom, InHand, rec_of}
 use Rattle.qp_table.specs.QueueLaws.{f_in, l_in, m_in, cells_of, front_cell}
 use Rattle.qp_table.specs.declared.view.View.{View}
 use Rattle.qp_core_steps.specs.declared.ops.Op.TheVariants as op
-use Rattle.qp_shared_steps.specs.Asked.{size_of, is_unfinished, is_begun, is_asked, IsOldest}
-use Rattle.qp_shared_steps.specs.Told.{ReadTold, EyePoolTold, IsLowest, GiveTold, DropTold, FirstTold, MoreTold, BackTold, FromTold, FillTold, LookTold, SeenTold, NilTold, free_in, EyeTold, TryTold, LayTold, SwapTold, FreeTold, EyeLastTold, LastTold}
+use Rattle.qp_table.specs.Asked.{size_of, is_unfinished, is_begun, is_asked, IsOldest}
+use Rattle.qp_table.specs.Told.{ReadTold, EyePoolTold, IsLowest, GiveTold, DropTold, FirstTold, MoreTold, BackTold, FromTold, FillTold, LookTold, SeenTold, NilTold, free_in, EyeTold, TryTold, LayTold, SwapTold, FreeTold, EyeLastTold, LastTold}
 use Rattle.qp_shared_core.specs.CoreStep.{AreCore}
 use Rattle.qp_shared_core.specs.Ops.{look_at_pool, give_or_look, look_for_take, look_for_post, claim_or_look, look_for_last, last_or_look, empty_or_peek}
 
@@ -41,11 +41,11 @@ abbrev pub BeginningsAreCore : Type 0
 BeginningsAreCore = (sys : System) (o : ℕ) (v : View) (p b m : ℕ) → AreCore sys o v (block_at p b) (λ n. n) (λ n. op.Look (word.Block p b) None) (FromTold sys p b m v)
 
 abbrev pub FillsAreCore : Type 0
-FillsAreCore = (sys : System) (o : ℕ) (v : View) (p b j x : ℕ) → 0 < many (is_value p b j x) v.fills → IsTrue (list_any (is_asked p b j x) v.gives) → AreCore sys o v (event_at p b j) (λ n. x) (λ n. op.Fill p b j x) (FillTold p b j x v)
+FillsAreCore = (sys : System) (o : ℕ) (v : View) (p b j x : ℕ) → 0 < many (is_value p b j x) v.fills → IsTrue (list_any (is_asked p b j x) v.gives) → AreCore sys o v (event_word_at p b j) (λ n. x) (λ n. op.Fill p b j x) (FillTold p b j x v)
 
 -- at a place that the pool's blocks have
 abbrev pub ReadsAreCore : Type 0
-ReadsAreCore = (sys : System) (o : ℕ) (v : View) (p b k j : ℕ) → 0 < p → 0 < many (is_ref p b k) v.hands → j ≤ size_of sys p → AreCore sys o v (event_at p b j) (λ n. n) (λ n. op.Read p b j) (ReadTold sys p b k j v)
+ReadsAreCore = (sys : System) (o : ℕ) (v : View) (p b k j : ℕ) → 0 < p → 0 < many (is_ref p b k) v.hands → j ≤ size_of sys p → AreCore sys o v (event_word_at p b j) (λ n. n) (λ n. op.Read p b j) (ReadTold sys p b k j v)
 
 -- Pools.
 

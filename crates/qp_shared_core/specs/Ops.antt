@@ -13,7 +13,7 @@ use Rattle.qp_table.specs.After.{rec_of}
 use Rattle.qp_table.specs.QueueLaws.{f_in, l_in, m_in}
 use Rattle.qp_core_steps.specs.declared.ops.Op.{Op}
 use Rattle.qp_core_steps.specs.declared.ops.Op.TheVariants as op
-use Rattle.qp_shared_steps.specs.Told.{free_of, shortage_rec, nil_rec, free_in, refusal_rec}
+use Rattle.qp_table.specs.Told.{free_of, shortage_rec, nil_rec, free_in, refusal_rec}
 
 -- a look, with the record where there is one
 abbrev pub look_with : Word → Bool → Rec → Op

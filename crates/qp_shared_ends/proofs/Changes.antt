@@ -19,7 +19,7 @@ use Rattle.qp_model.specs.Subscribers.{Subscribers, subscribers, subscribers_nex
 use Rattle.qp_model.proofs.ListLemmas.{all_below_at}
 use Rattle.qp_model.proofs.HistoryLemmas.{drawn_as-on, filtered-pass, same_word-refl}
 use Rattle.qp_table.proofs.Bounds.{has-without}
-use Rattle.qp_side_words.specs.Rule.{member_by_body, member_by}
+use Rattle.qp_side.specs.Rule.{member_by_body, member_by}
 use Rattle.qp_shared_lane.specs.Holds.{member_over}
 
 -- the record changes whether object o subscribes to signal s

@@ -20,7 +20,7 @@ use Rattle.qp_model.specs.Machine.{after, after_from}
 use Rattle.qp_model.specs.References.{Refs, references}
 use Rattle.qp_model.specs.Lives.{Life, life_of, life_next}
 use Rattle.qp_model.specs.Line.{Line}
-use Rattle.qp_model.specs.Knowing.{last_given, event_of, life_event}
+use Rattle.qp_model.specs.Knowing.{last_given, event_of_entry, life_event}
 use Rattle.qp_model.specs.Parts.{is_static}
 use Rattle.qp_model.specs.WordLaw.{is_block, is_object}
 use Rattle.qp_model.proofs.MachineLemmas.{count-after}
@@ -37,8 +37,8 @@ use Rattle.qp_table.specs.declared.view.View.{View}
 use Rattle.qp_table.proofs.Bounds.{refs-named}
 use Rattle.qp_table.proofs.Tokens.{fresh-alone, used-alone, standing, held-stands, above-at}
 use Rattle.qp_table.proofs.Growth.{tracks-first}
-use Rattle.qp_shared_ends.specs.Lanes.{recs_of}
-use Rattle.qp_shared_seats.specs.End.{AtEnd}
+use Rattle.qp_shared_ends.specs.Lanes.{lanes_recs}
+use Rattle.qp_shared_ends.specs.SeatEnd.{AtEnd}
 use Rattle.qp_shared_ends.specs.End.{AreHands}
 use Rattle.qp_shared_ends.proofs.Histories.{refs-is, line-is, edge-is, free-is, content-is, block-hist}
 use Rattle.qp_shared_ends.proofs.Sounding.{not-out}
@@ -106,7 +106,7 @@ upto-at (suc n) a f l = dite (ℕ_discrete a n)
     (λ e. let z = ap f e in omega arith)
     (λ ne. let r = upto-at n a f (omega arith) in omega arith)
 
-module _ (sys : System) (v : View) (end : AtEnd sys v) (js : List (List Rec)) (thin : Thins (λ i. on_table (touch i)) js (recs_of v.logs)) where
+module _ (sys : System) (v : View) (end : AtEnd sys v) (js : List (List Rec)) (thin : Thins (λ i. on_table (touch i)) js (lanes_recs v.logs)) where
   abbrev h : Holds sys end.words end.views
   h = end.holds
 
@@ -123,7 +123,7 @@ module _ (sys : System) (v : View) (end : AtEnd sys v) (js : List (List Rec)) (t
     tracks r out low = tracks-first b r (hist (word.Pool p) (all_items js)) out low
 
     pub event-in : EventIn sys js p b
-    unfolding event_of life_event
+    unfolding event_of_entry life_event
     event-in = record {
       good = λ out. let g = is-given out in
           subst (λ e. option_map_or (is_event sys) e false ≡ true) (sym g.3) (event-good sys g.0 g.1 (subst (HasEvent sys) g.2 (h.events.event p b block)));

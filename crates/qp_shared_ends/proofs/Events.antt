@@ -11,7 +11,7 @@ use Rattle.qp_model.specs.declared.bodies.Entry.{Entry}
 use Rattle.qp_model.specs.declared.words.Word.TheVariants as word
 use Rattle.qp_model.specs.Told.{Event}
 use Rattle.qp_model.specs.History.{touch, hist, all_items}
-use Rattle.qp_model.specs.Knowing.{last_given, life_event, event_of}
+use Rattle.qp_model.specs.Knowing.{last_given, life_event, event_of_entry}
 use Rattle.qp_model.specs.References.{Refs, references}
 use Rattle.qp_model.specs.WordLaw.{is_block}
 use Rattle.qp_model.proofs.MachineLemmas.{count-after}
@@ -23,15 +23,15 @@ use Rattle.qp_table.specs.Rule.{is_entry, event_in, IsKnown, Holds}
 use Rattle.qp_table.specs.declared.view.Content.{Content}
 use Rattle.qp_table.specs.declared.view.View.{View}
 use Rattle.qp_table.proofs.Steps.{pool-of}
-use Rattle.qp_shared_views.specs.Lane.{event_at, event_seen, has_content}
-use Rattle.qp_shared_ends.specs.Lanes.{recs_of}
-use Rattle.qp_shared_seats.specs.End.{AtEnd}
+use Rattle.qp_table.specs.Lane.{event_read, event_seen, has_content}
+use Rattle.qp_shared_ends.specs.Lanes.{lanes_recs}
+use Rattle.qp_shared_ends.specs.SeatEnd.{AtEnd}
 use Rattle.qp_shared_ends.proofs.Histories.{pool-hist, block-hist}
 
 lt-true : (a b : ℕ) → a < b → nat_lt a b ≡ true
 lt-true a b l = grind (arith, nat_tests)
 
-module _ (sys : System) (v : View) (end : AtEnd sys v) (js : List (List Rec)) (thin : Thins (λ i. on_table (touch i)) js (recs_of v.logs)) where
+module _ (sys : System) (v : View) (end : AtEnd sys v) (js : List (List Rec)) (thin : Thins (λ i. on_table (touch i)) js (lanes_recs v.logs)) where
   abbrev h : Holds sys end.words end.views
   h = end.holds
 
@@ -52,20 +52,20 @@ module _ (sys : System) (v : View) (end : AtEnd sys v) (js : List (List Rec)) (t
   entry-is e q t = let a = and_parts (eqb q.entry.pool e.pool && eqb q.entry.block e.block) (eqb q.entry.name e.name) t in let b = and_parts (eqb q.entry.pool e.pool) (eqb q.entry.block e.block) a.0 in
       λ i. record { pool = eqb-true q.entry.pool e.pool b.0 i; block = eqb-true q.entry.block e.block b.1 i; name = eqb-true q.entry.name e.name a.1 i }
 
-  contents-is : (e : Entry) (qs : List Content) → 0 < e.pool → Each (IsKnown sys h.lanes h.now) qs → list_any (λ (q : Content). is_entry e q.entry) qs ≡ true → life_event (facts_in sys js) e.pool e.block e.name ≡ Some (event_at qs e)
+  contents-is : (e : Entry) (qs : List Content) → 0 < e.pool → Each (IsKnown sys h.lanes h.now) qs → list_any (λ (q : Content). is_entry e q.entry) qs ≡ true → life_event (facts_in sys js) e.pool e.block e.name ≡ Some (event_read qs e)
   contents-is e [] pos known there = absurd (cc)
   contents-is e (q ∷ qs) pos known there = go (is_entry e q.entry) refl there (λ k. contents-is e qs pos known.1 k)
     where
-      go : (t : Bool) → is_entry e q.entry ≡ t → (t || list_any (λ (q : Content). is_entry e q.entry) qs) ≡ true → (list_any (λ (q : Content). is_entry e q.entry) qs ≡ true → life_event (facts_in sys js) e.pool e.block e.name ≡ Some (event_at qs e))
-          → life_event (facts_in sys js) e.pool e.block e.name ≡ Some (cond {A = Event} t (event_in q.event) (event_at qs e))
+      go : (t : Bool) → is_entry e q.entry ≡ t → (t || list_any (λ (q : Content). is_entry e q.entry) qs) ≡ true → (list_any (λ (q : Content). is_entry e q.entry) qs ≡ true → life_event (facts_in sys js) e.pool e.block e.name ≡ Some (event_read qs e))
+          → life_event (facts_in sys js) e.pool e.block e.name ≡ Some (cond {A = Event} t (event_in q.event) (event_read qs e))
       go true is k r = life-is e q pos (entry-is e q is) known.0
       go false is k r = r k
 
-  pub event-read : (qs : List Content) → Each (IsKnown sys h.lanes h.now) qs → (e : Entry) → has_content qs e ≡ true → event_of (facts_in sys js) e ≡ Some (event_seen qs e)
-  unfolding event_of event_seen
+  pub event-read : (qs : List Content) → Each (IsKnown sys h.lanes h.now) qs → (e : Entry) → has_content qs e ≡ true → event_of_entry (facts_in sys js) e ≡ Some (event_seen qs e)
+  unfolding event_of_entry event_seen
   event-read qs known e there = go (eqb e.pool 0) refl there
     where
       go : (t : Bool) → eqb e.pool 0 ≡ t → (t || list_any (λ (q : Content). is_entry e q.entry) qs) ≡ true
-          → (if t then Some (record { sig = e.block; pars = [] }) else life_event (facts_in sys js) e.pool e.block e.name) ≡ Some (cond {A = Event} t (record { sig = e.block; pars = [] }) (event_at qs e))
+          → (if t then Some (record { sig = e.block; pars = [] }) else life_event (facts_in sys js) e.pool e.block e.name) ≡ Some (cond {A = Event} t (record { sig = e.block; pars = [] }) (event_read qs e))
       go true is k = refl
       go false is k = contents-is e qs (dite (ℕ_discrete e.pool 0) (λ z. let y = sym is ∙ eq-eqb e.pool 0 z in absurd (cc)) (λ ne. omega arith)) known k

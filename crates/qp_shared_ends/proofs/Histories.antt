@@ -19,7 +19,7 @@ use Rattle.qp_model.specs.Lives.{life_of}
 use Rattle.qp_model.specs.Sites.{ring_of, blocks_of}
 use Rattle.qp_model.specs.WordLaw.{Words, is_pool, is_block, is_object}
 use Rattle.qp_model.proofs.LifeLemmas.{free-out}
-use Rattle.qp_model_lanes.proofs.Orders.{words-ordered, words-emptied, hist-ordered}
+use Rattle.qp_model_order.proofs.Orders.{words-ordered, words-emptied, hist-ordered}
 use Rattle.qp_plain_sound.specs.WordStates.{pool_in, life_in, refs_in, line_in}
 use Rattle.qp_table.specs.Counting.{total, many}
 use Rattle.qp_table.specs.TwoTables.{on_table, on_side, Thins, SideWords}
@@ -30,8 +30,8 @@ use Rattle.qp_table.proofs.Counting.{alone-total, many-le}
 use Rattle.qp_table.proofs.Views.{total-two}
 use Rattle.qp_table.proofs.Steps.{pool-of}
 use Rattle.qp_table.proofs.Thin.{hist-thins, words-joined}
-use Rattle.qp_port_quiet.specs.Sealed.{is_on_table}
-use Rattle.qp_shared_ends.specs.Lanes.{recs_of}
+use Rattle.qp_port_law.specs.Sealed.{is_on_table}
+use Rattle.qp_shared_ends.specs.Lanes.{lanes_recs}
 use Rattle.qp_shared_ends.proofs.Ordering.{lanes-ordered, empties}
 
 -- a record that isn't of the table touches no word of it
@@ -98,13 +98,13 @@ module _ (sys : System) (words : List ℕ) (views : List View) (holds : Holds sy
   numbers-alone : (n : ℕ) → total (λ (z : View). many (is_number n) z.lane_numbers) views ≡ many (is_number n) v.lane_numbers
   numbers-alone n = alone-total (λ (z : View). many (is_number n) z.lane_numbers) views id v at_id (λ j z ne there. let r = no-rights j z ne there in let l = many-le (is_number n) z.lane_numbers in omega arith)
 
-  order : (k : ℕ) × IsPermutation (recs_of v.logs ++ replicate k []) holds.lanes
+  order : (k : ℕ) × IsPermutation (lanes_recs v.logs ++ replicate k []) holds.lanes
   order = let count = holds.logs.count in lanes-ordered holds.lanes v.logs v.lane_numbers (holds.logs.own id v at_id)
       (λ n l. let a = logs-alone n in let b = numbers-alone n in let o = holds.logs.once n (omega arith) in omega arith)
       (λ n l mine. holds.logs.later n (omega arith) (let b = numbers-alone n in omega arith))
 
   -- and lanes whose records of the event table are those of its logs
-  module _ (js : List (List Rec)) (thin : Thins (λ i. on_table (touch i)) js (recs_of v.logs)) where
+  module _ (js : List (List Rec)) (thin : Thins (λ i. on_table (touch i)) js (lanes_recs v.logs)) where
     abbrev items : List Item
     items = all_items js
 
@@ -113,13 +113,13 @@ module _ (sys : System) (words : List ℕ) (views : List View) (holds : Holds sy
 
     pub hist-same : (w : Word) → is_on_table w ≡ true → is_numbered w past ≡ true → hist w items ≡ hist w past
     hist-same w on numbers = let o = order in
-        sym (hist-thins w (λ i. on_table (touch i)) (λ i e. covered w on (touch i) e) js (recs_of v.logs) thin)
-        ∙ (ap (hist w) (sym (empties (recs_of v.logs) o.0))
-        ∙ hist-ordered holds.lanes (recs_of v.logs ++ replicate o.0 []) (IsPermutation-sym (recs_of v.logs ++ replicate o.0 []) holds.lanes o.1) w numbers)
+        sym (hist-thins w (λ i. on_table (touch i)) (λ i e. covered w on (touch i) e) js (lanes_recs v.logs) thin)
+        ∙ (ap (hist w) (sym (empties (lanes_recs v.logs) o.0))
+        ∙ hist-ordered holds.lanes (lanes_recs v.logs ++ replicate o.0 []) (IsPermutation-sym (lanes_recs v.logs ++ replicate o.0 []) holds.lanes o.1) w numbers)
 
     pub words-whole : (side : List (List Rec)) → Thins (λ i. on_side (touch i)) js side → SideWords sys side → Words sys js
-    words-whole side beside law = let o = order in words-joined sys js (recs_of v.logs) side thin beside
-        (words-bare sys (recs_of v.logs) o.0 (words-ordered sys holds.lanes (recs_of v.logs ++ replicate o.0 []) (IsPermutation-sym (recs_of v.logs ++ replicate o.0 []) holds.lanes o.1) holds.leaves.law)) law
+    words-whole side beside law = let o = order in words-joined sys js (lanes_recs v.logs) side thin beside
+        (words-bare sys (lanes_recs v.logs) o.0 (words-ordered sys holds.lanes (lanes_recs v.logs ++ replicate o.0 []) (IsPermutation-sym (lanes_recs v.logs ++ replicate o.0 []) holds.lanes o.1) holds.leaves.law)) law
 
     pub pool-hist : (p : ℕ) → IsTrue (is_pool sys p) → hist (word.Pool p) items ≡ hist (word.Pool p) past
     pool-hist p h = hist-same (word.Pool p) refl (holds.leaves.law.pools p h).numbers

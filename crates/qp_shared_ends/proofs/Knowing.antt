@@ -5,8 +5,8 @@ use Rattle.qp_model.specs.declared.bodies.Entry.{Entry}
 use Rattle.qp_model.specs.Told.{ToldItem}
 use Rattle.qp_calls.specs.Tokens.{token_of, stands, hands_after}
 use Rattle.qp_calls.specs.LaneView.{handled_in, is_known}
-use Rattle.qp_shared_views.specs.Lane.{lane_of, has_content}
-use Rattle.qp_shared_views.proofs.Hands.{held-in, read-has}
+use Rattle.qp_table.specs.Lane.{lane_of, has_content}
+use Rattle.qp_table.proofs.Hands.{held-in, read-has}
 use Rattle.qp_shared_lane.specs.declared.lane.LaneState.{LaneState}
 use Rattle.qp_shared_lane.specs.Holds.{told_by}
 use Rattle.qp_shared_lane.specs.Lane.{state_view}

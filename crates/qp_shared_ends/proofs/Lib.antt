@@ -13,3 +13,6 @@ pub mod Events
 pub mod Knowing
 pub mod Parts
 pub mod Sealing
+pub mod Parting
+pub mod SeatPasts
+pub mod Numbering

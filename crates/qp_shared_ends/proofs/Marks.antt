@@ -18,7 +18,7 @@ use Rattle.qp_model.proofs.HistoryLemmas.{length-hist}
 use Rattle.qp_calls.specs.LaneView.{Shown, FreeBlocks, References, Counts, first_shown}
 use Rattle.qp_plain_sound.specs.WordStates.{pool_in, refs_in, line_in}
 use Rattle.qp_plain_sound.specs.View.{shown_in}
-use Rattle.qp_port_quiet.specs.Sealed.{is_on_table}
+use Rattle.qp_port_law.specs.Sealed.{is_on_table}
 use Rattle.qp_table.specs.Counting.{Each}
 use Rattle.qp_table.specs.TwoTables.{on_table, Thins}
 use Rattle.qp_table.specs.Rule.{pool_at, block_at, queue_at, bits_value, mark_in, Holds}
@@ -30,11 +30,11 @@ use Rattle.qp_table.proofs.Views.{SawFrom}
 use Rattle.qp_table.proofs.Lanes.{adds-nothing}
 use Rattle.qp_table.proofs.Bounds.{pool-ascends, refs-count, map-small}
 use Rattle.qp_table.proofs.Marks.{queue-mark, line-shows}
-use Rattle.qp_shared_steps.proofs.Maps.{ones-length}
-use Rattle.qp_shared_views.specs.Words.{place_of, is_here, first_value, later, latest, value_seen, mark_seen, as_shown, shown_seen}
-use Rattle.qp_shared_views.proofs.Facts.{found-ahead}
-use Rattle.qp_shared_ends.specs.Lanes.{recs_of}
-use Rattle.qp_shared_seats.specs.End.{AtEnd}
+use Rattle.qp_table.proofs.Maps.{ones-length}
+use Rattle.qp_table.specs.Words.{place_of, is_here, first_value, later, latest, value_seen, mark_seen, as_shown, shown_seen}
+use Rattle.qp_table.proofs.Facts.{found-ahead}
+use Rattle.qp_shared_ends.specs.Lanes.{lanes_recs}
+use Rattle.qp_shared_ends.specs.SeatEnd.{AtEnd}
 use Rattle.qp_shared_ends.proofs.Histories.{pool-is, refs-is, line-is, queue-hist}
 use Rattle.qp_shared_ends.proofs.Pasts.{pool-long, block-long}
 
@@ -42,7 +42,7 @@ length-up : (from n : ℕ) → length (count_up from n) ≡ n
 length-up from zero = refl
 length-up from (suc n) = let r = length-up (from + 1) n in omega arith
 
-module _ (sys : System) (v : View) (end : AtEnd sys v) (js : List (List Rec)) (thin : Thins (λ i. on_table (touch i)) js (recs_of v.logs)) (law : Words sys js) where
+module _ (sys : System) (v : View) (end : AtEnd sys v) (js : List (List Rec)) (thin : Thins (λ i. on_table (touch i)) js (lanes_recs v.logs)) (law : Words sys js) where
   abbrev h : Holds sys end.words end.views
   h = end.holds
 

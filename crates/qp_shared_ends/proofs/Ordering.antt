@@ -11,9 +11,9 @@ use Rattle.qp_model.specs.History.{lane_items, all_items}
 use Rattle.qp_model.proofs.WordLemmas.{all_items-append}
 use Rattle.qp_table.specs.Counting.{Each, many}
 use Rattle.qp_table.specs.Rule.{is_log, is_number}
-use Rattle.qp_table.specs.declared.view.Log.{Log}
+use Rattle.qp_table.specs.declared.view.SeatLog.{SeatLog}
 use Rattle.qp_table.proofs.Counting.{total-append}
-use Rattle.qp_shared_ends.specs.Lanes.{recs_of}
+use Rattle.qp_shared_ends.specs.Lanes.{lanes_recs}
 
 -- one that passes, and those before and behind it
 pick : {A : Type 0} (p : A → Bool) (xs : List A) → 0 < many p xs → (before : List A) × (x : A) × (behind : List A) × (xs ≡ before ++ x ∷ behind) × (p x ≡ true)
@@ -42,28 +42,28 @@ module _ {A : Type 0} where
   many-middle p xs x ys = let a = total-append (λ y. cond (p y) 1 0) xs (x ∷ ys) in let b = total-append (λ y. cond (p y) 1 0) xs ys in omega arith
 
 -- the log is one of these lanes, the first of which has the number `base`
-abbrev IsLane : List (List Rec) → ℕ → Log → Type 0
+abbrev IsLane : List (List Rec) → ℕ → SeatLog → Type 0
 IsLane lanes base g = (n : ℕ) × (g.number ≡ base + n) × (get_elem? lanes n ≡ some g.recs)
 
 -- the same without the first lane
 module _ (x : List Rec) (lanes : List (List Rec)) (base : ℕ) where
-  later-lane : (g : Log) → g.number ≢ base → IsLane (x ∷ lanes) base g → IsLane lanes (base + 1) g
+  later-lane : (g : SeatLog) → g.number ≢ base → IsLane (x ∷ lanes) base g → IsLane lanes (base + 1) g
   later-lane g ne (zero, number, is) = absurd (ne (omega arith))
   later-lane g ne (suc n, number, is) = (n, omega arith, is)
 
-  later-lanes : (gs : List Log) → many (is_log base) gs ≡ 0 → Each (IsLane (x ∷ lanes) base) gs → Each (IsLane lanes (base + 1)) gs
+  later-lanes : (gs : List SeatLog) → many (is_log base) gs ≡ 0 → Each (IsLane (x ∷ lanes) base) gs → Each (IsLane lanes (base + 1)) gs
   later-lanes [] none e = tt
   later-lanes (g ∷ gs) none e = (
     later-lane g (λ is. let one = ap (λ (t : Bool). cond {A = ℕ} t 1 0) (eq-eqb g.number base is) in absurd (omega arith)) e.0,
     later-lanes gs (let z = none in omega arith) e.1,
   )
 
-  first-lane : (g : Log) → g.number ≡ base → IsLane (x ∷ lanes) base g → x ≡ g.recs
+  first-lane : (g : SeatLog) → g.number ≡ base → IsLane (x ∷ lanes) base g → x ≡ g.recs
   first-lane g is (zero, number, there) = some-injective x g.recs there
   first-lane g is (suc n, number, there) = absurd (omega arith)
 
 -- what the numbers say of lanes
-record Numbered (lanes : List (List Rec)) (base : ℕ) (gs : List Log) : Type 0 where
+record Numbered (lanes : List (List Rec)) (base : ℕ) (gs : List SeatLog) : Type 0 where
   own : Each (IsLane lanes base) gs
   once : (n : ℕ) → n < length lanes → many (is_log (base + n)) gs ≤ 1
   rest : (n : ℕ) → n < length lanes → many (is_log (base + n)) gs ≡ 0 → get_elem? lanes n ≡ some []
@@ -71,13 +71,13 @@ record Numbered (lanes : List (List Rec)) (base : ℕ) (gs : List Log) : Type 0 
 shift : (base n : ℕ) → base + suc n ≡ base + 1 + n
 shift base n = omega arith
 
-recs-middle : (xs : List Log) (g : Log) (ys : List Log) → recs_of (xs ++ g ∷ ys) ≡ recs_of xs ++ g.recs ∷ recs_of ys
-recs-middle xs g ys = map-append (λ (g : Log). g.recs) xs (g ∷ ys)
+recs-middle : (xs : List SeatLog) (g : SeatLog) (ys : List SeatLog) → lanes_recs (xs ++ g ∷ ys) ≡ lanes_recs xs ++ g.recs ∷ lanes_recs ys
+recs-middle xs g ys = map-append (λ (g : SeatLog). g.recs) xs (g ∷ ys)
 
-recs-both : (xs ys : List Log) → recs_of (xs ++ ys) ≡ recs_of xs ++ recs_of ys
-recs-both xs ys = map-append (λ (g : Log). g.recs) xs ys
+recs-both : (xs ys : List SeatLog) → lanes_recs (xs ++ ys) ≡ lanes_recs xs ++ lanes_recs ys
+recs-both xs ys = map-append (λ (g : SeatLog). g.recs) xs ys
 
-none-there : (base : ℕ) (gs : List Log) → Each (IsLane [] base) gs → gs ≡ []
+none-there : (base : ℕ) (gs : List SeatLog) → Each (IsLane [] base) gs → gs ≡ []
 none-there base [] e = refl
 none-there base (g ∷ gs) e = absurd (some-ne-none g.recs (sym e.0.2))
 
@@ -90,7 +90,7 @@ to-middle xs ys zs x lanes p = subst (λ l. IsPermutation l (x ∷ lanes)) (sym 
     assoc [] bs = refl
     assoc (a ∷ ls) bs = ap (λ l. a ∷ l) (assoc ls bs)
 
-ordered : (lanes : List (List Rec)) (base : ℕ) (gs : List Log) → Numbered lanes base gs → (k : ℕ) × IsPermutation (recs_of gs ++ replicate k []) lanes
+ordered : (lanes : List (List Rec)) (base : ℕ) (gs : List SeatLog) → Numbered lanes base gs → (k : ℕ) × IsPermutation (lanes_recs gs ++ replicate k []) lanes
 ordered [] base gs h = (0, rw (none-there base gs h.own) (IsPermutation-refl []))
 ordered (x ∷ lanes) base gs h = dite (ℕ_discrete (many (is_log base) gs) 0)
     (λ none.
@@ -102,12 +102,12 @@ ordered (x ∷ lanes) base gs h = dite (ℕ_discrete (many (is_log base) gs) 0)
       rest = λ n l z. h.rest (suc n) (omega arith) (ap (λ y. many (is_log y) gs) (shift base n) ∙ z);
     }) in (
       suc r.0,
-      subst (λ y. IsPermutation (recs_of gs ++ [] ∷ replicate r.0 []) (y ∷ lanes)) (sym empty)
-          (IsPermutation-trans (recs_of gs ++ [] ∷ replicate r.0 []) ([] ∷ (recs_of gs ++ replicate r.0 [])) ([] ∷ lanes) (IsPermutation-middle (recs_of gs) [] (replicate r.0 [])) (IsPermutation-cons [] (recs_of gs ++ replicate r.0 []) lanes r.1)),
+      subst (λ y. IsPermutation (lanes_recs gs ++ [] ∷ replicate r.0 []) (y ∷ lanes)) (sym empty)
+          (IsPermutation-trans (lanes_recs gs ++ [] ∷ replicate r.0 []) ([] ∷ (lanes_recs gs ++ replicate r.0 [])) ([] ∷ lanes) (IsPermutation-middle (lanes_recs gs) [] (replicate r.0 [])) (IsPermutation-cons [] (lanes_recs gs ++ replicate r.0 []) lanes r.1)),
     ))
     (λ some_there. taken (λ others number. ordered lanes (base + 1) others number) (pick (is_log base) gs (omega arith)))
   where
-    taken : ((others : List Log) → Numbered lanes (base + 1) others → (k : ℕ) × IsPermutation (recs_of others ++ replicate k []) lanes) → (before : List Log) × (g : Log) × (behind : List Log) × (gs ≡ before ++ g ∷ behind) × (is_log base g ≡ true) → (k : ℕ) × IsPermutation (recs_of gs ++ replicate k []) (x ∷ lanes)
+    taken : ((others : List SeatLog) → Numbered lanes (base + 1) others → (k : ℕ) × IsPermutation (lanes_recs others ++ replicate k []) lanes) → (before : List SeatLog) × (g : SeatLog) × (behind : List SeatLog) × (gs ≡ before ++ g ∷ behind) × (is_log base g ≡ true) → (k : ℕ) × IsPermutation (lanes_recs gs ++ replicate k []) (x ∷ lanes)
     taken later (before, g, behind, is, number) =
         let at : g.number ≡ base = eqb-true g.number base number in
         let all = subst (Numbered (x ∷ lanes) base) is h in
@@ -123,10 +123,10 @@ ordered (x ∷ lanes) base gs h = dite (ℕ_discrete (many (is_log base) gs) 0)
         }) in
         let first : x ≡ g.recs = first-lane x lanes base g at (each-back (IsLane (x ∷ lanes) base) before (g ∷ behind) all.own).0 in (
           r.0,
-          subst (λ (y : List Log). IsPermutation (recs_of y ++ replicate r.0 []) (x ∷ lanes)) (sym is)
+          subst (λ (y : List SeatLog). IsPermutation (lanes_recs y ++ replicate r.0 []) (x ∷ lanes)) (sym is)
               (subst (λ l. IsPermutation (l ++ replicate r.0 []) (x ∷ lanes)) (sym (recs-middle before g behind))
-              (subst (λ y. IsPermutation ((recs_of before ++ g.recs ∷ recs_of behind) ++ replicate r.0 []) (y ∷ lanes)) (sym first)
-              (to-middle (recs_of before) (recs_of behind) (replicate r.0 []) g.recs lanes (subst (λ l. IsPermutation (l ++ replicate r.0 []) lanes) (recs-both before behind) r.1)))),
+              (subst (λ y. IsPermutation ((lanes_recs before ++ g.recs ∷ lanes_recs behind) ++ replicate r.0 []) (y ∷ lanes)) (sym first)
+              (to-middle (lanes_recs before) (lanes_recs behind) (replicate r.0 []) g.recs lanes (subst (λ l. IsPermutation (l ++ replicate r.0 []) lanes) (recs-both before behind) r.1)))),
         )
       where
         other : (n : ℕ) → (n ≡ base → ⊥) → cond {A = ℕ} (is_log n g) 1 0 ≡ 0
@@ -146,15 +146,15 @@ empties xs k = all_items-append xs (replicate k []) ∙ (ap (λ l. all_items xs 
     none (suc k) = none k
 
 -- The lanes of the rule, by numbers from 0
-pub lanes-ordered : (lanes : List (List Rec)) (gs : List Log) (numbers : List ℕ) → Each (λ (g : Log). get_elem? lanes g.number ≡ some g.recs) gs
+pub lanes-ordered : (lanes : List (List Rec)) (gs : List SeatLog) (numbers : List ℕ) → Each (λ (g : SeatLog). get_elem? lanes g.number ≡ some g.recs) gs
     → ((n : ℕ) → n < length lanes → many (is_log n) gs + many (is_number n) numbers ≡ 1) → ((n : ℕ) → n < length lanes → 0 < many (is_number n) numbers → get_elem? lanes n ≡ some [])
-    → (k : ℕ) × IsPermutation (recs_of gs ++ replicate k []) lanes
+    → (k : ℕ) × IsPermutation (lanes_recs gs ++ replicate k []) lanes
 lanes-ordered lanes gs numbers own once rest = ordered lanes 0 gs (record {
   own = owns gs own;
   once = λ n l. let e : 0 + n ≡ n = omega arith in subst (λ z. many (is_log z) gs ≤ 1) (sym e) (let o = once n l in omega arith);
   rest = λ n l z. rest n l (let e : 0 + n ≡ n = omega arith in let y = subst (λ x. many (is_log x) gs ≡ 0) e z in let o = once n l in omega arith);
 })
   where
-    owns : (gs : List Log) → Each (λ (g : Log). get_elem? lanes g.number ≡ some g.recs) gs → Each (IsLane lanes 0) gs
+    owns : (gs : List SeatLog) → Each (λ (g : SeatLog). get_elem? lanes g.number ≡ some g.recs) gs → Each (IsLane lanes 0) gs
     owns [] e = tt
     owns (g ∷ gs) e = ((g.number, omega arith, e.0), owns gs e.1)

@@ -4,11 +4,11 @@ use Rattle.std.specs.Prelude.{slice_get}
 use Rattle.std.specs.List.{list_any}
 use Rattle.std.proofs.lemmas.List.{append_assoc, append-nil}
 use Rattle.qp_table.specs.Counting.{Each, total, many}
-use Rattle.qp_table.specs.After.{joined}
+use Rattle.qp_table.specs.After.{views_joined}
 use Rattle.qp_table.specs.declared.view.View.{View}
 use Rattle.qp_table.proofs.Counting.{total-append}
-use Rattle.qp_side_words.specs.Told.{both_of}
-use Rattle.qp_side_words.specs.declared.SideView.{SideView}
+use Rattle.qp_side.specs.Told.{both_of}
+use Rattle.qp_side.specs.declared.view.SideView.{SideView}
 use Rattle.qp_shared_ends.specs.Joining.{all_joined, all_both}
 
 -- lists one behind another
@@ -16,9 +16,9 @@ abbrev pub flat : {X A : Type 0} → (X → List A) → List X → List A
 flat f [] = []
 flat f (x ∷ xs) = f x ++ flat f xs
 
-pub joined-part : {A : Type 0} (f : View → List A) → ((v w : View) → f (joined v w) ≡ f v ++ f w) → (v : View) (ws : List View) → f (all_joined v ws) ≡ flat f (v ∷ ws)
+pub joined-part : {A : Type 0} (f : View → List A) → ((v w : View) → f (views_joined v w) ≡ f v ++ f w) → (v : View) (ws : List View) → f (all_joined v ws) ≡ flat f (v ∷ ws)
 joined-part f h v [] = sym (append-nil (f v))
-joined-part f h v (w ∷ ws) = joined-part f h (joined v w) ws ∙ (ap (λ l. l ++ flat f ws) (h v w) ∙ append_assoc (f v) (f w) (flat f ws))
+joined-part f h v (w ∷ ws) = joined-part f h (views_joined v w) ws ∙ (ap (λ l. l ++ flat f ws) (h v w) ∙ append_assoc (f v) (f w) (flat f ws))
 
 pub both-part : {A : Type 0} (f : SideView → List A) → ((v w : SideView) → f (both_of v w) ≡ f v ++ f w) → (v : SideView) (ws : List SideView) → f (all_both v ws) ≡ flat f (v ∷ ws)
 both-part f h v [] = sym (append-nil (f v))

@@ -25,10 +25,10 @@ use Rattle.qp_table.specs.declared.view.Glance.{Glance}
 use Rattle.qp_table.specs.declared.view.View.{View}
 use Rattle.qp_table.proofs.Views.{SawFrom}
 use Rattle.qp_table.proofs.Marks.{low-mark, pool-mark, block-mark}
-use Rattle.qp_shared_steps.proofs.Maps.{ones-length}
+use Rattle.qp_table.proofs.Maps.{ones-length}
 use Rattle.qp_shared_lane.specs.Holds.{was_seen}
-use Rattle.qp_shared_ends.specs.Lanes.{recs_of}
-use Rattle.qp_shared_seats.specs.End.{AtEnd}
+use Rattle.qp_shared_ends.specs.Lanes.{lanes_recs}
+use Rattle.qp_shared_ends.specs.SeatEnd.{AtEnd}
 use Rattle.qp_shared_ends.proofs.Histories.{pool-hist, block-hist, pool-is, refs-is}
 use Rattle.qp_shared_ends.proofs.Maps.{free-ascend}
 
@@ -48,7 +48,7 @@ glance-at words was w test (g ∷ gs) e h = go (eqb g.word w) refl (test g.value
     go true at false ok h r = r h
     go false at b ok h r = r h
 
-module _ (sys : System) (v : View) (end : AtEnd sys v) (js : List (List Rec)) (thin : Thins (λ i. on_table (touch i)) js (recs_of v.logs)) where
+module _ (sys : System) (v : View) (end : AtEnd sys v) (js : List (List Rec)) (thin : Thins (λ i. on_table (touch i)) js (lanes_recs v.logs)) where
   abbrev h : Holds sys end.words end.views
   h = end.holds
 

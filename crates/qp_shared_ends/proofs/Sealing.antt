@@ -17,7 +17,7 @@ use Rattle.qp_model.specs.Record.{Item}
 use Rattle.qp_model.specs.Told.{ToldItem}
 use Rattle.qp_model.specs.History.{touch, marks, total as total_of, lane_items, all_items}
 use Rattle.qp_model.specs.Home.{lane_at}
-use Rattle.qp_model.specs.Knowing.{event_of, free_before, left_after, told_lane}
+use Rattle.qp_model.specs.Knowing.{event_of_entry, free_before, references_after, told_lane}
 use Rattle.qp_model.specs.End.{end_of, has_room}
 use Rattle.qp_model.specs.Lawful.{facts_of}
 use Rattle.qp_model.specs.WordLaw.{Words, is_object}
@@ -26,28 +26,28 @@ use Rattle.qp_calls.specs.LaneView.{LaneView, is_known}
 use Rattle.qp_calls.specs.Tokens.{Token, Held, Loose, same_token, hands_after}
 use Rattle.qp_plain_sound.specs.Sound.{Sound, facts_in}
 use Rattle.qp_plain_sound.specs.View.{shown_in}
-use Rattle.qp_port_quiet.specs.Sealed.{is_on_table, is_behind, hands_of_all, IsLaneAt, SealsLanes}
+use Rattle.qp_port_law.specs.Sealed.{is_on_table, is_behind, hands_of_all, IsLaneAt, SealsLanes}
 use Rattle.qp_table.specs.Counting.{Each, total, many}
 use Rattle.qp_table.specs.TwoTables.{on_table, on_side, Thins}
 use Rattle.qp_table.specs.Rule.{is_spot, is_ref, is_entry, is_serve, IsKnown}
-use Rattle.qp_table.specs.After.{joined}
+use Rattle.qp_table.specs.After.{views_joined}
 use Rattle.qp_table.specs.declared.view.Glance.{Glance}
-use Rattle.qp_table.specs.declared.view.Log.{Log}
+use Rattle.qp_table.specs.declared.view.SeatLog.{SeatLog}
 use Rattle.qp_table.specs.declared.view.View.{View}
 use Rattle.qp_table.proofs.Counting.{total-at, total-append}
 use Rattle.qp_table.proofs.Views.{SawFrom}
-use Rattle.qp_side_words.specs.Told.{both_of}
-use Rattle.qp_side_words.specs.Rule.{stop_at}
-use Rattle.qp_side_words.specs.Laws.{IsSideWhole}
-use Rattle.qp_side_words.specs.declared.SideView.{SideView}
-use Rattle.qp_shared_views.specs.Words.{mark_seen, shown_seen}
-use Rattle.qp_shared_views.specs.Lane.{tokens, tokens_in, own_of_logs, own_recs, on_table_of, event_seen, lane_mark, lane_of}
-use Rattle.qp_shared_views.specs.Telling.{is_on_table as is_on_table_too}
+use Rattle.qp_side.specs.Told.{both_of}
+use Rattle.qp_side.specs.Rule.{stop_at}
+use Rattle.qp_side.specs.Laws.{IsSideWhole}
+use Rattle.qp_side.specs.declared.view.SideView.{SideView}
+use Rattle.qp_table.specs.Words.{mark_seen, shown_seen}
+use Rattle.qp_table.specs.Lane.{tokens, tokens_in, own_of_logs, own_recs, on_table_of, event_seen, lane_mark, lane_of}
+use Rattle.qp_table.specs.Telling.{is_on_table as is_on_table_too}
 use Rattle.qp_shared_lane.specs.declared.lane.LaneState.{LaneState}
 use Rattle.qp_shared_lane.specs.Holds.{LaneHolds, on_side_of, told_by, side_mark}
 use Rattle.qp_shared_lane.specs.Lane.{state_view}
-use Rattle.qp_shared_ends.specs.Lanes.{recs_of}
-use Rattle.qp_shared_seats.specs.End.{AtEnd}
+use Rattle.qp_shared_ends.specs.Lanes.{lanes_recs}
+use Rattle.qp_shared_ends.specs.SeatEnd.{AtEnd}
 use Rattle.qp_shared_ends.specs.End.{AreHands}
 use Rattle.qp_shared_ends.specs.Joining.{table_of, side_of, recs_in, all_joined, all_both}
 use Rattle.qp_shared_ends.specs.Laws.{LanesAreSealed}
@@ -65,7 +65,7 @@ use Rattle.qp_shared_ends.proofs.Telling.{bare-tell, Truths, recs-told}
 use Rattle.qp_shared_ends.proofs.Parts.{flat, joined-part, both-part, flat-map, each-flat, many-flat, Cut, cut, mapped, map-at, map-parts, any-many, many-none, all-zero}
 
 -- the records of one lane, on one of the tables
-one-lane : (t : Item → Bool) (recs : List Rec) (gs : List Log) (js : List (List Rec)) (others : List Log) → length gs ≡ 1 → filter t (lane_items recs) ≡ own_of_logs gs → Thins t js (recs_of others) → Thins t (recs ∷ js) (recs_of (gs ++ others))
+one-lane : (t : Item → Bool) (recs : List Rec) (gs : List SeatLog) (js : List (List Rec)) (others : List SeatLog) → length gs ≡ 1 → filter t (lane_items recs) ≡ own_of_logs gs → Thins t js (lanes_recs others) → Thins t (recs ∷ js) (lanes_recs (gs ++ others))
 one-lane t recs [] js others one same thin = absurd (omega arith)
 one-lane t recs (g ∷ []) js others one same thin = (same, thin)
 one-lane t recs (g ∷ h ∷ gs) js others one same thin = absurd (omega arith)
@@ -115,12 +115,12 @@ module _ (sys : System) where
   abbrev serves-of : LaneState → ℕ → Bool
   serves-of l o = list_any (is_serve o) (table_of l).serves
 
-  table-thin : (ls : List LaneState) → Each (λ (l : LaneState). l.sys.now ≡ sys) ls → Thins (λ i. on_table (touch i)) (map recs_in ls) (recs_of (flat (λ l. (table_of l).logs) ls))
+  table-thin : (ls : List LaneState) → Each (λ (l : LaneState). l.sys.now ≡ sys) ls → Thins (λ i. on_table (touch i)) (map recs_in ls) (lanes_recs (flat (λ l. (table_of l).logs) ls))
   unfolding on_table_of own_recs
   table-thin [] e = tt
   table-thin (l ∷ ls) e = let h = holds-of l e.0 in one-lane (λ i. on_table (touch i)) (recs_in l) (table_of l).logs (map recs_in ls) (flat (λ l. (table_of l).logs) ls) h.lane h.same (table-thin ls e.1)
 
-  side-thin : (ls : List LaneState) → Each (λ (l : LaneState). l.sys.now ≡ sys) ls → Thins (λ i. on_side (touch i)) (map recs_in ls) (recs_of (flat (λ l. (side_of l).view.logs) ls))
+  side-thin : (ls : List LaneState) → Each (λ (l : LaneState). l.sys.now ≡ sys) ls → Thins (λ i. on_side (touch i)) (map recs_in ls) (lanes_recs (flat (λ l. (side_of l).view.logs) ls))
   unfolding on_side_of own_recs
   side-thin [] e = tt
   side-thin (l ∷ ls) e = let h = holds-of l e.0 in one-lane (λ i. on_side (touch i)) (recs_in l) (side_of l).view.logs (map recs_in ls) (flat (λ l. (side_of l).view.logs) ls) h.side_lane h.same_side (side-thin ls e.1)
@@ -180,17 +180,17 @@ module _ (sys : System) (first : LaneState) (others : List LaneState) (of : Each
   abbrev js : List (List Rec)
   js = map recs_in ls
 
-  part : {A : Type 0} (f : View → List A) → ((x y : View) → f (joined x y) ≡ f x ++ f y) → f v ≡ flat (λ l. f (table_of l)) ls
+  part : {A : Type 0} (f : View → List A) → ((x y : View) → f (views_joined x y) ≡ f x ++ f y) → f v ≡ flat (λ l. f (table_of l)) ls
   part f h = joined-part f h (table_of first) (map table_of others) ∙ flat-map f table_of ls
 
   side-part : {A : Type 0} (f : SideView → List A) → ((x y : SideView) → f (both_of x y) ≡ f x ++ f y) → f s ≡ flat (λ l. f (side_of l)) ls
   side-part f h = both-part f h (side_of first) (map side_of others) ∙ flat-map f side_of ls
 
-  thin : Thins (λ i. on_table (touch i)) js (recs_of v.logs)
-  thin = subst (λ (gs : List Log). Thins (λ i. on_table (touch i)) js (recs_of gs)) (sym (part (λ x. x.logs) (λ x y. refl))) (table-thin sys ls of)
+  thin : Thins (λ i. on_table (touch i)) js (lanes_recs v.logs)
+  thin = subst (λ (gs : List SeatLog). Thins (λ i. on_table (touch i)) js (lanes_recs gs)) (sym (part (λ x. x.logs) (λ x y. refl))) (table-thin sys ls of)
 
-  beside : Thins (λ i. on_side (touch i)) js (recs_of s.view.logs)
-  beside = subst (λ (gs : List Log). Thins (λ i. on_side (touch i)) js (recs_of gs)) (sym (side-part (λ x. x.view.logs) (λ x y. refl))) (side-thin sys ls of)
+  beside : Thins (λ i. on_side (touch i)) js (lanes_recs s.view.logs)
+  beside = subst (λ (gs : List SeatLog). Thins (λ i. on_side (touch i)) js (lanes_recs gs)) (sym (side-part (λ x. x.view.logs) (λ x y. refl))) (side-thin sys ls of)
 
   counts : (t : Token) → total (λ l. tokens_in (table_of l) t) ls ≡ tokens_in v t
   counts (Held p b r) = sym (many-flat (is_ref p b r) (λ l. (table_of l).hands) ls) ∙ ap (many (is_ref p b r)) (sym (part (λ x. x.hands) (λ x y. refl)))
@@ -207,7 +207,7 @@ module _ (sys : System) (first : LaneState) (others : List LaneState) (of : Each
       pooled-in ks are e l = let z = some-place (is_entry e) (λ l. (table_of l).hands) ks l in ((holds-of sys z.1 (each-at sys (λ (l : LaneState). l.sys.now ≡ sys) ks z.0 z.1 z.2 are)).read e z.3).1
 
   law : Words sys js
-  law = words-whole sys end.words end.views end.holds end.id v end.is end.all js thin (recs_of s.view.logs) beside (side-words sys s side)
+  law = words-whole sys end.words end.views end.holds end.id v end.is end.all js thin (lanes_recs s.view.logs) beside (side-words sys s side)
 
   sound : Sound sys js (hands_of_all (map state_view ls))
   sound = record {
@@ -252,7 +252,7 @@ module _ (sys : System) (first : LaneState) (others : List LaneState) (of : Each
         (all-zero (λ (l : LaneState). many (is_serve o) (table_of l).serves) c.front (omega arith), all-zero (λ (l : LaneState). many (is_serve o) (table_of l).serves) c.back (omega arith))
 
     truths : Truths sys (facts_in sys js) (table_of l).seen (table_of l).contents (serves-of sys l) (lane_items (recs_in l))
-    unfolding free_before left_after
+    unfolding free_before references_after
     truths = record {
       free = λ p k m pool there. free-seen sys v end js thin p pool (table_of l).seen saw k m there;
       left = λ p b d k block there. left-seen sys v end js thin p b block (table_of l).seen saw (d + 1) k there;
@@ -292,7 +292,7 @@ module _ (sys : System) (first : LaneState) (others : List LaneState) (of : Each
         (subst (λ is. list_all (λ m. nat_le m (mark_seen sys (table_of l).seen x)) (marks x is) ≡ true)
         (sym (untold-bare (told-of sys l) ∙ bare-tell (event_seen (table_of l).contents) (recs_in l) l.numbers.list h.beside)) (h.behind x (on-too x on))))
 
-    event-known : (e : Entry) → IsTrue (is_known (state_view l) e) → event_of (facts_in sys js) e ≡ Some ((state_view l).event e)
+    event-known : (e : Entry) → IsTrue (is_known (state_view l) e) → event_of_entry (facts_in sys js) e ≡ Some ((state_view l).event e)
     unfolding lane_of
     event-known e is = event-read sys v end js thin (table_of l).contents known e (known-read l e is)
 
@@ -334,8 +334,8 @@ module _ (sys : System) (first : LaneState) (others : List LaneState) (of : Each
         (subst (λ y. (state_view z.0).mark x ≡ total_of x (all_items y) → (state_view z.0).shown x ≡ shown_in sys y x) (sym e) (seen-says n z.0 z.1 x on));
     behind = λ n u x at on. let z = mapped state_view ls n u at in subst (λ (w : LaneView). is_behind x (w.mark x) w.told ≡ true) z.2 (marks-behind n z.0 z.1 x on);
     events = λ n u x at is. let z = mapped state_view ls n u at in
-        subst (λ (w : LaneView). event_of (facts_of sys j) x ≡ Some (w.event x)) z.2
-        ((λ i. event_of (record { sys = sys; items = all_items (e i) }) x) ∙ event-known n z.0 z.1 x (subst (λ (w : LaneView). IsTrue (is_known w x)) (sym z.2) is));
+        subst (λ (w : LaneView). event_of_entry (facts_of sys j) x ≡ Some (w.event x)) z.2
+        ((λ i. event_of_entry (record { sys = sys; items = all_items (e i) }) x) ∙ event-known n z.0 z.1 x (subst (λ (w : LaneView). IsTrue (is_known w x)) (sym z.2) is));
     handed = λ n code u at there. let z = mapped state_view ls n u at in code-handed n z.0 z.1 code (subst (λ (w : LaneView). has w.answered code ≡ true) (sym z.2) there);
     one_code = λ n m code other u w at beside there and. let z = mapped state_view ls n u at in let y = mapped state_view ls m w beside in
         (code-is n z.0 z.1 code (subst (λ (x : LaneView). has x.answered code ≡ true) (sym z.2) there)).0 ∙ sym (code-is m y.0 y.1 other (subst (λ (x : LaneView). has x.answered other ≡ true) (sym y.2) and)).0;

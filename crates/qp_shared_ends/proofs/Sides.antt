@@ -14,14 +14,14 @@ use Rattle.qp_model.specs.Machine.{Machine, after, is_allowed, is_shown}
 use Rattle.qp_model.specs.Subscribers.{Subscribers, subscribers}
 use Rattle.qp_model.specs.TimeEvents.{time_event}
 use Rattle.qp_model.specs.WordLaw.{Keeps, is_object, is_signal}
-use Rattle.qp_model_lanes.proofs.Orders.{keeps-ordered, hist-ordered}
+use Rattle.qp_model_order.proofs.Orders.{keeps-ordered, hist-ordered}
 use Rattle.qp_plain_sound.specs.WordStates.{set_in}
 use Rattle.qp_table.specs.Counting.{Each}
 use Rattle.qp_table.specs.TwoTables.{on_side, Thins, SideWords}
 use Rattle.qp_table.proofs.Thin.{hist-thins}
-use Rattle.qp_side_words.specs.Laws.{IsSideWhole}
-use Rattle.qp_side_words.specs.declared.SideView.{SideView}
-use Rattle.qp_shared_ends.specs.Lanes.{recs_of}
+use Rattle.qp_side.specs.Laws.{IsSideWhole}
+use Rattle.qp_side.specs.declared.view.SideView.{SideView}
+use Rattle.qp_shared_ends.specs.Lanes.{lanes_recs}
 use Rattle.qp_shared_ends.proofs.Ordering.{lanes-ordered, empties}
 
 -- the words of the side table
@@ -49,27 +49,27 @@ keeps-bare m w xs k law = let e = empties xs k in record {
 }
 
 module _ (sys : System) (s : SideView) (side : IsSideWhole sys s) where
-  order : (k : ℕ) × IsPermutation (recs_of s.view.logs ++ replicate k []) side.lanes
+  order : (k : ℕ) × IsPermutation (lanes_recs s.view.logs ++ replicate k []) side.lanes
   order = let count = side.count in lanes-ordered side.lanes s.view.logs s.view.lane_numbers side.own (λ n l. side.once n (omega arith)) (λ n l mine. side.rest n (omega arith) mine)
 
-  turned : IsPermutation side.lanes (recs_of s.view.logs ++ replicate order.0 [])
-  turned = IsPermutation-sym (recs_of s.view.logs ++ replicate order.0 []) side.lanes order.1
+  turned : IsPermutation side.lanes (lanes_recs s.view.logs ++ replicate order.0 [])
+  turned = IsPermutation-sym (lanes_recs s.view.logs ++ replicate order.0 []) side.lanes order.1
 
-  kept : {S : Type 0} (m : Machine S) (w : Word) → Keeps S m w side.lanes → Keeps S m w (recs_of s.view.logs)
-  kept m w law = keeps-bare m w (recs_of s.view.logs) order.0 (keeps-ordered side.lanes (recs_of s.view.logs ++ replicate order.0 []) turned w m law)
+  kept : {S : Type 0} (m : Machine S) (w : Word) → Keeps S m w side.lanes → Keeps S m w (lanes_recs s.view.logs)
+  kept m w law = keeps-bare m w (lanes_recs s.view.logs) order.0 (keeps-ordered side.lanes (lanes_recs s.view.logs ++ replicate order.0 []) turned w m law)
 
-  pub side-words : SideWords sys (recs_of s.view.logs)
+  pub side-words : SideWords sys (lanes_recs s.view.logs)
   side-words = record {
     signals = λ n h. kept subscribers (word.Signal n) (side.leaves.law.signals n h);
     timers = λ n h. kept time_event (word.Timer n) (side.leaves.law.timers n h);
   }
 
-  module _ (js : List (List Rec)) (thin : Thins (λ i. on_side (touch i)) js (recs_of s.view.logs)) where
+  module _ (js : List (List Rec)) (thin : Thins (λ i. on_side (touch i)) js (lanes_recs s.view.logs)) where
     pub signal-hist : (n : ℕ) → IsTrue (is_signal sys n) → hist (word.Signal n) (all_items js) ≡ hist (word.Signal n) (all_items side.lanes)
     signal-hist n h =
-        sym (hist-thins (word.Signal n) (λ i. on_side (touch i)) (λ i e. signal-covered n (touch i) e) js (recs_of s.view.logs) thin)
-        ∙ (ap (hist (word.Signal n)) (sym (empties (recs_of s.view.logs) order.0))
-        ∙ hist-ordered side.lanes (recs_of s.view.logs ++ replicate order.0 []) turned (word.Signal n) (side.leaves.law.signals n h).numbers)
+        sym (hist-thins (word.Signal n) (λ i. on_side (touch i)) (λ i e. signal-covered n (touch i) e) js (lanes_recs s.view.logs) thin)
+        ∙ (ap (hist (word.Signal n)) (sym (empties (lanes_recs s.view.logs) order.0))
+        ∙ hist-ordered side.lanes (lanes_recs s.view.logs ++ replicate order.0 []) turned (word.Signal n) (side.leaves.law.signals n h).numbers)
 
     pub subscribers-known : (n : ℕ) → IsTrue (is_signal sys n) → IsTrue (list_all (is_object sys) (set_in js n).members)
     unfolding set_in

@@ -17,9 +17,9 @@ use Rattle.qp_table.specs.Rule.{is_spot, is_spot_at, is_ref, free_bit, lives, sp
 use Rattle.qp_table.specs.declared.view.View.{View}
 use Rattle.qp_table.proofs.Counting.{total-at}
 use Rattle.qp_table.proofs.Tokens.{at-some}
-use Rattle.qp_shared_views.proofs.Hands.{eq-turned}
-use Rattle.qp_shared_ends.specs.Lanes.{recs_of}
-use Rattle.qp_shared_seats.specs.End.{AtEnd}
+use Rattle.qp_table.proofs.Hands.{eq-turned}
+use Rattle.qp_shared_ends.specs.Lanes.{lanes_recs}
+use Rattle.qp_shared_ends.specs.SeatEnd.{AtEnd}
 use Rattle.qp_shared_ends.specs.End.{AreHands}
 use Rattle.qp_shared_ends.proofs.Histories.{alone, refs-is, line-is, edge-is, free-is}
 
@@ -61,7 +61,7 @@ pub not-out : (x f : Bool) → f ≡ not x → f ≡ false → x ≡ true
 not-out true f e n = refl
 not-out false f e n = absurd (true≢false (sym e ∙ n))
 
-module _ (sys : System) (v : View) (end : AtEnd sys v) (js : List (List Rec)) (thin : Thins (λ i. on_table (touch i)) js (recs_of v.logs)) (hands : List Token) (are : AreHands hands v) where
+module _ (sys : System) (v : View) (end : AtEnd sys v) (js : List (List Rec)) (thin : Thins (λ i. on_table (touch i)) js (lanes_recs v.logs)) (hands : List Token) (are : AreHands hands v) where
   abbrev h : Holds sys end.words end.views
   h = end.holds
 

@@ -13,7 +13,7 @@ use Rattle.qp_model.specs.declared.bodies.Body.TheVariants.{Took, New, Dec, Lock
 use Rattle.qp_model.specs.Record.{Item, item_of}
 use Rattle.qp_model.specs.Told.{Event, Free, Left, Member, ToldItem}
 use Rattle.qp_model.specs.History.{lane_items}
-use Rattle.qp_model.specs.Knowing.{Facts, free_before, left_after, set_at, event_of, event_known, known_of, told, told_lane, ceiling_after}
+use Rattle.qp_model.specs.Knowing.{Facts, free_before, references_after, set_at, event_of_entry, event_known, known_of, told, told_lane, ceiling_after}
 use Rattle.qp_model.specs.WordLaw.{is_pool, is_block, is_signal}
 use Rattle.qp_calls.specs.Tokens.{token_of, handles}
 use Rattle.qp_calls.specs.LaneView.{handled_in}
@@ -21,7 +21,7 @@ use Rattle.qp_calls.proofs.HandLemmas.{same-self}
 use Rattle.qp_table.specs.Rule.{pool_at, block_at}
 use Rattle.qp_table.specs.declared.view.Content.{Content}
 use Rattle.qp_table.specs.declared.view.Glance.{Glance}
-use Rattle.qp_shared_views.specs.Lane.{known_with, told_as, tell, event_seen, has_content}
+use Rattle.qp_table.specs.Lane.{known_with, told_as, tell, event_seen, has_content}
 use Rattle.qp_shared_lane.specs.Holds.{was_seen, is_borne_out, borne_out, FormerIs, AreFormer, SubscriberIs, KnowSubscribers, member_over}
 use Rattle.qp_shared_ends.proofs.Members.{same_at, bare_all}
 
@@ -42,8 +42,8 @@ or-right false b e = e
 -- what the end knows of a lane that serves these objects, has seen these words and read these events, and has these records
 pub record Truths (sys : System) (w : Facts) (seen : List Glance) (contents : List Content) (serves : ℕ → Bool) (lane : List Item) : Type 0 where
   pub free : (p n k : ℕ) → IsTrue (is_pool sys p) → was_seen seen (pool_at p) (λ x. eqb (x / 4294967296) n && eqb (count_ones (x % 4294967296)) k) ≡ true → k ≡ free_before w p n
-  pub left : (p b d k : ℕ) → IsTrue (is_block sys p b) → was_seen seen (block_at p b) (λ x. eqb (x / 4294967296) (d + 1) && eqb (x % 4294967296) k) ≡ true → k ≡ left_after w p b d
-  pub event : (e : Entry) → has_content contents e ≡ true → event_of w e ≡ Some (event_seen contents e)
+  pub left : (p b d k : ℕ) → IsTrue (is_block sys p b) → was_seen seen (block_at p b) (λ x. eqb (x / 4294967296) (d + 1) && eqb (x % 4294967296) k) ≡ true → k ≡ references_after w p b d
+  pub event : (e : Entry) → has_content contents e ≡ true → event_of_entry w e ≡ Some (event_seen contents e)
   pub same : (o s n : ℕ) (before : List Item) (ts : List ToldItem) → IsTrue (is_signal sys s) → IsTrue (serves o) → lane ≡ before ++ same_at o s n ∷ bare_all ts → KnowSubscribers serves (before ++ same_at o s n ∷ []) ts
       → has (set_at w s n) o ≡ member_over o s false before
 

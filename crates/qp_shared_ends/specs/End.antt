@@ -5,7 +5,7 @@ use Rattle.qp_calls.specs.Tokens.{Token}
 use Rattle.qp_table.specs.Counting.{many}
 use Rattle.qp_table.specs.Rule.{is_entry}
 use Rattle.qp_table.specs.declared.view.View.{View}
-use Rattle.qp_shared_views.specs.Lane.{tokens, tokens_in}
+use Rattle.qp_table.specs.Lane.{tokens, tokens_in}
 
 -- these are the tokens of the view, and none is a reference of pool 0
 pub record AreHands (hands : List Token) (v : View) : Type 0 where

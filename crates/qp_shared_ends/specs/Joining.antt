@@ -1,10 +1,10 @@
 -- Views and seats put together, the lanes handed in one after another.
 use Rattle.std.specs.Prelude.{List, [], ◌∷◌}
 use Rattle.qp_model.specs.declared.record.Rec.{Rec}
-use Rattle.qp_table.specs.After.{joined}
+use Rattle.qp_table.specs.After.{views_joined}
 use Rattle.qp_table.specs.declared.view.View.{View}
-use Rattle.qp_side_words.specs.Told.{both_of}
-use Rattle.qp_side_words.specs.declared.SideView.{SideView}
+use Rattle.qp_side.specs.Told.{both_of}
+use Rattle.qp_side.specs.declared.view.SideView.{SideView}
 use Rattle.qp_shared_lane.specs.declared.lane.LaneState.{LaneState}
 
 abbrev pub table_of : LaneState → View
@@ -19,7 +19,7 @@ recs_in l = l.log.recs.items
 -- the first view takes over the others, in their order
 abbrev pub all_joined : View → List View → View
 all_joined v [] = v
-all_joined v (w ∷ ws) = all_joined (joined v w) ws
+all_joined v (w ∷ ws) = all_joined (views_joined v w) ws
 
 abbrev pub all_both : SideView → List SideView → SideView
 all_both v [] = v

@@ -1,7 +1,7 @@
 -- The records of lanes, by their logs.
 use Rattle.std.specs.Prelude.{List, map}
 use Rattle.qp_model.specs.declared.record.Rec.{Rec}
-use Rattle.qp_table.specs.declared.view.Log.{Log}
+use Rattle.qp_table.specs.declared.view.SeatLog.{SeatLog}
 
-abbrev pub recs_of : List Log → List (List Rec)
-recs_of gs = map (λ (g : Log). g.recs) gs
+abbrev pub lanes_recs : List SeatLog → List (List Rec)
+lanes_recs gs = map (λ (g : SeatLog). g.recs) gs

@@ -9,30 +9,30 @@ use Rattle.qp_model.specs.End.{end_of}
 use Rattle.qp_model.specs.History.{touch, all_items}
 use Rattle.qp_calls.specs.Tokens.{Token}
 use Rattle.qp_plain_sound.specs.Sound.{Sound}
-use Rattle.qp_port_quiet.specs.Sealed.{SealsLanes}
+use Rattle.qp_port_law.specs.Sealed.{SealsLanes}
 use Rattle.qp_table.specs.Counting.{Each, many}
 use Rattle.qp_table.specs.TwoTables.{on_table, on_side, Thins}
 use Rattle.qp_table.specs.Rule.{is_log, is_number}
-use Rattle.qp_table.specs.declared.view.Log.{Log}
+use Rattle.qp_table.specs.declared.view.SeatLog.{SeatLog}
 use Rattle.qp_table.specs.declared.view.View.{View}
-use Rattle.qp_side_words.specs.Laws.{IsSideWhole}
-use Rattle.qp_side_words.specs.declared.SideView.{SideView}
+use Rattle.qp_side.specs.Laws.{IsSideWhole}
+use Rattle.qp_side.specs.declared.view.SideView.{SideView}
 use Rattle.qp_shared_lane.specs.declared.lane.LaneState.{LaneState}
 use Rattle.qp_shared_lane.specs.Lane.{state_view}
-use Rattle.qp_shared_ends.specs.Lanes.{recs_of}
-use Rattle.qp_shared_seats.specs.End.{AtEnd}
+use Rattle.qp_shared_ends.specs.Lanes.{lanes_recs}
+use Rattle.qp_shared_ends.specs.SeatEnd.{AtEnd}
 use Rattle.qp_shared_ends.specs.End.{AreHands}
 use Rattle.qp_shared_ends.specs.Joining.{table_of, side_of, recs_in, all_joined, all_both}
 
 abbrev pub LogsAreLanes : Type 0
-LogsAreLanes = (lanes : List (List Rec)) (gs : List Log) (numbers : List ℕ) → Each (λ (g : Log). get_elem? lanes g.number ≡ some g.recs) gs
+LogsAreLanes = (lanes : List (List Rec)) (gs : List SeatLog) (numbers : List ℕ) → Each (λ (g : SeatLog). get_elem? lanes g.number ≡ some g.recs) gs
     → ((n : ℕ) → n < length lanes → many (is_log n) gs + many (is_number n) numbers ≡ 1) → ((n : ℕ) → n < length lanes → 0 < many (is_number n) numbers → get_elem? lanes n ≡ some [])
-    → (k : ℕ) × IsPermutation (recs_of gs ++ replicate k []) lanes
+    → (k : ℕ) × IsPermutation (lanes_recs gs ++ replicate k []) lanes
 
 -- whole lanes, whose records are on both tables, and all hands
 abbrev pub EndsAreSound : Type 0
 EndsAreSound = (sys : System) (v : View) (s : SideView) (js : List (List Rec)) (hands : List Token) → AtEnd sys v → IsSideWhole sys s
-    → Thins (λ i. on_table (touch i)) js (recs_of v.logs) → Thins (λ i. on_side (touch i)) js (recs_of s.view.logs) → AreHands hands v → Sound sys js hands
+    → Thins (λ i. on_table (touch i)) js (lanes_recs v.logs) → Thins (λ i. on_side (touch i)) js (lanes_recs s.view.logs) → AreHands hands v → Sound sys js hands
 
 -- Lanes that are all of a table, in any order, are sealed into a journal of their records, one lane after another
 abbrev pub LanesAreSealed : Type 0

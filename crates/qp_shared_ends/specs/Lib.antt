@@ -2,3 +2,5 @@ pub mod Lanes
 pub mod End
 pub mod Joining
 pub mod Laws
+pub mod Seats
+pub mod SeatEnd

@@ -19,22 +19,22 @@ use Rattle.qp_model.proofs.RecordLemmas.{lane_items-more}
 use Rattle.qp_table.specs.TwoTables.{on_table, on_side}
 use Rattle.qp_table.specs.Rule.{mark_in, is_serve}
 use Rattle.qp_table.specs.After.{logged}
-use Rattle.qp_table.specs.declared.view.Log as table_log
+use Rattle.qp_table.specs.declared.view.SeatLog as table_log
 use Rattle.qp_table.specs.declared.view.View.{View}
 use Rattle.qp_calls.specs.Tokens.{Token, token_of, hands_of, hands_by, hands_after, handles}
 use Rattle.qp_calls.specs.LaneView.{Gains, mark_or, mark_by, mark_after, shown_from, placed_by, own_after}
 use Rattle.qp_calls.proofs.HandLemmas.{hands-append}
 use Rattle.qp_calls.proofs.Growing.{own-append}
 use Rattle.qp_calls_log.specs.declared.log.Log.{Log}
-use Rattle.qp_shared_views.specs.Words.{is_here, mark_seen, shown_seen}
-use Rattle.qp_shared_views.specs.Lane.{lane_of, lane_mark, own_of_logs, own_recs, on_table_of, event_seen, told_as, tokens, number_of}
-use Rattle.qp_shared_views.specs.Telling.{Rises, Touches, is_on_table}
-use Rattle.qp_shared_views.proofs.Gaining.{mark-here, mark-rises, saw-rises, side-rises}
-use Rattle.qp_shared_views.proofs.Places.{same-is}
-use Rattle.qp_shared_views.proofs.Saying.{same-more, logged-one, logged-number}
-use Rattle.qp_side_words.specs.Rule.{signal_at}
-use Rattle.qp_side_words.specs.Told.{last_seen}
-use Rattle.qp_side_words.specs.declared.SideView.{SideView}
+use Rattle.qp_table.specs.Words.{is_here, mark_seen, shown_seen}
+use Rattle.qp_table.specs.Lane.{lane_of, lane_mark, own_of_logs, own_recs, on_table_of, event_seen, told_as, tokens, lane_number}
+use Rattle.qp_table.specs.Telling.{Rises, Touches, is_on_table}
+use Rattle.qp_table.proofs.Gaining.{mark-here, mark-rises, saw-rises, side-rises}
+use Rattle.qp_table.proofs.Places.{same-is}
+use Rattle.qp_table.proofs.Saying.{same-more, logged-one, logged-number}
+use Rattle.qp_side.specs.Rule.{signal_at}
+use Rattle.qp_side.specs.Told.{last_seen}
+use Rattle.qp_side.specs.declared.view.SideView.{SideView}
 use Rattle.qp_shared_lane.specs.Holds.{LaneHolds, told_by, side_mark, on_side_of, is_borne_out, SubscriberIs, FormerIs}
 use Rattle.qp_shared_lane.specs.Lane.{lane_with}
 use Rattle.qp_shared_lane.specs.More.{IsPut, Follows, SideFollows, AddsRecord, OnTable, OnSide, IsNoted}
@@ -67,7 +67,7 @@ pub side-skips : (recs : List Rec) (r : Rec) → on_side (touch (item_of r)) ≡
 unfolding on_side_of
 side-skips recs r off = ap (filter (λ i. on_side (touch i))) (lane_items-more recs r) ∙ filter-skips (λ i. on_side (touch i)) (lane_items recs) (item_of r) off
 
-side-case : (q : Rec) (logs : List table_log.Log) → length logs ≡ 1 → own_of_logs (logged q logs) ≡ own_of_logs logs ++ item_of q ∷ []
+side-case : (q : Rec) (logs : List table_log.SeatLog) → length logs ≡ 1 → own_of_logs (logged q logs) ≡ own_of_logs logs ++ item_of q ∷ []
 side-case q [] one = absurd (omega arith)
 side-case q (g ∷ gs) one = lane_items-more g.recs q
 
@@ -374,7 +374,7 @@ module _ (world : List ℕ) (sys : System) (by count ceiling : ℕ) (g : Log) (n
     plan = refl;
     happened = refl;
     lane = refl;
-    log = ap (map (placed_by (number_of v))) note-told ∙ map-append (placed_by (number_of v)) (told_by g numbers v) (t ∷ []);
+    log = ap (map (placed_by (lane_number v))) note-told ∙ map-append (placed_by (lane_number v)) (told_by g numbers v) (t ∷ []);
     aside = refl;
   }
 

@@ -17,16 +17,16 @@ use Rattle.qp_calls.specs.Tokens.{Token, token_of, stands, hands_after, handles}
 use Rattle.qp_calls.specs.LaneView.{Shown, Gains, Looks, handled_in, is_known, ceiling_in}
 use Rattle.qp_calls.proofs.HandLemmas.{hands-append}
 use Rattle.qp_calls_log.specs.declared.log.Log.{Log}
-use Rattle.qp_shared_views.specs.Words.{mark_seen, shown_seen}
-use Rattle.qp_shared_views.specs.Lane.{lane_of, lane_mark, on_table_of, tell, event_seen, tokens, tokens_in}
-use Rattle.qp_shared_views.specs.Telling.{Rises, Touches}
-use Rattle.qp_shared_views.specs.Laws.{Keeps}
-use Rattle.qp_shared_views.proofs.Hands.{held-in, any-more, read-has}
-use Rattle.qp_shared_views.proofs.Saying.{tell-more}
-use Rattle.qp_shared_views.proofs.LawLemmas.{records_gain, looks_show}
-use Rattle.qp_side_words.specs.Rule.{signal_at}
-use Rattle.qp_side_words.specs.Told.{last_seen}
-use Rattle.qp_side_words.specs.declared.SideView.{SideView}
+use Rattle.qp_table.specs.Words.{mark_seen, shown_seen}
+use Rattle.qp_table.specs.Lane.{lane_of, lane_mark, on_table_of, tell, event_seen, tokens, tokens_in}
+use Rattle.qp_table.specs.Telling.{Rises, Touches}
+use Rattle.qp_table.specs.ViewLaws.{ViewKeeps}
+use Rattle.qp_table.proofs.Hands.{held-in, any-more, read-has}
+use Rattle.qp_table.proofs.Saying.{tell-more}
+use Rattle.qp_table.proofs.ViewLawLemmas.{records_gain, looks_show}
+use Rattle.qp_side.specs.Rule.{signal_at}
+use Rattle.qp_side.specs.Told.{last_seen}
+use Rattle.qp_side.specs.declared.view.SideView.{SideView}
 use Rattle.qp_shared_lane.specs.Holds.{LaneHolds, told_by, side_mark, on_side_of, AreRead, IsBehind, IsSideBehind, AreFormer, FormerIs, borne_out, KnowSubscribers}
 use Rattle.qp_shared_lane.specs.Lane.{standing, lane_with}
 use Rattle.qp_shared_lane.specs.More.{IsPut, Follows, SideFollows, Grown, AddsRecord, AddsNothing}
@@ -57,7 +57,7 @@ module _ (sys : System) (count ceiling : ℕ) (g : Log) (numbers : List ℕ) (v 
       (λ is. (grown e (holds.handled e is)).1)
       (λ is. absurd (cc))
 
-  pub keeps-all : (world : List ℕ) (by : ℕ) (u : View) → Follows sys v u → Keeps (lane_with world sys by g numbers v s) v u
+  pub keeps-all : (world : List ℕ) (by : ℕ) (u : View) → Follows sys v u → ViewKeeps (lane_with world sys by g numbers v s) v u
   keeps-all world by u goes = record { serves = goes.serves; events = keeps-events world by u goes.grown }
 
   module _ (h : Log) (more : List ℕ) (u : View) (z : SideView) (rec : Rec) (number : ℕ) (t : ToldItem)

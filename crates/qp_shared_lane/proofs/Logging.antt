@@ -10,8 +10,8 @@ use Rattle.qp_table.specs.declared.view.View.{View}
 use Rattle.qp_calls.specs.Tokens.{hands_after}
 use Rattle.qp_calls.specs.LaneView.{ceiling_in}
 use Rattle.qp_calls_log.specs.declared.log.Log.{Log}
-use Rattle.qp_shared_views.specs.Lane.{lane_of, own_recs, on_table_of, tell, event_seen, tokens, number_of}
-use Rattle.qp_side_words.specs.declared.SideView.{SideView}
+use Rattle.qp_table.specs.Lane.{lane_of, own_recs, on_table_of, tell, event_seen, tokens, lane_number}
+use Rattle.qp_side.specs.declared.view.SideView.{SideView}
 use Rattle.qp_shared_lane.specs.Holds.{LaneHolds, told_by, on_side_of, side_mark, AreRead, IsBehind, IsSideBehind, AreFormer, borne_out, KnowSubscribers}
 use Rattle.qp_shared_lane.specs.Lane.{lane_with}
 use Rattle.qp_shared_lane.specs.Laws.{LogsKeepTheLane}
@@ -29,7 +29,7 @@ module _ (sys : System) (count ceiling : ℕ) (g : Log) (numbers : List ℕ) (v 
     bare = holds.bare;
     lane = holds.lane;
     side_lane = ap (λ (x : View). length x.logs) view ∙ holds.side_lane;
-    number = ap number_of view ∙ holds.number;
+    number = ap lane_number view ∙ holds.number;
     same = ap on_table_of recs ∙ holds.same;
     same_side = ap on_side_of recs ∙ (holds.same_side ∙ ap own_recs (sym view));
     serves = λ o. ap (λ (x : View). list_any (is_serve o) x.serves) view ∙ holds.serves o;
@@ -57,7 +57,7 @@ module _ (sys : System) (count ceiling : ℕ) (g : Log) (numbers : List ℕ) (v 
 
   pub log-is : (world : List ℕ) (by : ℕ) → lane_with world sys by h numbers v z ≡ record (lane_with world sys by g numbers v s) { spare = h.spare; stops = h.stops.list; answered = h.answered.list }
   unfolding lane_of
-  log-is world by = (λ i. lane_of (record { world = world; sys = sys; number = number_of v; by = by; stops = h.stops.list; answered = h.answered.list; side = marks-are i }) (same-told i) h.spare v)
+  log-is world by = (λ i. lane_of (record { world = world; sys = sys; number = lane_number v; by = by; stops = h.stops.list; answered = h.answered.list; side = marks-are i }) (same-told i) h.spare v)
 
 pub logs-keep : LogsKeepTheLane
 logs-keep world sys by count ceiling g numbers v s h z holds recs view stops answered = record {

@@ -7,13 +7,13 @@ use Rattle.qp_model.specs.History.{touch, lane_items}
 use Rattle.qp_model.proofs.RecordLemmas.{lane-length}
 use Rattle.qp_table.specs.TwoTables.{on_side}
 use Rattle.qp_table.specs.After.{HasRoom}
-use Rattle.qp_table.specs.declared.view.Log as table_log
+use Rattle.qp_table.specs.declared.view.SeatLog as table_log
 use Rattle.qp_table.specs.declared.view.View.{View}
 use Rattle.qp_calls.specs.Tokens.{Token, same_token, stands, hands_after}
 use Rattle.qp_calls_log.specs.declared.log.Log.{Log}
 use Rattle.qp_calls_log.proofs.LogLemmas.{length-kinds}
-use Rattle.qp_shared_views.specs.Lane.{lane_of, own_of_logs, own_recs, event_seen, tokens}
-use Rattle.qp_shared_views.proofs.Saying.{has-room}
+use Rattle.qp_table.specs.Lane.{lane_of, own_of_logs, own_recs, event_seen, tokens}
+use Rattle.qp_table.proofs.Saying.{has-room}
 use Rattle.qp_shared_lane.specs.Holds.{told_by, on_side_of, recs_of}
 use Rattle.qp_shared_lane.specs.Laws.{SpareGivesRoom, HandsStand, LanesTellTheirLogs}
 use Rattle.qp_shared_lane.proofs.Telling.{told-bare}
@@ -34,12 +34,12 @@ side-length : (recs : List Rec) → length (on_side_of recs) ≤ length recs
 unfolding on_side_of
 side-length recs = let f = filter-length (λ (i : Item). on_side (touch i)) (lane_items recs) in let l = lane-length recs in omega arith
 
-side-room : (v : View) (logs : List table_log.Log) → v.logs ≡ logs → length logs ≡ 1 → length (own_of_logs logs) ≤ 1000000 → HasRoom v
+side-room : (v : View) (logs : List table_log.SeatLog) → v.logs ≡ logs → length logs ≡ 1 → length (own_of_logs logs) ≤ 1000000 → HasRoom v
 side-room v [] is one room = absurd (omega arith)
 side-room v (g ∷ []) is one room = record { own = g; others = []; is = is; room = rw is (let l = lane-length g.recs in omega arith) }
 side-room v (g ∷ h ∷ gs) is one room = absurd (omega arith)
 
-few-own : (logs : List table_log.Log) → length (own_of_logs logs) ≤ 1000000 → length (recs_of logs) ≤ 1000000
+few-own : (logs : List table_log.SeatLog) → length (own_of_logs logs) ≤ 1000000 → length (recs_of logs) ≤ 1000000
 few-own [] few = omega arith
 few-own (g ∷ gs) few = let l = lane-length g.recs in omega arith
 

@@ -7,10 +7,10 @@ use Rattle.qp_model.specs.declared.bodies.Body.TheVariants.{Sub, Unsub}
 use Rattle.qp_model.specs.Record.{Item, item_of}
 use Rattle.qp_model.specs.History.{touch, touch_of, lane_items}
 use Rattle.qp_table.specs.TwoTables.{on_side}
-use Rattle.qp_table.specs.declared.view.Log.{Log}
-use Rattle.qp_shared_views.specs.Lane.{own_of_logs, own_recs}
-use Rattle.qp_side_words.specs.Rule.{member_by_body, member_by, member_from, member_in}
-use Rattle.qp_side_words.specs.declared.SideView.{SideView}
+use Rattle.qp_table.specs.declared.view.SeatLog.{SeatLog}
+use Rattle.qp_table.specs.Lane.{own_of_logs, own_recs}
+use Rattle.qp_side.specs.Rule.{member_by_body, member_by, member_from, member_in}
+use Rattle.qp_side.specs.declared.view.SideView.{SideView}
 use Rattle.qp_shared_lane.specs.Holds.{on_side_of, member_over}
 
 off-side : (o s of : ℕ) (b : Body) (m : Bool) → on_side (touch_of of b) ≡ false → member_by_body o s of b m ≡ m
@@ -32,7 +32,7 @@ unfolding member_over member_from lane_items
 over-recs o s m [] = refl
 over-recs o s m (r ∷ recs) = over-recs o s (member_by o s (item_of r) m) recs
 
-over-logs : (o s : ℕ) (gs : List Log) → length gs ≡ 1 → member_over o s false (own_of_logs gs) ≡ member_in o s gs
+over-logs : (o s : ℕ) (gs : List SeatLog) → length gs ≡ 1 → member_over o s false (own_of_logs gs) ≡ member_in o s gs
 over-logs o s [] one = absurd (omega arith)
 over-logs o s (g ∷ []) one = over-recs o s false g.recs
 over-logs o s (g ∷ h ∷ gs) one = absurd (omega arith)

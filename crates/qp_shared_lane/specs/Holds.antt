@@ -19,26 +19,26 @@ use Rattle.qp_table.specs.TwoTables.{on_side}
 use Rattle.qp_table.specs.Counting.{many}
 use Rattle.qp_table.specs.Rule.{Fitting, params_of, pool_at, block_at, mark_in, is_entry, is_spot, is_spot_at, is_serve}
 use Rattle.qp_table.specs.declared.view.Glance.{Glance}
-use Rattle.qp_table.specs.declared.view.Log as table_log
+use Rattle.qp_table.specs.declared.view.SeatLog as table_log
 use Rattle.qp_table.specs.declared.view.View.{View}
 use Rattle.qp_calls.specs.LaneView.{handled_in, ceiling_in}
 use Rattle.qp_calls.specs.Tokens.{Token, token_of, hands_after}
 use Rattle.qp_calls_log.specs.declared.Log.{Log}
-use Rattle.qp_shared_views.specs.Words.{mark_seen}
-use Rattle.qp_shared_views.specs.Lane.{own_recs, on_table_of, tell, event_seen, has_content, is_read, tokens, tokens_in, number_of}
-use Rattle.qp_shared_views.specs.Telling.{is_on_table}
-use Rattle.qp_shared_steps.specs.Asked.{is_unfinished, is_begun}
-use Rattle.qp_shared_steps.specs.Told.{HasPlace}
-use Rattle.qp_side_words.specs.Rule.{SideFitting, signal_at, timer_at, member_by}
-use Rattle.qp_side_words.specs.Told.{last_seen}
-use Rattle.qp_side_words.specs.declared.SideView.{SideView}
+use Rattle.qp_table.specs.Words.{mark_seen}
+use Rattle.qp_table.specs.Lane.{own_recs, on_table_of, tell, event_seen, has_content, is_read, tokens, tokens_in, lane_number}
+use Rattle.qp_table.specs.Telling.{is_on_table}
+use Rattle.qp_table.specs.Asked.{is_unfinished, is_begun}
+use Rattle.qp_table.specs.Told.{HasPlace}
+use Rattle.qp_side.specs.Rule.{SideFitting, signal_at, timer_at, member_by}
+use Rattle.qp_side.specs.Told.{last_seen}
+use Rattle.qp_side.specs.declared.view.SideView.{SideView}
 
 -- the records of a list that are on the side table
 unfoldable pub on_side_of : List Rec → List Item
 on_side_of recs = filter (λ i. on_side (touch i)) (lane_items recs)
 
 -- the records of the first log
-abbrev pub recs_of : List table_log.Log → List Rec
+abbrev pub recs_of : List table_log.SeatLog → List Rec
 recs_of [] = []
 recs_of (g ∷ gs) = g.recs
 
@@ -162,7 +162,7 @@ pub record LaneHolds (sys : System) (count ceiling : ℕ) (g : Log) (numbers : L
   -- one log on each table, of one number
   pub lane : length v.logs ≡ 1
   pub side_lane : length s.view.logs ≡ 1
-  pub number : number_of s.view ≡ number_of v
+  pub number : lane_number s.view ≡ lane_number v
   -- the records, by the tables that they are on
   pub same : on_table_of g.recs.items ≡ own_recs v
   pub same_side : on_side_of g.recs.items ≡ own_recs s.view
@@ -183,8 +183,8 @@ pub record LaneHolds (sys : System) (count ceiling : ℕ) (g : Log) (numbers : L
   pub formers : AreFormer 0 (told_by g numbers v)
   pub ceiling_is : ceiling_in 0 (told_by g numbers v) ≡ ceiling
   -- lane 0 has the numbers that were given to no lane
-  pub rights : length v.logs + length v.lane_numbers ≡ cond (eqb (number_of v) 0) (50 - count) 1
-  pub side_rights : length s.view.logs + length s.view.lane_numbers ≡ cond (eqb (number_of v) 0) (50 - count) 1
+  pub rights : length v.logs + length v.lane_numbers ≡ cond (eqb (lane_number v) 0) (50 - count) 1
+  pub side_rights : length s.view.logs + length s.view.lane_numbers ≡ cond (eqb (lane_number v) 0) (50 - count) 1
 
 pub LaneHolds-prop : (sys : System) (count ceiling : ℕ) (g : Log) (numbers : List ℕ) (v : View) (s : SideView) → IsProp (LaneHolds sys count ceiling g numbers v s)
 LaneHolds-prop sys count ceiling g numbers v s = hlevel (props, AreFormer-prop, KnowSubscribers-prop)

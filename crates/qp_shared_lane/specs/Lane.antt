@@ -5,8 +5,8 @@ use Rattle.qp_table.specs.declared.view.View.{View}
 use Rattle.qp_calls.specs.LaneView.{LaneView}
 use Rattle.qp_calls_log.specs.declared.Log.{Log}
 use Rattle.atomic_table.specs.Seated.{TableId}
-use Rattle.qp_shared_views.specs.Lane.{Standing, lane_of, number_of}
-use Rattle.qp_side_words.specs.declared.SideView.{SideView}
+use Rattle.qp_table.specs.Lane.{Standing, lane_of, lane_number}
+use Rattle.qp_side.specs.declared.view.SideView.{SideView}
 use Rattle.qp_shared_lane.specs.Holds.{told_by, side_mark}
 use Rattle.qp_shared_lane.specs.declared.lane.LaneState.{LaneState}
 
@@ -19,7 +19,7 @@ world_of table side count = count ∷ table_name table (table_name side [])
 
 -- what a lane is besides its records and its view of the event table
 abbrev pub standing : List ℕ → System → ℕ → Log → View → SideView → Standing
-standing world sys by g v s = record { world = world; sys = sys; number = number_of v; by = by; stops = g.stops.list; answered = g.answered.list; side = side_mark sys s }
+standing world sys by g v s = record { world = world; sys = sys; number = lane_number v; by = by; stops = g.stops.list; answered = g.answered.list; side = side_mark sys s }
 
 -- the lane with this log, these numbers beside its records, and these views of both tables
 abbrev pub lane_with : List ℕ → System → ℕ → Log → List ℕ → View → SideView → LaneView

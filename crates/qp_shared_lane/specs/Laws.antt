@@ -15,11 +15,11 @@ use Rattle.qp_calls.specs.Tokens.{Token, stands, hands_after}
 use Rattle.qp_calls_log.specs.declared.log.Log.{Log}
 use Rattle.qp_calls_log.specs.LaneLaws.{TellsLog}
 use Rattle.atomic_table.specs.Seated.{TableId}
-use Rattle.qp_shared_views.specs.Words.{shown_seen}
-use Rattle.qp_shared_views.specs.Lane.{lane_mark, tokens_in}
-use Rattle.qp_shared_views.specs.Telling.{Rises, Touches}
-use Rattle.qp_side_words.specs.Rule.{member_in}
-use Rattle.qp_side_words.specs.declared.SideView.{SideView}
+use Rattle.qp_table.specs.Words.{shown_seen}
+use Rattle.qp_table.specs.Lane.{lane_mark, tokens_in}
+use Rattle.qp_table.specs.Telling.{Rises, Touches}
+use Rattle.qp_side.specs.Rule.{member_in}
+use Rattle.qp_side.specs.declared.view.SideView.{SideView}
 use Rattle.qp_shared_lane.specs.Holds.{LaneHolds, told_by, side_mark, recs_of, member_over}
 use Rattle.qp_shared_lane.specs.Lane.{world_of, lane_with}
 use Rattle.qp_shared_lane.specs.More.{IsPut, Follows, SideFollows, AddsRecord, AddsNothing, OnTable, OnSide, IsNoted}

@@ -17,12 +17,12 @@ use Rattle.qp_table.specs.declared.view.Glance.{Glance}
 use Rattle.qp_table.specs.declared.view.View.{View}
 use Rattle.qp_calls.specs.Tokens.{Token, token_of, hands_by, handles}
 use Rattle.qp_calls_log.specs.declared.log.Log.{Log}
-use Rattle.qp_shared_views.specs.Words.{place_of, mark_seen}
-use Rattle.qp_shared_views.specs.Lane.{own_recs, on_table_of, event_seen, has_content, told_as, tokens, tokens_in, number_of}
-use Rattle.qp_shared_views.specs.Telling.{Saw, Touches, is_on_table}
-use Rattle.qp_side_words.specs.Rule.{signal_at}
-use Rattle.qp_side_words.specs.Told.{last_seen}
-use Rattle.qp_side_words.specs.declared.SideView.{SideView}
+use Rattle.qp_table.specs.Words.{place_of, mark_seen}
+use Rattle.qp_table.specs.Lane.{own_recs, on_table_of, event_seen, has_content, told_as, tokens, tokens_in, lane_number}
+use Rattle.qp_table.specs.Telling.{Saw, Touches, is_on_table}
+use Rattle.qp_side.specs.Rule.{signal_at}
+use Rattle.qp_side.specs.Told.{last_seen}
+use Rattle.qp_side.specs.declared.view.SideView.{SideView}
 use Rattle.qp_shared_lane.specs.Holds.{on_side_of, side_mark, SubscriberIs, IsRead, IsStill, IsPlaced, IsWorn, FormerIs, borne_out}
 
 -- the record stands at the end of the log, and the number beside it; nothing else changes but the spare and what is kept for a `spill`
@@ -43,7 +43,7 @@ SeesMore old new = (more : List Glance) × (new ≡ old ++ more)
 -- The view of the event table after a call or a part of one, which began with v. All but records and hands.
 pub record Follows (sys : System) (v u : View) : Type 0 where
   pub logs : length u.logs ≡ length v.logs
-  pub number : number_of u ≡ number_of v
+  pub number : lane_number u ≡ lane_number v
   pub lane_numbers : u.lane_numbers ≡ v.lane_numbers
   pub serves : (o : ℕ) → list_any (is_serve o) u.serves ≡ list_any (is_serve o) v.serves
   pub grown : Grown v u
@@ -57,7 +57,7 @@ pub record Follows (sys : System) (v u : View) : Type 0 where
 -- the same of the view of the side table
 pub record SideFollows (sys : System) (s z : SideView) : Type 0 where
   pub logs : length z.view.logs ≡ length s.view.logs
-  pub number : number_of z.view ≡ number_of s.view
+  pub number : lane_number z.view ≡ lane_number s.view
   pub lane_numbers : z.view.lane_numbers ≡ s.view.lane_numbers
   pub serves : z.view.serves ≡ s.view.serves
   pub rise : (k : ℕ) → IsTrue (is_signal sys k) → mark_in (signal_at k) (last_seen (signal_at k) s) ≤ mark_in (signal_at k) (last_seen (signal_at k) z)

@@ -9,10 +9,9 @@ use crate::rings::Rings;
 use atomic_table::Seat;
 use qp_calls_log::Log;
 use qp_model::System;
-use qp_shared_views::Numbers;
 use qp_shared_words::Words;
 use qp_side::SideSeat;
-use qp_table::View;
+use qp_table::{Numbers, View};
 
 /// The lane of one thread: the lengths of its system's rings, its seats on both tables, after how many operations the lives of its used
 /// blocks ended, the object for which it adds records, how many lanes the table became, the ceiling of its last `lock` or `unlock`, its

@@ -10,7 +10,7 @@ ghost use Rattle.qp_shared_lane.specs.More.{IsPut};
 use qp_calls::Counts;
 use qp_calls_log::Log;
 use qp_model::Rec;
-use qp_shared_views::Numbers;
+use qp_table::Numbers;
 
 /// Adds a record that is neither a `nil` nor a `spill`, and the number beside it.
 #[inline(always)]

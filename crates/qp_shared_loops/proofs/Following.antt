@@ -13,10 +13,10 @@ use Rattle.qp_table.specs.After.{HasRoom, InHand}
 use Rattle.qp_table.specs.declared.view.Glance.{Glance}
 use Rattle.qp_table.specs.declared.view.View.{View}
 use Rattle.qp_table.proofs.Marks.{high-mark}
-use Rattle.qp_shared_views.specs.Words.{place_of, value_seen, Ahead}
-use Rattle.qp_shared_views.specs.Telling.{Saw, OwnTold}
-use Rattle.qp_shared_views.proofs.Gaining.{saw-then}
-use Rattle.qp_shared_steps.specs.Told.{QueueTold, free_in}
+use Rattle.qp_table.specs.Words.{place_of, value_seen, Ahead}
+use Rattle.qp_table.specs.Telling.{Saw, OwnTold}
+use Rattle.qp_table.proofs.Gaining.{saw-then}
+use Rattle.qp_table.specs.Told.{QueueTold, free_in}
 use Rattle.qp_shared_loops.specs.Ends.{SeesMore, seeing}
 
 pub sees-none : (xs : List Glance) → SeesMore xs xs

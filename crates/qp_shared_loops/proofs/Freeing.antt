@@ -10,10 +10,10 @@ use Rattle.qp_table.specs.After.{Steps, learned}
 use Rattle.qp_table.specs.declared.view.Content.{Content}
 use Rattle.qp_table.specs.declared.view.View.{View}
 use Rattle.qp_table.proofs.Counting.{many-snoc}
-use Rattle.qp_shared_views.specs.Lane.{has_content}
-use Rattle.qp_shared_steps.specs.Told.{freed, FreeTold}
-use Rattle.qp_shared_steps.proofs.Found.{get-set}
-use Rattle.qp_shared_steps.proofs.Reading.{word-is}
+use Rattle.qp_table.specs.Lane.{has_content}
+use Rattle.qp_table.specs.Told.{freed, FreeTold}
+use Rattle.qp_table.proofs.Found.{get-set}
+use Rattle.qp_table.proofs.Reading.{word-is}
 use Rattle.qp_shared_loops.specs.Ends.{KnowsEvent}
 
 entry-here : (e : Entry) → is_entry e e ≡ true

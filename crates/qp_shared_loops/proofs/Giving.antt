@@ -16,11 +16,11 @@ use Rattle.qp_table.specs.declared.view.Fill.{Fill}
 use Rattle.qp_table.specs.declared.view.Glance.{Glance}
 use Rattle.qp_table.specs.declared.view.View.{View}
 use Rattle.qp_table.proofs.Counting.{many-snoc}
-use Rattle.qp_shared_steps.specs.Asked.{is_asked}
-use Rattle.qp_shared_views.proofs.Gaining.{saw-then}
-use Rattle.qp_shared_steps.specs.Told.{WordTold, FromTold, EyePoolTold, GiveTold, eyed_pool, shortage_rec, free_of}
+use Rattle.qp_table.specs.Asked.{is_asked}
+use Rattle.qp_table.proofs.Gaining.{saw-then}
+use Rattle.qp_table.specs.Told.{WordTold, FromTold, EyePoolTold, GiveTold, eyed_pool, shortage_rec, free_of}
 use Rattle.qp_shared_loops.proofs.Following.{sees-one, sees-then, ahead-then}
-use Rattle.qp_shared_loops.specs.Ends.{SeesMore, was_seen_as, seeing, filling, word_without, given_at, GivesBlock, Gives}
+use Rattle.qp_shared_loops.specs.Ends.{SeesMore, was_seen_as, seeing, filling, word_without, given_at, GivesBlock, LoopGives}
 
 -- Only what was seen has changed, and of a pool's word x was seen last
 pub record PoolSeen (sys : System) (p : ℕ) (v u : View) (x : ℕ) : Type 0 where
@@ -125,7 +125,7 @@ module _ (sys : System) (p o : ℕ) (reserve : Option ℕ) (sig : ℕ) (pars : L
   kept-told : (fills : List Fill) (n k : ℕ) → WordTold sys (word.Pool p) v z n k → WordTold sys (word.Pool p) v (filling fills z) n k
   kept-told fills n k t = record { found = t.found; saw = record { here = t.saw.here; value = t.saw.value; others = t.saw.others; le = t.saw.le; same = t.saw.same } }
 
-  pub gives-all : (y u : View) (n : ℕ) → y ≡ filling [] z → ((at : ℕ) → 0 < many (is_spot_at p b at) y.fresh → FromTold sys p b at y n u) → Gives sys p o reserve sig pars v x b (n / 4294967296) u
+  pub gives-all : (y u : View) (n : ℕ) → y ≡ filling [] z → ((at : ℕ) → 0 < many (is_spot_at p b at) y.fresh → FromTold sys p b at y n u) → LoopGives sys p o reserve sig pars v x b (n / 4294967296) u
   gives-all y u n y_is told =
       let t = told e.from (subst (λ (q : View). 0 < many (is_spot_at p b e.from) q.fresh) (sym y_is) begins-there) in
       let even = t.3 in

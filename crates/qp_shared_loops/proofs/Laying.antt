@@ -10,8 +10,8 @@ use Rattle.qp_table.specs.QueueLaws.{f_in, l_in, m_in, cells_of}
 use Rattle.qp_table.specs.declared.view.CellPlace.{CellPlace}
 use Rattle.qp_table.specs.declared.view.View.{View}
 use Rattle.qp_table.proofs.Counting.{many-snoc}
-use Rattle.qp_shared_steps.specs.Asked.{older, oldest, IsOldest}
-use Rattle.qp_shared_steps.specs.Told.{before_front}
+use Rattle.qp_table.specs.Asked.{older, oldest, IsOldest}
+use Rattle.qp_table.specs.Told.{before_front}
 use Rattle.qp_shared_loops.specs.Ends.{Claims, PutsFirst}
 
 pub place-here : (a j : ℕ) (e : Entry) (k : ℕ) → cond {A = ℕ} (is_place a j e (place a j e k)) 1 0 ≡ 1

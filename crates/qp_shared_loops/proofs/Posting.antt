@@ -9,7 +9,7 @@ use Rattle.qp_model.specs.Sites.{ring_of}
 use Rattle.qp_table.specs.Rule.{queue_at, mark_in}
 use Rattle.qp_table.specs.After.{glanced, noted}
 use Rattle.qp_table.specs.declared.view.View.{View}
-use Rattle.qp_shared_steps.specs.Told.{free_in, refusal_rec, eyed_for, EyeTold, TryTold}
+use Rattle.qp_table.specs.Told.{free_in, refusal_rec, eyed_for, EyeTold, TryTold}
 use Rattle.qp_shared_loops.specs.Ends.{seeing}
 use Rattle.qp_shared_loops.proofs.Following.{Seen, queue-then, sees-one, sees-then}
 

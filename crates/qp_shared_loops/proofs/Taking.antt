@@ -9,11 +9,11 @@ use Rattle.qp_table.specs.Counting.{many}
 use Rattle.qp_table.specs.Rule.{queue_at, mark_in, Codable, is_place, is_serve, on_queue}
 use Rattle.qp_table.specs.After.{HasRoom, glanced, noted, emptied, learned, place}
 use Rattle.qp_table.specs.QueueLaws.{f_in, l_in, m_in, cells_of}
-use Rattle.qp_table.specs.declared.view.Log.{Log}
+use Rattle.qp_table.specs.declared.view.SeatLog.{SeatLog}
 use Rattle.qp_table.specs.declared.view.View.{View}
 use Rattle.qp_table.proofs.Counting.{many-snoc}
 use Rattle.qp_table.proofs.Marks.{high-mark}
-use Rattle.qp_shared_steps.specs.Told.{QueueTold, NilTold, nil_rec, freed, FreeTold}
+use Rattle.qp_table.specs.Told.{QueueTold, NilTold, nil_rec, freed, FreeTold}
 use Rattle.qp_shared_words.specs.Fronts.{KnowsFront}
 use Rattle.qp_shared_loops.specs.Ends.{seeing, KnowsEvent, Takes}
 use Rattle.qp_shared_loops.proofs.Following.{Seen, queue-then, sees-one}
@@ -36,7 +36,7 @@ knows-front sys a ring j v z x seen room serves idle ring_is j_is =
     let last : ring ≡ cells_of sys a - 1 = omega arith in
     subst (KnowsFront sys a j) (sym seen.is) (record {
       serves = serves;
-      log = subst (λ (gs : List Log). 0 < length gs) (sym room.is) (omega arith);
+      log = subst (λ (gs : List SeatLog). 0 < length gs) (sym room.is) (omega arith);
       idle = idle;
       cell = j_is ∙ (λ i. (mine.1 i + last i * mine.0 i) % (ring_is i + 1));
     })

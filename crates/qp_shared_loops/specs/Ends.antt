@@ -8,8 +8,8 @@ use Rattle.qp_model.specs.declared.systems.System.{System}
 use Rattle.qp_model.specs.declared.bodies.Entry.{Entry}
 use Rattle.qp_model.specs.Sites.{ring_of}
 use Rattle.qp_model.specs.declared.words.Word.TheVariants as word
-use Rattle.qp_calls.specs.declared.tokens.Entry as token
-use Rattle.qp_calls.specs.declared.tokens.Entry.TheVariants as entries
+use Rattle.qp_calls.specs.declared.tokens.HeldEntry as token
+use Rattle.qp_calls.specs.declared.tokens.HeldEntry.TheVariants as entries
 use Rattle.qp_calls.specs.Clauses.{entry_of}
 use Rattle.qp_table.specs.Rule.{pool_at, block_at, queue_at, Codable, IsContent}
 use Rattle.qp_table.specs.After.{noted, rec_of, laid, emptied, learned, gave, read_from}
@@ -17,8 +17,8 @@ use Rattle.qp_table.specs.declared.view.Fill.{Fill}
 use Rattle.qp_table.specs.declared.view.Glance.{Glance}
 use Rattle.qp_table.specs.declared.view.View.{View}
 use Rattle.qp_table.specs.QueueLaws.{f_in, l_in, m_in}
-use Rattle.qp_shared_views.specs.Lane.{event_seen}
-use Rattle.qp_shared_steps.specs.Told.{QueueTold, free_in, refusal_rec, claimed_at, put_first_at, before_front, freed, NilTold, IsEvent, HasPlace, WordTold, free_of, shortage_rec, IsLowest}
+use Rattle.qp_table.specs.Lane.{event_seen}
+use Rattle.qp_table.specs.Told.{QueueTold, free_in, refusal_rec, claimed_at, put_first_at, before_front, freed, NilTold, IsGivenEvent, HasPlace, WordTold, free_of, shortage_rec, IsLowest}
 use Rattle.qp_shared_loops.specs.declared.gives.Life.{Life}
 
 -- more was seen
@@ -115,9 +115,9 @@ abbrev pub KnowsEvent : System → Entry → View → Type 0
 KnowsEvent sys e u = 0 < e.pool → IsContent sys (event_seen u.contents e).sig (event_seen u.contents e).pars
 
 -- a reference is to a block of a pool
-abbrev pub IsNamed : token.Entry → Type 0
-IsNamed (entries.Static sig) = Unit {0}
-IsNamed (entries.Pool h) = 0 < h.pool
+abbrev pub IsReference : token.HeldEntry → Type 0
+IsReference (entries.Static sig) = Unit {0}
+IsReference (entries.Pool h) = 0 < h.pool
 
 -- The entry e was taken where the queue's word was x: its cell was emptied, then it was freed, and a pooled one's event was learned.
 pub record Takes (sys : System) (a : ℕ) (e : Entry) (v : View) (x : ℕ) (u : View) : Type 0 where
@@ -127,7 +127,7 @@ pub record Takes (sys : System) (a : ℕ) (e : Entry) (v : View) (x : ℕ) (u : 
   pub event : List ℕ
   pub is : u ≡ cond {A = View} (eqb e.pool 0) (freed a cell e (emptied (seeing glances v) a cell e) x) (learned (freed a cell e (emptied (seeing glances v) a cell e) x) e event)
   pub codable : Codable sys e
-  pub content : 0 < e.pool → IsEvent sys event × HasPlace e.pool e.block
+  pub content : 0 < e.pool → IsGivenEvent sys event × HasPlace e.pool e.block
   pub knows : KnowsEvent sys e u
   pub some : m_in x < f_in x + l_in x
   pub told : QueueTold sys a v u x (x + 4398046511104)
@@ -136,13 +136,13 @@ pub record Takes (sys : System) (a : ℕ) (e : Entry) (v : View) (x : ℕ) (u : 
 abbrev pub TakesNone : System → (ℕ → Bool) → ℕ → View → ℕ → View → Type 0
 TakesNone sys is_new a v x u = NilTold sys is_new a v x u × (f_in x + l_in x ≡ m_in x)
 
-abbrev pub TakeEnds : System → (ℕ → Bool) → ℕ → View → ℕ → Option token.Entry → View → Type 0
-TakeEnds sys is_new a v x (Some e) u = Takes sys a (entry_of e) v x u × IsNamed e
+abbrev pub TakeEnds : System → (ℕ → Bool) → ℕ → View → ℕ → Option token.HeldEntry → View → Type 0
+TakeEnds sys is_new a v x (Some e) u = Takes sys a (entry_of e) v x u × IsReference e
 TakeEnds sys is_new a v x None u = TakesNone sys is_new a v x u
 
 -- the front cell was laid with the entry e, and is empty now
-abbrev pub Empties : System → ℕ → ℕ → token.Entry → View → View → Type 0
-Empties sys a cell e v u = Codable sys (entry_of e) × (u ≡ emptied v a cell (entry_of e)) × IsNamed e
+abbrev pub Empties : System → ℕ → ℕ → token.HeldEntry → View → View → Type 0
+Empties sys a cell e v u = Codable sys (entry_of e) × (u ≡ emptied v a cell (entry_of e)) × IsReference e
 
 -- the same view, with these event words to be written
 abbrev pub filling : List Fill → View → View
@@ -184,7 +184,7 @@ BlockEnds sys p o reserve sig pars v x None u = GivesNone sys p o reserve v x u
 
 -- The same, and then the block's event was written and its word looked at, which shows after how many operations its life begins, and
 -- that no reference stands. `mid` is a view between the two looks.
-pub record Gives (sys : System) (p o : ℕ) (reserve : Option ℕ) (sig : ℕ) (pars : List ℕ) (v : View) (x b from : ℕ) (u : View) : Type 0 where
+pub record LoopGives (sys : System) (p o : ℕ) (reserve : Option ℕ) (sig : ℕ) (pars : List ℕ) (v : View) (x b from : ℕ) (u : View) : Type 0 where
   pub glances : List Glance
   pub more : SeesMore v.seen glances
   pub looked : IsTrue (was_seen_as glances (pool_at p) x)
@@ -199,5 +199,5 @@ pub record Gives (sys : System) (p o : ℕ) (reserve : Option ℕ) (sig : ℕ) (
   pub shown : WordTold sys (word.Block p b) mid u (from * 4294967296) (from * 4294967296)
 
 abbrev pub GiveEnds : System → ℕ → ℕ → Option ℕ → ℕ → List ℕ → View → ℕ → Option Life → View → Type 0
-GiveEnds sys p o reserve sig pars v x (Some life) u = Gives sys p o reserve sig pars v x life.block life.from u
+GiveEnds sys p o reserve sig pars v x (Some life) u = LoopGives sys p o reserve sig pars v x life.block life.from u
 GiveEnds sys p o reserve sig pars v x None u = GivesNone sys p o reserve v x u

@@ -8,7 +8,7 @@ ghost use Rattle.qp_model.specs.WordLaw.{is_object};
 ghost use Rattle.qp_table.specs.Counting.{many};
 ghost use Rattle.qp_table.specs.Rule.{queue_at, mark_in, on_queue, is_serve, Codable, code};
 ghost use Rattle.qp_table.specs.After.{HasRoom, InHand};
-ghost use Rattle.qp_shared_views.specs.Words.{value_seen};
+ghost use Rattle.qp_table.specs.Words.{value_seen};
 ghost use Rattle.qp_shared_loops.specs.Ends.{PostEnds, PostFirstEnds};
 
 use crate::last_in::claim_entry_last_in;

@@ -8,17 +8,16 @@ ghost use Rattle.qp_model.specs.WordLaw.{is_pool};
 ghost use Rattle.qp_table.specs.Counting.{many};
 ghost use Rattle.qp_table.specs.Rule.{pool_at, mark_in, is_spot, IsContent};
 ghost use Rattle.qp_table.specs.After.{HasRoom, fills_for};
-ghost use Rattle.qp_shared_views.specs.Words.{value_seen};
-ghost use Rattle.qp_shared_steps.specs.Asked.{size_of, is_unfinished, is_asked};
-ghost use Rattle.qp_shared_steps.specs.Told.{free_of, HasPlace, IsLowest};
+ghost use Rattle.qp_table.specs.Words.{value_seen};
+ghost use Rattle.qp_table.specs.Asked.{size_of, is_unfinished, is_asked};
+ghost use Rattle.qp_table.specs.Told.{free_of, HasPlace, IsLowest};
 ghost use Rattle.qp_shared_loops.specs.Ends.{BlockEnds, GiveEnds, filling};
 
 use atomic_table::Seat;
 use qp_base::{Ev, Steps};
-use qp_shared_views::UNIT;
 use qp_shared_words::Words;
 use qp_shared_words::blocks::{fill, look_at_pool, read_beginning, try_give};
-use qp_table::View;
+use qp_table::{UNIT, View};
 use std::sync::ledger::Ledger;
 
 /// A block that was given out, and the number of operations of its word at which its life begins.

@@ -8,8 +8,8 @@ ghost use Rattle.qp_model.specs.WordLaw.{is_object};
 ghost use Rattle.qp_table.specs.Counting.{many};
 ghost use Rattle.qp_table.specs.Rule.{queue_at, mark_in, on_queue, is_serve};
 ghost use Rattle.qp_table.specs.After.{HasRoom, InHand};
-ghost use Rattle.qp_shared_views.specs.Words.{value_seen};
-ghost use Rattle.qp_shared_steps.specs.Told.{free_in, EyeLastTold, LastTold};
+ghost use Rattle.qp_table.specs.Words.{value_seen};
+ghost use Rattle.qp_table.specs.Told.{free_in, EyeLastTold, LastTold};
 ghost use Rattle.qp_shared_loops.specs.Ends.{IsShort, LastInEnds};
 
 use crate::posts::free_in;

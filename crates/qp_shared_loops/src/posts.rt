@@ -6,8 +6,8 @@ ghost use Rattle.qp_model.specs.Sites.{ring_of};
 ghost use Rattle.qp_model.specs.WordLaw.{is_object};
 ghost use Rattle.qp_table.specs.Rule.{queue_at, mark_in};
 ghost use Rattle.qp_table.specs.After.{HasRoom, InHand};
-ghost use Rattle.qp_shared_views.specs.Words.{value_seen};
-ghost use Rattle.qp_shared_steps.specs.Told.{free_in};
+ghost use Rattle.qp_table.specs.Words.{value_seen};
+ghost use Rattle.qp_table.specs.Told.{free_in};
 ghost use Rattle.qp_shared_loops.specs.Ends.{ClaimEnds};
 
 use atomic_table::Seat;

@@ -9,15 +9,15 @@ ghost use Rattle.qp_calls.specs.Clauses.{entry_of};
 ghost use Rattle.qp_table.specs.Counting.{many};
 ghost use Rattle.qp_table.specs.Rule.{is_place, on_queue, is_serve};
 ghost use Rattle.qp_table.specs.After.{HasRoom};
-ghost use Rattle.qp_shared_steps.specs.Told.{FreeTold};
+ghost use Rattle.qp_table.specs.Told.{FreeTold};
 ghost use Rattle.qp_shared_words.specs.Fronts.{KnowsFront};
 ghost use Rattle.qp_shared_words.specs.Nils.{is_new};
 ghost use Rattle.qp_shared_loops.specs.Coded.{entry_in};
-ghost use Rattle.qp_shared_loops.specs.Ends.{Empties, IsNamed, KnowsEvent, TakeEnds};
+ghost use Rattle.qp_shared_loops.specs.Ends.{Empties, IsReference, KnowsEvent, TakeEnds};
 
 use crate::rings::in_ring;
 use atomic_table::Seat;
-use qp_calls::{Counts, Entry, Hold};
+use qp_calls::{Counts, HeldEntry, Hold};
 use qp_shared_words::Words;
 use qp_shared_words::places::queue_at;
 use qp_shared_words::queues::{empty_front, look_at_cell, look_before_take};
@@ -27,15 +27,15 @@ use std::marker::Brand;
 use std::sync::Wait;
 
 /// The entry of which a cell has the code.
-fn entry_in(code: u64) -> Entry
+fn entry_in(code: u64) -> HeldEntry
     ensures value { entry_of result ≡ entry_in code }
-    ensures named { IsNamed result }
+    ensures named { IsReference result }
 {
     let pool = (code / 9007199254740992 % 16) as u8;
     if pool == 0 {
-        Entry::Static((code % 65536) as u16)
+        HeldEntry::Static((code % 65536) as u16)
     } else {
-        Entry::Pool(Hold::of(
+        HeldEntry::Pool(Hold::of(
             pool,
             (code / 281474976710656 % 32) as u8,
             code % 281474976710656,
@@ -44,12 +44,12 @@ fn entry_in(code: u64) -> Entry
 }
 
 /// An entry's pool, block and reference, as records state them: a static one has pool 0 and its signal as its block.
-pub fn parts(e: &Entry) -> (u8, u16, u64)
+pub fn parts(e: &HeldEntry) -> (u8, u16, u64)
     ensures { entry_of e.now ≡ entry result.0 result.1 result.2 }
 {
     match e {
-        Entry::Static(sig) => (0, *sig, 0),
-        Entry::Pool(hold) => (hold.pool(), u16::from(hold.block()), hold.name()),
+        HeldEntry::Static(sig) => (0, *sig, 0),
+        HeldEntry::Pool(hold) => (hold.pool(), u16::from(hold.block()), hold.name()),
     }
 }
 
@@ -64,7 +64,12 @@ fn front(ring: u8, lifos: u64, takes: u64) -> u16
 }
 
 /// Reads the front cell, and empties it where it is laid. None where it isn't, and nothing changes.
-fn empty_if_laid(words: &Words, seat: &mut Seat<(), View>, object: u8, cell: u16) -> Option<Entry>
+fn empty_if_laid(
+    words: &Words,
+    seat: &mut Seat<(), View>,
+    object: u8,
+    cell: u16,
+) -> Option<HeldEntry>
     requires own { seat.old.table_id ≡ words.now.shared.table_id }
     requires wide { words.now.shared.table_id.words ≡ 21128 }
     requires object { IsTrue (is_object words.now.shared.key object) }
@@ -93,7 +98,7 @@ fn empty_once_laid<R: Wait>(
     seat: &mut Seat<(), View>,
     object: u8,
     cell: u16,
-) -> Entry
+) -> HeldEntry
     requires own { seat.old.table_id ≡ words.now.shared.table_id }
     requires wide { words.now.shared.table_id.words ≡ 21128 }
     requires object { IsTrue (is_object words.now.shared.key object) }
@@ -117,7 +122,7 @@ fn empty_when_laid<R: Wait>(
     seat: &mut Seat<(), View>,
     object: u8,
     cell: u16,
-) -> Entry
+) -> HeldEntry
     requires own { seat.old.table_id ≡ words.now.shared.table_id }
     requires wide { words.now.shared.table_id.words ≡ 21128 }
     requires object { IsTrue (is_object words.now.shared.key object) }
@@ -178,7 +183,7 @@ pub fn take_entry<R: Wait>(
     object: u8,
     ring: u8,
     last: Option<Counts>,
-) -> (u64, Option<Entry>)
+) -> (u64, Option<HeldEntry>)
     requires own { seat.old.table_id ≡ words.now.shared.table_id }
     requires wide { words.now.shared.table_id.words ≡ 21128 }
     requires object { IsTrue (is_object words.now.shared.key object) }

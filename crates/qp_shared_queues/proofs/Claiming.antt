@@ -18,14 +18,14 @@ use Rattle.qp_table.specs.QueueLaws.{f_in, l_in, m_in}
 use Rattle.qp_table.proofs.Looks.{full-says, no_entry-says}
 use Rattle.qp_table.proofs.Marks.{high-mark}
 use Rattle.qp_table.proofs.QueueSteps.{post-says}
-use Rattle.qp_calls.specs.declared.tokens.Entry.{Entry}
+use Rattle.qp_calls.specs.declared.tokens.HeldEntry.{HeldEntry}
 use Rattle.qp_calls.specs.declared.answers.Claim.{Claim}
 use Rattle.qp_calls.specs.declared.answers.Claim.TheVariants as answer
-use Rattle.qp_calls.specs.Clauses.{entry_of, Claims, PostsIt, PostsNot, Tries, draws_claimed, refusal_of}
+use Rattle.qp_calls.specs.Clauses.{entry_of, ClaimsEntry, PostsIt, PostsNot, Tries, draws_claimed, refusal_of}
 use Rattle.qp_calls_log.specs.declared.log.Log.{Log}
-use Rattle.qp_shared_views.specs.Words.{value_seen}
-use Rattle.qp_shared_views.specs.Lane.{lane_of}
-use Rattle.qp_shared_steps.specs.Told.{refusal_rec}
+use Rattle.qp_table.specs.Words.{value_seen}
+use Rattle.qp_table.specs.Lane.{lane_of}
+use Rattle.qp_table.specs.Told.{refusal_rec}
 use Rattle.qp_shared_loops.specs.Ends.{ClaimsNone, Posts, PostEnds}
 use Rattle.qp_shared_lane.specs.declared.lane.LaneState.{LaneState}
 use Rattle.qp_shared_lane.specs.Lane.{state_view}
@@ -37,7 +37,7 @@ use Rattle.qp_shared_queues.proofs.Noting.{IsNeutral, neutral-full, neutral-no_e
 use Rattle.qp_shared_queues.proofs.Posting.{StandsIn, post-is, claims-gone, posted-holds, posted-adds, posted-shows}
 
 -- the answer, by whether the entry was posted
-abbrev pub AnswerIs : Bool → Entry → ℕ → ℕ → ℕ → Claim → Type 0
+abbrev pub AnswerIs : Bool → HeldEntry → ℕ → ℕ → ℕ → Claim → Type 0
 AnswerIs posted e f lc m r = MatchBool posted (r ≡ answer.Done) (r ≡ answer.Short e f lc m)
 
 -- a refused post, with a margin and without
@@ -57,7 +57,7 @@ pub last-raised : (x : ℕ) → l_in x + 1 < 2097152 → (f_in (x + 2097152) ≡
 last-raised x fits = (omega arith, omega arith, omega arith)
 
 -- A first-in post.
-module _ (l : LaneState) (a : ℕ) (margin : Option ℕ) (e : Entry) (x : ℕ) (u : View) (h : Log) (more : List ℕ) (rec : Rec) (stands : StandsIn (entry_of e) l) (put : IsPut rec 0 l.log l.numbers.list h more) where
+module _ (l : LaneState) (a : ℕ) (margin : Option ℕ) (e : HeldEntry) (x : ℕ) (u : View) (h : Log) (more : List ℕ) (rec : Rec) (stands : StandsIn (entry_of e) l) (put : IsPut rec 0 l.log l.numbers.list h more) where
   -- refused
   module _ (c : ClaimsNone l.sys.now a l.by margin l.seat.me.0 x u) (says : item_of rec ≡ record { of = l.by; body = refusal_of margin a (f_in x) (l_in x) (m_in x) }) where
     pub refused-holds : ThenHolds l h more u
@@ -115,14 +115,14 @@ module _ (l : LaneState) (a : ℕ) (margin : Option ℕ) (e : Entry) (x : ℕ) (
     }
 
 -- either
-module _ (l : LaneState) (a : ℕ) (margin : Option ℕ) (e : Entry) (x : ℕ) (u : View) (h : Log) (more : List ℕ) (rec : Rec) (stands : StandsIn (entry_of e) l) (put : IsPut rec 0 l.log l.numbers.list h more) where
+module _ (l : LaneState) (a : ℕ) (margin : Option ℕ) (e : HeldEntry) (x : ℕ) (u : View) (h : Log) (more : List ℕ) (rec : Rec) (stands : StandsIn (entry_of e) l) (put : IsPut rec 0 l.log l.numbers.list h more) where
   pub claim-holds : (posted : Bool) → PostEnds l.sys.now a l.by margin (entry_of e) l.seat.me.0 x posted u → item_of rec ≡ record { of = l.by; body = post_body posted margin a (f_in x) (l_in x) (m_in x) (entry_of e) } → ThenHolds l h more u
   claim-holds true ends says = posted-first-holds l a margin e x u h more rec stands put ends says
   claim-holds false ends says = refused-holds l a margin e x u h more rec stands put ends says
 
-  pub claims-for : (posted : Bool) (r : Claim) → PostEnds l.sys.now a l.by margin (entry_of e) l.seat.me.0 x posted u → item_of rec ≡ record { of = l.by; body = post_body posted margin a (f_in x) (l_in x) (m_in x) (entry_of e) } → AnswerIs posted e (f_in x) (l_in x) (m_in x) r → h.spare + 1 ≡ l.log.spare → Claims a e margin (state_view l) (then_view l h more u) r
-  claims-for true r ends says is spare = subst (Claims a e margin (state_view l) (then_view l h more u)) (sym is) (posts-it l a margin e x u h more rec stands put ends says spare)
-  claims-for false r ends says is spare = subst (Claims a e margin (state_view l) (then_view l h more u)) (sym is) (posts-not l a margin e x u h more rec stands put ends says spare)
+  pub claims-for : (posted : Bool) (r : Claim) → PostEnds l.sys.now a l.by margin (entry_of e) l.seat.me.0 x posted u → item_of rec ≡ record { of = l.by; body = post_body posted margin a (f_in x) (l_in x) (m_in x) (entry_of e) } → AnswerIs posted e (f_in x) (l_in x) (m_in x) r → h.spare + 1 ≡ l.log.spare → ClaimsEntry a e margin (state_view l) (then_view l h more u) r
+  claims-for true r ends says is spare = subst (ClaimsEntry a e margin (state_view l) (then_view l h more u)) (sym is) (posts-it l a margin e x u h more rec stands put ends says spare)
+  claims-for false r ends says is spare = subst (ClaimsEntry a e margin (state_view l) (then_view l h more u)) (sym is) (posts-not l a margin e x u h more rec stands put ends says spare)
 
   -- the tries of its loop
   pub claim-tries : (posted : Bool) (r : Claim) (before after : ℕ) → PostEnds l.sys.now a l.by margin (entry_of e) l.seat.me.0 x posted u → AnswerIs posted e (f_in x) (l_in x) (m_in x) r → before ≤ after

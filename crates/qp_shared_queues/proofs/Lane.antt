@@ -13,11 +13,11 @@ use Rattle.qp_calls.specs.LaneView.{LaneView, Counts, Gains, AddsOf, Looks, Own,
 use Rattle.qp_calls.specs.Clauses.{AreOwn, ShowsQueue}
 use Rattle.qp_calls.specs.Tokens.{hands_after}
 use Rattle.qp_calls_log.specs.declared.log.Log.{Log}
-use Rattle.qp_shared_views.specs.Words.{value_seen, mark_seen, shown_seen}
-use Rattle.qp_shared_views.specs.Lane.{lane_of, lane_mark}
-use Rattle.qp_shared_views.specs.Telling.{Saw, OwnTold, Rises}
-use Rattle.qp_shared_views.proofs.Gaining.{mark-here, mark-was, shown-here, saw-rises}
-use Rattle.qp_shared_views.proofs.Own.{own-is}
+use Rattle.qp_table.specs.Words.{value_seen, mark_seen, shown_seen}
+use Rattle.qp_table.specs.Lane.{lane_of, lane_mark}
+use Rattle.qp_table.specs.Telling.{Saw, OwnTold, Rises}
+use Rattle.qp_table.proofs.Gaining.{mark-here, mark-was, shown-here, saw-rises}
+use Rattle.qp_table.proofs.Own.{own-is}
 use Rattle.qp_shared_lane.specs.declared.lane.LaneState.{LaneState}
 use Rattle.qp_shared_lane.specs.Holds.{LaneHolds, told_by, side_mark}
 use Rattle.qp_shared_lane.specs.Lane.{lane_with, world_in, state_view}

@@ -12,13 +12,13 @@ use Rattle.qp_table.specs.QueueLaws.{f_in, l_in, m_in}
 use Rattle.qp_table.proofs.Looks.{no_lifo-says}
 use Rattle.qp_table.proofs.Marks.{high-mark}
 use Rattle.qp_table.proofs.QueueSteps.{lifo-says}
-use Rattle.qp_calls.specs.declared.tokens.Entry.{Entry}
+use Rattle.qp_calls.specs.declared.tokens.HeldEntry.{HeldEntry}
 use Rattle.qp_calls.specs.declared.answers.Claim.{Claim}
 use Rattle.qp_calls.specs.Clauses.{entry_of, ClaimsFront, PutsFront, PutsNot, Tries, draws_claimed}
 use Rattle.qp_calls_log.specs.declared.log.Log.{Log}
-use Rattle.qp_shared_views.specs.Words.{value_seen}
-use Rattle.qp_shared_views.specs.Lane.{lane_of}
-use Rattle.qp_shared_steps.specs.Told.{before_front}
+use Rattle.qp_table.specs.Words.{value_seen}
+use Rattle.qp_table.specs.Lane.{lane_of}
+use Rattle.qp_table.specs.Told.{before_front}
 use Rattle.qp_shared_loops.specs.Ends.{full_rec, PutsNone, PostsFirst, PostFirstEnds}
 use Rattle.qp_shared_lane.specs.declared.lane.LaneState.{LaneState}
 use Rattle.qp_shared_lane.specs.Lane.{state_view}
@@ -30,7 +30,7 @@ use Rattle.qp_shared_queues.proofs.Noting.{neutral-no_lifo, noted-holds, noted-a
 use Rattle.qp_shared_queues.proofs.Posting.{StandsIn, lifo-is, lifo-own, bump-serves, claims-gone, posted-holds, posted-adds, posted-shows}
 use Rattle.qp_shared_queues.proofs.Claiming.{AnswerIs, last-raised}
 
-module _ (l : LaneState) (e : Entry) (x : ℕ) (u : View) (h : Log) (more : List ℕ) (rec : Rec) (stands : StandsIn (entry_of e) l) (put : IsPut rec 0 l.log l.numbers.list h more) where
+module _ (l : LaneState) (e : HeldEntry) (x : ℕ) (u : View) (h : Log) (more : List ℕ) (rec : Rec) (stands : StandsIn (entry_of e) l) (put : IsPut rec 0 l.log l.numbers.list h more) where
   -- refused
   module _ (c : PutsNone l.sys.now l.by l.seat.me.0 x u) (says : item_of rec ≡ record { of = l.by; body = NoLifo l.by (f_in x) (l_in x) (m_in x) }) where
     pub full-holds : ThenHolds l h more u

@@ -14,9 +14,9 @@ use Rattle.qp_table.proofs.Looks.{seen-says}
 use Rattle.qp_calls.specs.declared.answers.Counts as counts
 use Rattle.qp_calls.specs.Clauses.{Counted, Sees}
 use Rattle.qp_calls_log.specs.declared.log.Log.{Log}
-use Rattle.qp_shared_views.proofs.Gaining.{mark-rises}
-use Rattle.qp_shared_views.proofs.Saying.{same-number-of, same-own}
-use Rattle.qp_shared_steps.specs.Told.{QueueTold, SeenTold}
+use Rattle.qp_table.proofs.Gaining.{mark-rises}
+use Rattle.qp_table.proofs.Saying.{same-number-of, same-own}
+use Rattle.qp_table.specs.Told.{QueueTold, SeenTold}
 use Rattle.qp_shared_loops.proofs.Following.{sees-none}
 use Rattle.qp_shared_lane.specs.declared.lane.LaneState.{LaneState}
 use Rattle.qp_shared_lane.specs.Lane.{state_view}

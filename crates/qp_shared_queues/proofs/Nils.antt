@@ -19,7 +19,7 @@ use Rattle.qp_calls.specs.Clauses.{TakesNone, last_nil, same_counts}
 use Rattle.qp_calls_log.specs.declared.log.Log.{Log}
 use Rattle.qp_calls_log.specs.Lane.{nil_of, last_nil_in}
 use Rattle.qp_calls_log.specs.LaneLaws.{told-nil}
-use Rattle.qp_shared_steps.specs.Told.{nil_rec}
+use Rattle.qp_table.specs.Told.{nil_rec}
 use Rattle.qp_shared_words.specs.Nils.{is_new}
 use Rattle.qp_shared_loops.specs.Ends.{TakesNone as NoneEnds}
 use Rattle.qp_shared_loops.proofs.Following.{sees-none}

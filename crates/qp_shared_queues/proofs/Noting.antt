@@ -20,9 +20,9 @@ use Rattle.qp_calls.specs.LaneView.{AddsOf, Own, own_of}
 use Rattle.qp_calls.specs.Clauses.{ShowsQueue}
 use Rattle.qp_calls.specs.Tokens.{Token, token_of, hands_by, hands_after, handles}
 use Rattle.qp_calls_log.specs.declared.log.Log.{Log}
-use Rattle.qp_shared_views.specs.Lane.{event_seen, known_with, told_as, tokens}
-use Rattle.qp_shared_views.specs.Telling.{Saw, OwnTold, Touches}
-use Rattle.qp_shared_views.proofs.Gaining.{mark-rises}
+use Rattle.qp_table.specs.Lane.{event_seen, known_with, told_as, tokens}
+use Rattle.qp_table.specs.Telling.{Saw, OwnTold, Touches}
+use Rattle.qp_table.proofs.Gaining.{mark-rises}
 use Rattle.qp_shared_loops.specs.Ends.{seeing}
 use Rattle.qp_shared_lane.specs.declared.lane.LaneState.{LaneState}
 use Rattle.qp_shared_lane.specs.Holds.{is_borne_out}

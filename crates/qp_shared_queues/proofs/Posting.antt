@@ -25,10 +25,10 @@ use Rattle.qp_calls.specs.Clauses.{ShowsQueue}
 use Rattle.qp_calls.specs.Tokens.{Token, Held, Loose, same_token, token_of, take_out, stands, without_entry, hands_by, hands_after, handles}
 use Rattle.qp_calls.proofs.HandLemmas.{same-equal}
 use Rattle.qp_calls_log.specs.declared.log.Log.{Log}
-use Rattle.qp_shared_views.specs.Lane.{event_seen, has_content, known_with, told_as, tokens, tokens_in}
-use Rattle.qp_shared_views.specs.Telling.{Saw, OwnTold, Touches}
-use Rattle.qp_shared_views.proofs.Gaining.{mark-rises}
-use Rattle.qp_shared_views.proofs.Hands.{tokens-out, refs-out, held-in, read-has}
+use Rattle.qp_table.specs.Lane.{event_seen, has_content, known_with, told_as, tokens, tokens_in}
+use Rattle.qp_table.specs.Telling.{Saw, OwnTold, Touches}
+use Rattle.qp_table.proofs.Gaining.{mark-rises}
+use Rattle.qp_table.proofs.Hands.{tokens-out, refs-out, held-in, read-has}
 use Rattle.qp_shared_lane.specs.declared.lane.LaneState.{LaneState}
 use Rattle.qp_shared_lane.specs.Holds.{is_borne_out}
 use Rattle.qp_shared_lane.specs.Lane.{state_view}

@@ -13,7 +13,7 @@ use Rattle.qp_model.specs.declared.bodies.Entry as model
 use Rattle.qp_model.specs.declared.bodies.Body.TheVariants.{Took}
 use Rattle.qp_model.specs.Parts.{is_static}
 use Rattle.qp_model.specs.Record.{item_of}
-use Rattle.qp_model.specs.Told.{Event, taken, for_object}
+use Rattle.qp_model.specs.Told.{Event, told_took, for_object}
 use Rattle.qp_table.specs.Counting.{many}
 use Rattle.qp_table.specs.Rule.{queue_at, mark_in, is_entry, is_serve, params_of, Codable}
 use Rattle.qp_table.specs.After.{emptied, learned, gained}
@@ -22,15 +22,15 @@ use Rattle.qp_table.specs.declared.view.Content.{Content}
 use Rattle.qp_table.specs.declared.view.View.{View}
 use Rattle.qp_table.proofs.Marks.{high-mark}
 use Rattle.qp_calls.specs.LaneView.{LaneView, Gains}
-use Rattle.qp_calls.specs.declared.tokens.Entry.{Entry}
-use Rattle.qp_calls.specs.declared.tokens.Entry.TheVariants as token
-use Rattle.qp_calls.specs.Clauses.{entry_of, IsEvent, Stands, EventIs, TakesIt}
+use Rattle.qp_calls.specs.declared.tokens.HeldEntry.{HeldEntry}
+use Rattle.qp_calls.specs.declared.tokens.HeldEntry.TheVariants as token
+use Rattle.qp_calls.specs.Clauses.{entry_of, IsEvent, EntryStands, EventIs, TakesIt}
 use Rattle.qp_calls.specs.Tokens.{Held, stands, hands_by, hands_after}
 use Rattle.qp_calls.proofs.HandLemmas.{held-first}
 use Rattle.qp_calls_log.specs.declared.log.Log.{Log}
-use Rattle.qp_shared_views.specs.Lane.{lane_of, event_seen, has_content}
-use Rattle.qp_shared_steps.specs.Told.{freed}
-use Rattle.qp_shared_loops.specs.Ends.{seeing, IsNamed, KnowsEvent, Takes}
+use Rattle.qp_table.specs.Lane.{lane_of, event_seen, has_content}
+use Rattle.qp_table.specs.Told.{freed}
+use Rattle.qp_shared_loops.specs.Ends.{seeing, IsReference, KnowsEvent, Takes}
 use Rattle.qp_shared_lane.specs.declared.lane.LaneState.{LaneState}
 use Rattle.qp_shared_lane.specs.Lane.{state_view}
 use Rattle.qp_shared_lane.specs.More.{Grown, IsPut, SeesMore}
@@ -53,17 +53,17 @@ static-event sys sig h bare = go (slice_get sys.signals (sig - 4)) refl (and_par
         let within = slice_get_within sys.signals (sig - 4) d e in
         record { from = from; within = omega (arith, within, from); params = sym bare }
 
-event-good : (sys : System) (u : View) (r : Entry) → Codable sys (entry_of r) → KnowsEvent sys (entry_of r) u → IsNamed r → ((sig : ℕ) → IsTrue (is_static sys sig) → params_of sys sig ≡ 0) → IsEvent sys (event_seen u.contents (entry_of r))
+event-good : (sys : System) (u : View) (r : HeldEntry) → Codable sys (entry_of r) → KnowsEvent sys (entry_of r) u → IsReference r → ((sig : ℕ) → IsTrue (is_static sys sig) → params_of sys sig ≡ 0) → IsEvent sys (event_seen u.contents (entry_of r))
 unfolding entry_of event_seen
 event-good sys u (token.Static sig) codable knows named bare = let s = (codable.static refl).0 in static-event sys sig s (bare sig s)
 event-good sys u (token.Pool p) codable knows named bare = let k = knows named in record { from = k.from; within = k.within; params = k.params }
 
-fixed-then : (l : LaneState) (u : View) (h : Log) (more : List ℕ) (r : Entry) → EventIs r (then_view l h more u)
+fixed-then : (l : LaneState) (u : View) (h : Log) (more : List ℕ) (r : HeldEntry) → EventIs r (then_view l h more u)
 unfolding lane_of event_seen
 fixed-then l u h more (token.Static sig) = refl
 fixed-then l u h more (token.Pool p) = tt
 
-stands-then : (sys : System) (a : ℕ) (r : Entry) (old new : LaneView) (f lc m : ℕ) (ev : Event) → new.sys ≡ sys → Gains (for_object a (taken f lc m (entry_of r) ev) ∷ []) old new → Codable sys (entry_of r) → IsNamed r → Stands r new
+stands-then : (sys : System) (a : ℕ) (r : HeldEntry) (old new : LaneView) (f lc m : ℕ) (ev : Event) → new.sys ≡ sys → Gains (for_object a (told_took f lc m (entry_of r) ev) ∷ []) old new → Codable sys (entry_of r) → IsReference r → EntryStands r new
 unfolding entry_of hands_after hands_by
 stands-then sys a (token.Static sig) old new f lc m ev sys_is gains codable named = subst (λ s. IsTrue (is_static s sig)) (sym sys_is) (codable.static refl).0
 stands-then sys a (token.Pool p) old new f lc m ev sys_is gains codable named = (
@@ -78,7 +78,7 @@ content-last qs e event = or_right (eqb e.pool 0) _ (go qs)
     go [] = ap (λ (t : Bool). t || false) (λ i. (eq-eqb e.pool e.pool refl i && eq-eqb e.block e.block refl i) && eq-eqb e.name e.name refl i)
     go (q ∷ qs) = or_right (is_entry e q.entry) (list_any (λ (q : Content). is_entry e q.entry) (qs ++ record { entry = e; event = event } ∷ [])) (go qs)
 
-module _ (l : LaneState) (a x : ℕ) (r : Entry) (u : View) (h : Log) (more : List ℕ) (rec : Rec) (c : Takes l.sys.now a (entry_of r) l.seat.me.0 x u) (put : IsPut rec 0 l.log l.numbers.list h more) (says : item_of rec ≡ record { of = a; body = Took (f_in x) (l_in x) (m_in x + 1) (entry_of r) }) where
+module _ (l : LaneState) (a x : ℕ) (r : HeldEntry) (u : View) (h : Log) (more : List ℕ) (rec : Rec) (c : Takes l.sys.now a (entry_of r) l.seat.me.0 x u) (put : IsPut rec 0 l.log l.numbers.list h more) (says : item_of rec ≡ record { of = a; body = Took (f_in x) (l_in x) (m_in x + 1) (entry_of r) }) where
   abbrev e : model.Entry
   e = entry_of r
 
@@ -149,7 +149,7 @@ module _ (l : LaneState) (a x : ℕ) (r : Entry) (u : View) (h : Log) (more : Li
       taken-holds l a (x + 4398046511104) e (f_in x) (l_in x) (m_in x + 1) rec u h more logs alike hands k.0 k.1 k.2 sees c.told.saw mark_is put says
 
   -- what contracts see of it
-  pub takes-it-for : IsNamed r → ((sig : ℕ) → IsTrue (is_static l.sys.now sig) → params_of l.sys.now sig ≡ 0) → h.spare + 1 ≡ l.log.spare → TakesIt a r (state_view l) (then_view l h more u)
+  pub takes-it-for : IsReference r → ((sig : ℕ) → IsTrue (is_static l.sys.now sig) → params_of l.sys.now sig ≡ 0) → h.spare + 1 ≡ l.log.spare → TakesIt a r (state_view l) (then_view l h more u)
   unfolding lane_of
   takes-it-for named bare spare =
       let k = knows (eqb e.pool 0) refl in

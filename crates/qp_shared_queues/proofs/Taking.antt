@@ -9,7 +9,7 @@ use Rattle.qp_model.specs.declared.words.Word.TheVariants as word
 use Rattle.qp_model.specs.declared.bodies.Entry.{Entry}
 use Rattle.qp_model.specs.declared.bodies.Body.TheVariants.{Took}
 use Rattle.qp_model.specs.Record.{item_of}
-use Rattle.qp_model.specs.Told.{Event, Told, taken, for_object}
+use Rattle.qp_model.specs.Told.{Event, Told, told_took, for_object}
 use Rattle.qp_table.specs.Counting.{many}
 use Rattle.qp_table.specs.Rule.{queue_at, mark_in, is_ref, is_spot, is_entry, event_in, Codable}
 use Rattle.qp_table.specs.After.{rec_of, logged, gained}
@@ -22,11 +22,11 @@ use Rattle.qp_calls.specs.LaneView.{AddsOf, Own, own_of}
 use Rattle.qp_calls.specs.Clauses.{ShowsQueue}
 use Rattle.qp_calls.specs.Tokens.{Token, Held, Loose, same_token, token_of, with_entry, hands_by, hands_after}
 use Rattle.qp_calls_log.specs.declared.log.Log.{Log}
-use Rattle.qp_shared_views.specs.Lane.{event_at as event_known, event_seen, has_content, is_read, told_as, tokens, tokens_in}
-use Rattle.qp_shared_views.specs.Telling.{Touches, OwnTold, Saw}
-use Rattle.qp_shared_views.proofs.Gaining.{mark-rises}
-use Rattle.qp_shared_views.proofs.Hands.{refs-in}
-use Rattle.qp_shared_steps.specs.Told.{HasPlace}
+use Rattle.qp_table.specs.Lane.{event_read as event_known, event_seen, has_content, is_read, told_as, tokens, tokens_in}
+use Rattle.qp_table.specs.Telling.{Touches, OwnTold, Saw}
+use Rattle.qp_table.proofs.Gaining.{mark-rises}
+use Rattle.qp_table.proofs.Hands.{refs-in}
+use Rattle.qp_table.specs.Told.{HasPlace}
 use Rattle.qp_shared_lane.specs.declared.lane.LaneState.{LaneState}
 use Rattle.qp_shared_lane.specs.Holds.{IsRead}
 use Rattle.qp_shared_lane.specs.Lane.{state_view}
@@ -106,10 +106,10 @@ read-more sys v u q e contents hands has place pos codable read d mine = go (is_
 pub took-own : (a f lc m lo mo : ℕ) (e : Entry) (c : Own) → c ≡ record { l = lo; m = mo } → own_of a c a (Took f lc m e) ≡ record { l = lo; m = mo + 1 }
 took-own a f lc m lo mo e c is = ap (λ (t : Bool). if t then record { l = c.l; m = c.m + 1 } else c) (eq-eqb a a refl) ∙ (λ i. record { l = (is i).l; m = (is i).m + 1 })
 
-took-touches : (a f lc m : ℕ) (e : Entry) (ev : Event) → Touches (word.Queue a) (f + lc + m) (for_object a (taken f lc m e ev))
+took-touches : (a f lc m : ℕ) (e : Entry) (ev : Event) → Touches (word.Queue a) (f + lc + m) (for_object a (told_took f lc m e ev))
 took-touches a f lc m e ev = record { marks = λ y. refl; only = λ y. refl }
 
-took-hands : (hands : List Token) (f lc m : ℕ) (e : Entry) (ev : Event) → hands_by hands (taken f lc m e ev) ≡ with_entry e hands
+took-hands : (hands : List Token) (f lc m : ℕ) (e : Entry) (ev : Event) → hands_by hands (told_took f lc m e ev) ≡ with_entry e hands
 unfolding hands_by
 took-hands hands f lc m e ev = refl
 
@@ -122,7 +122,7 @@ module _ (l : LaneState) (a x : ℕ) (e : Entry) (f lc m : ℕ) (rec : Rec) (u :
     (saw : Saw l.sys.now (word.Queue a) l.seat.me.0 u x) (mark_is : mark_in (queue_at a) x ≡ f + lc + m)
     (put : IsPut rec 0 l.log l.numbers.list h more) (says : item_of rec ≡ record { of = a; body = Took f lc m e }) where
   abbrev g : Told
-  g = taken f lc m e (event_seen u.contents e)
+  g = told_took f lc m e (event_seen u.contents e)
 
   on : OnTable l.sys.now (hands_after [] (told_in l)) l.seat.me.0 u rec 0 (for_object a g) (word.Queue a) (f + lc + m)
   on = record {

@@ -3,13 +3,13 @@ use Rattle.std.proofs.Common.{◌≡◌, ℕ, ◌+◌, ◌&&◌, List, Bool, tru
 use Rattle.qp_model.specs.declared.systems.System.{System}
 use Rattle.qp_model.specs.declared.bodies.Entry as model
 use Rattle.qp_calls.specs.Clauses.{entry_of}
-use Rattle.qp_calls.specs.declared.tokens.Entry as token
+use Rattle.qp_calls.specs.declared.tokens.HeldEntry as token
 use Rattle.qp_table.specs.Rule.{queue_at}
 use Rattle.qp_table.specs.After.{glanced, noted, emptied, learned}
 use Rattle.qp_table.specs.QueueLaws.{f_in, l_in, m_in}
 use Rattle.qp_table.specs.declared.view.Spot.{Spot}
 use Rattle.qp_table.specs.declared.view.View.{View}
-use Rattle.qp_shared_steps.specs.Told.{freed, nil_rec}
+use Rattle.qp_table.specs.Told.{freed, nil_rec}
 use Rattle.qp_shared_loops.specs.Ends.{seeing, PostEnds, PostFirstEnds, TakeEnds}
 use Rattle.qp_shared_lane.specs.Used.{HasEnds}
 use Rattle.qp_shared_lane.proofs.Used.{ends-same}
@@ -32,12 +32,12 @@ either-used : (t : Bool) (x y : View) (used : List Spot) → x.used ≡ used →
 either-used true x y used p q = p
 either-used false x y used p q = q
 
-take-used : (sys : System) (is_new : ℕ → Bool) (a : ℕ) (v : View) (x : ℕ) (q : Option token.Entry) (u : View) → TakeEnds sys is_new a v x q u → u.used ≡ v.used
+take-used : (sys : System) (is_new : ℕ → Bool) (a : ℕ) (v : View) (x : ℕ) (q : Option token.HeldEntry) (u : View) → TakeEnds sys is_new a v x q u → u.used ≡ v.used
 take-used sys is_new a v x (Some e) u ends =
     let done : View = freed a ends.0.cell (entry_of e) (emptied (seeing ends.0.glances v) a ends.0.cell (entry_of e)) x in
     ap (λ (z : View). z.used) ends.0.is ∙ either-used (eqb (entry_of e).pool 0) done (learned done (entry_of e) ends.0.event) v.used refl refl
 take-used sys is_new a v x None u ends =
     ap (λ (z : View). z.used) ends.0.0 ∙ either-used (eqb (f_in x + l_in x) (m_in x) && is_new x) (noted v (queue_at a) x (nil_rec a x)) (glanced v (queue_at a) x) v.used refl refl
 
-pub take-ended : (sys : System) (is_new : ℕ → Bool) (a : ℕ) (v : View) (x : ℕ) (q : Option token.Entry) (u : View) (at : List ℕ) → TakeEnds sys is_new a v x q u → HasEnds at v.used → HasEnds at u.used
+pub take-ended : (sys : System) (is_new : ℕ → Bool) (a : ℕ) (v : View) (x : ℕ) (q : Option token.HeldEntry) (u : View) (at : List ℕ) → TakeEnds sys is_new a v x q u → HasEnds at v.used → HasEnds at u.used
 take-ended sys is_new a v x q u at ends has = ends-same at v u (take-used sys is_new a v x q u ends) has

@@ -11,9 +11,9 @@ use Rattle.qp_table.specs.declared.view.Content.{Content}
 use Rattle.qp_table.specs.declared.view.Glance.{Glance}
 use Rattle.qp_table.specs.declared.view.View.{View}
 use Rattle.qp_calls.specs.Tokens.{Token, Held, Loose}
-use Rattle.qp_shared_views.specs.Words.{mark_seen}
-use Rattle.qp_shared_views.specs.Lane.{event_seen, has_content, is_read, tokens_in}
-use Rattle.qp_shared_steps.specs.Asked.{is_unfinished, is_begun}
+use Rattle.qp_table.specs.Words.{mark_seen}
+use Rattle.qp_table.specs.Lane.{event_seen, has_content, is_read, tokens_in}
+use Rattle.qp_table.specs.Asked.{is_unfinished, is_begun}
 use Rattle.qp_shared_lane.specs.Holds.{IsRead, IsStill, IsPlaced, IsWorn}
 use Rattle.qp_shared_lane.specs.More.{Grown, SeesMore}
 

@@ -5,19 +5,19 @@ ghost use Rattle.std.specs.Bool.{MatchBool};
 ghost use Rattle.qp_model.specs.declared.words.Word.TheVariants as word;
 ghost use Rattle.qp_model.specs.Record.{entry, item_of};
 ghost use Rattle.qp_model.specs.WordLaw.{is_object};
-ghost use Rattle.qp_calls.specs.Clauses.{Claims, ClaimsFront, Stands, Tries, draws_claimed};
+ghost use Rattle.qp_calls.specs.Clauses.{ClaimsEntry, ClaimsFront, EntryStands, Tries, draws_claimed};
 ghost use Rattle.qp_shared_lane.specs.Lane.{state_view};
 ghost use Rattle.qp_shared_queues.specs.Bodies.{IsPutAs, lifo_body, post_body};
 
 use crate::counting::counts_in;
 use qp_base::Steps;
-use qp_calls::{Claim, Counts, Entry};
+use qp_calls::{Claim, Counts, HeldEntry};
 use qp_calls_log::Log;
 use qp_model::Rec;
 use qp_shared_lane::{LaneState, put};
 use qp_shared_loops::cells::{post_entry, post_entry_last_in};
 use qp_shared_loops::takes::parts;
-use qp_shared_views::Numbers;
+use qp_table::Numbers;
 use std::sync::ledger::Ledger;
 
 /// An entry as records state it.
@@ -76,7 +76,7 @@ fn lifo_rec(a: u8, now: Counts, e: qp_model::Entry, posted: bool) -> Rec
 }
 
 /// The answer of a post.
-fn answer(posted: bool, e: Entry, now: Counts) -> Claim
+fn answer(posted: bool, e: HeldEntry, now: Counts) -> Claim
     ensures { MatchBool posted (result ≡ Claim.Done) (result ≡ Claim.Short e now.f now.l now.m) }
 {
     if posted {
@@ -97,14 +97,14 @@ fn answer(posted: bool, e: Entry, now: Counts) -> Claim
 pub fn claim<L: Ledger>(
     lane: &mut LaneState<'_>,
     to: u8,
-    e: Entry,
+    e: HeldEntry,
     margin: Option<u8>,
     steps: &mut Steps<L>,
 ) -> Claim
     requires room { 0 < (state_view lane.old).spare }
     requires object { IsTrue (is_object (state_view lane.old).sys to) }
-    requires stands { Stands e (state_view lane.old) }
-    ensures claims { Claims to e margin (state_view lane.old) (state_view lane.new) result }
+    requires stands { EntryStands e (state_view lane.old) }
+    ensures claims { ClaimsEntry to e margin (state_view lane.old) (state_view lane.new) result }
     ensures tries { Tries (word.Queue to) (draws_claimed result)
         steps.old steps.new (state_view lane.old) (state_view lane.new) }
 {
@@ -138,11 +138,11 @@ pub fn claim<L: Ledger>(
 }
 
 /// Posts an entry last-in to the object set by `by`, where an entry is free. Otherwise it comes back, and the record is `assert` 5.
-pub fn lifo<L: Ledger>(lane: &mut LaneState<'_>, e: Entry, steps: &mut Steps<L>) -> Claim
+pub fn lifo<L: Ledger>(lane: &mut LaneState<'_>, e: HeldEntry, steps: &mut Steps<L>) -> Claim
     requires room { 0 < (state_view lane.old).spare }
     requires object { IsTrue (is_object (state_view lane.old).sys (state_view lane.old).by) }
     requires serves { IsTrue ((state_view lane.old).serves (state_view lane.old).by) }
-    requires stands { Stands e (state_view lane.old) }
+    requires stands { EntryStands e (state_view lane.old) }
     ensures claims { ClaimsFront e (state_view lane.old) (state_view lane.new) result }
     ensures tries { Tries (word.Queue (state_view lane.old).by) (draws_claimed result)
         steps.old steps.new (state_view lane.old) (state_view lane.new) }

@@ -18,21 +18,21 @@ use Rattle.qp_table.specs.TwoTables.{on_side}
 use Rattle.qp_table.specs.Rule.{is_serve, mark_in}
 use Rattle.qp_table.specs.After.{rec_of}
 use Rattle.qp_table.specs.declared.view.Glance.{Glance}
-use Rattle.qp_calls.specs.LaneView.{LaneView, Adds}
-use Rattle.qp_calls.specs.Clauses.{Subscribing, Unsubscribing, Reads, Owns, Arms, Disarms, Rearms, TicksOne, Tries, draws_disarmed, draws_ticked}
+use Rattle.qp_calls.specs.LaneView.{LaneView, AddsTold}
+use Rattle.qp_calls.specs.Clauses.{Subscribing, Unsubscribing, ReadsSubscribers, Owns, Arms, Disarms, Rearms, TicksOne, Tries, draws_disarmed, draws_ticked}
 use Rattle.qp_calls.specs.declared.answers.Arm.TheVariants as armed
 use Rattle.qp_calls.specs.declared.answers.Tick as ticking
 use Rattle.qp_calls.specs.declared.answers.Tick.TheVariants as ticked
 use Rattle.qp_calls_log.specs.declared.log.Log.{Log}
 use Rattle.qp_calls_log.specs.Lane.{is_plain}
 use Rattle.atomic_table.specs.Seated.{TableId}
-use Rattle.qp_shared_views.specs.Lane.{lane_of, told_as}
-use Rattle.qp_shared_views.specs.Telling.{Touches, is_on_table}
-use Rattle.qp_side_words.specs.Rule.{signal_at, member_in}
-use Rattle.qp_side_words.specs.Told.{last_seen}
-use Rattle.qp_side_words.specs.declared.SideView.{SideView}
-use Rattle.qp_side.specs.Seat.{recs_of, serves_object, OwnsTimer, SideAdds}
-use Rattle.qp_side.specs.Calls.{Comes, IsThere, Goes, IsAway, ShowsSet, IsArmed, WasArmed, IsIdle, IsDisarmed, RearmsTimer, IsDown, IsFired, SideTries, own_draw}
+use Rattle.qp_table.specs.Lane.{lane_of, told_as}
+use Rattle.qp_table.specs.Telling.{Touches, is_on_table}
+use Rattle.qp_side.specs.Rule.{signal_at, member_in}
+use Rattle.qp_side.specs.Told.{last_seen}
+use Rattle.qp_side.specs.declared.view.SideView.{SideView}
+use Rattle.qp_side.specs.Seat.{side_recs, serves_object, OwnsTimer, SideAdds}
+use Rattle.qp_side.specs.Calls.{ObjectComes, IsThere, ObjectGoes, IsAway, ShowsSet, IsArmed, WasArmed, IsIdle, IsDisarmed, RearmsTimer, IsDown, IsFired, SideTries, own_draw}
 use Rattle.qp_shared_lane.specs.declared.lane.LaneState.{LaneState}
 use Rattle.qp_shared_lane.specs.Holds.{LaneHolds, SubscriberIs, borne_out, member_over, side_mark}
 use Rattle.qp_shared_lane.specs.Lane.{lane_with, world_in, world_of, state_view}
@@ -103,7 +103,7 @@ module _ (l : LaneState) where
   unfolding lane_of
   spare-is h = h
 
-  pub side-room : 0 < (state_view l).spare → length (recs_of s) ≤ 1000000
+  pub side-room : 0 < (state_view l).spare → length (side_recs s) ≤ 1000000
   side-room h = (spare_gives_room sys l.count l.ceiling l.log l.numbers.list l.seat.me.0 s l.holds (spare-is h)).few
 
   pub side-object : IsTrue (is_object (state_view l).sys (state_view l).by) → IsTrue (is_object l.side.words.now.shared.key l.by)
@@ -171,7 +171,7 @@ module _ (l : LaneState) where
         known b was = (mine, ap Member (sym was ∙ sym (own_members_are_known sys l.count l.ceiling l.log l.numbers.list l.seat.me.0 s l.holds l.by sig)))
 
         -- a record that shows whether the object is a subscriber
-        shown : (b : Bool) (n : ℕ) → number ≡ cond b 1 0 → rec ≡ rec_of 33 l.by (sig ∷ n ∷ []) → SideAdds sys (word.Signal sig) n rec s z → member_in l.by sig s.view.logs ≡ b → HoldsNow × Adds (same_in sig n b ∷ []) (state_view l) now
+        shown : (b : Bool) (n : ℕ) → number ≡ cond b 1 0 → rec ≡ rec_of 33 l.by (sig ∷ n ∷ []) → SideAdds sys (word.Signal sig) n rec s z → member_in l.by sig s.view.logs ≡ b → HoldsNow × AddsTold (same_in sig n b ∷ []) (state_view l) now
         unfolding lane_of
         shown b n at is adds was =
             let k = kept l.by (same_in sig n b) _ (word.Signal sig) n (ap item_of is ∙ same-says l.by sig n) (λ ev. ap (λ (x : Bool). for_object l.by (same_in sig n x)) (ap (λ m. eqb m 1) at ∙ one b)) refl refl (record { marks = λ y. refl; only = λ y. refl }) (known b was) (λ seen. signal) adds in
@@ -181,24 +181,24 @@ module _ (l : LaneState) where
             one true = refl
             one false = refl
 
-        pub subscribed : (b : Bool) → number ≡ 1 → MatchBool b (Comes sys l.by sig s rec z) (IsThere sys l.by sig s rec z) → HoldsNow × Subscribing sig (state_view l) now b
+        pub subscribed : (b : Bool) → number ≡ 1 → MatchBool b (ObjectComes sys l.by sig s rec z) (IsThere sys l.by sig s rec z) → HoldsNow × Subscribing sig (state_view l) now b
         unfolding lane_of
         subscribed true at a = let k = kept l.by (plain (Sub sig a.n)) _ (word.Signal sig) (suc a.n) (ap item_of a.is ∙ sub-says l.by sig a.n) (λ ev. refl) refl refl (record { marks = λ y. refl; only = λ y. refl }) (mine, change a.n a.draws.up) (λ seen. refl) a.draws.adds in
             let e = a.draws.adds.marks.here in let up = a.draws.up in
             (k.holds, (a.n, record { grows = k.gains; spare = spare }, omega arith))
         subscribed false at a = let k = shown true a.n at a.is a.adds a.was in (k.0, (a.n, k.1))
 
-        pub unsubscribed : (b : Bool) → number ≡ 0 → MatchBool b (Goes sys l.by sig s rec z) (IsAway sys l.by sig s rec z) → HoldsNow × Unsubscribing sig (state_view l) now b
+        pub unsubscribed : (b : Bool) → number ≡ 0 → MatchBool b (ObjectGoes sys l.by sig s rec z) (IsAway sys l.by sig s rec z) → HoldsNow × Unsubscribing sig (state_view l) now b
         unfolding lane_of
         unsubscribed true at a = let k = kept l.by (plain (Unsub sig a.n)) _ (word.Signal sig) (suc a.n) (ap item_of a.is ∙ unsub-says l.by sig a.n) (λ ev. refl) refl refl (record { marks = λ y. refl; only = λ y. refl }) (mine, change a.n a.draws.up) (λ seen. refl) a.draws.adds in
             let e = a.draws.adds.marks.here in let up = a.draws.up in
             (k.holds, (a.n, record { grows = k.gains; spare = spare }, omega arith))
         unsubscribed false at a = let k = shown false a.n at a.is a.adds a.was in (k.0, (a.n, k.1))
 
-      pub reads : (set : ℕ) (a : ShowsSet sys l.by sig s rec z) → set ≡ a.set → HoldsNow × Reads sig (state_view l) now set
+      pub reads : (set : ℕ) (a : ShowsSet sys l.by sig s rec z) → set ≡ a.set → HoldsNow × ReadsSubscribers sig (state_view l) now set
       unfolding lane_of
       reads set a same = let k = kept l.by (plain (Pub sig a.n a.set)) _ (word.Signal sig) a.n (ap item_of a.is ∙ pub-says l.by sig a.n a.set) (λ ev. refl) refl refl (record { marks = λ y. refl; only = λ y. refl }) tt (λ seen. refl) a.adds in
-          (k.holds, subst (Reads sig (state_view l) now) (sym same) (a.n, record { grows = k.gains; spare = spare }, a.known))
+          (k.holds, subst (ReadsSubscribers sig (state_view l) now) (sym same) (a.n, record { grows = k.gains; spare = spare }, a.known))
 
     module _ (t : ℕ) where
       pub arms : (ticks interval : ℕ) → IsArmed sys l.by t ticks interval s rec z → HoldsNow × Arms t ticks interval (state_view l) now armed.Done
@@ -211,7 +211,7 @@ module _ (l : LaneState) where
       arms-not ticks interval n c a n_is c_is = let k = kept l.by (plain (Armed t a.n a.counter)) _ (word.Timer t) a.n (ap item_of a.is ∙ armed-says l.by t a.n a.counter) (λ ev. refl) refl refl (record { marks = λ y. refl; only = λ y. refl }) tt (λ seen. refl) a.adds in
           (k.holds, subst (λ (q : ℕ × ℕ). Arms t ticks interval (state_view l) now (armed.Armed q.0 q.1)) (λ i. (sym n_is i, sym c_is i)) (record { grows = k.gains; spare = spare }, a.some))
 
-      idles : (a : IsIdle sys l.by t s rec z) → HoldsNow × Adds (plain (Idle t a.n) ∷ []) (state_view l) now
+      idles : (a : IsIdle sys l.by t s rec z) → HoldsNow × AddsTold (plain (Idle t a.n) ∷ []) (state_view l) now
       unfolding lane_of
       idles a = let k = kept l.by (plain (Idle t a.n)) _ (word.Timer t) a.n (ap item_of a.is ∙ idle-says l.by t a.n) (λ ev. refl) refl refl (record { marks = λ y. refl; only = λ y. refl }) tt (λ seen. refl) a.adds in (k.holds, record { grows = k.gains; spare = spare })
 
@@ -262,11 +262,11 @@ plain-by : (rec : Rec) (i : Item) → item_of rec ≡ i → is_plain i.body ≡ 
 plain-by rec i says h = ap (λ (j : Item). is_plain j.body) says ∙ h
 
 module _ (sys : System) (o : ℕ) (s : SideView) (rec : Rec) (z : SideView) where
-  pub subscribe-plain : (sig : ℕ) (b : Bool) → MatchBool b (Comes sys o sig s rec z) (IsThere sys o sig s rec z) → is_plain (item_of rec).body ≡ true
+  pub subscribe-plain : (sig : ℕ) (b : Bool) → MatchBool b (ObjectComes sys o sig s rec z) (IsThere sys o sig s rec z) → is_plain (item_of rec).body ≡ true
   subscribe-plain sig true a = plain-by rec _ (ap item_of a.is ∙ sub-says o sig a.n) refl
   subscribe-plain sig false a = plain-by rec _ (ap item_of a.is ∙ same-says o sig a.n) refl
 
-  pub unsubscribe-plain : (sig : ℕ) (b : Bool) → MatchBool b (Goes sys o sig s rec z) (IsAway sys o sig s rec z) → is_plain (item_of rec).body ≡ true
+  pub unsubscribe-plain : (sig : ℕ) (b : Bool) → MatchBool b (ObjectGoes sys o sig s rec z) (IsAway sys o sig s rec z) → is_plain (item_of rec).body ≡ true
   unsubscribe-plain sig true a = plain-by rec _ (ap item_of a.is ∙ unsub-says o sig a.n) refl
   unsubscribe-plain sig false a = plain-by rec _ (ap item_of a.is ∙ same-says o sig a.n) refl
 

@@ -9,8 +9,8 @@ use Rattle.qp_calls_log.specs.Lane.{is_caused_in}
 use Rattle.qp_calls_log.proofs.NoteLemmas as note
 use Rattle.qp_model.specs.History.{lane_items}
 use Rattle.atomic_table.specs.Seated.{TableId}
-use Rattle.qp_shared_views.specs.Lane.{lane_of}
-use Rattle.qp_side_words.specs.declared.SideView.{SideView}
+use Rattle.qp_table.specs.Lane.{lane_of}
+use Rattle.qp_side.specs.declared.view.SideView.{SideView}
 use Rattle.qp_side.specs.Calls.{HandsIn, FindsCode}
 use Rattle.qp_shared_lane.specs.declared.lane.LaneState.{LaneState}
 use Rattle.qp_shared_lane.specs.Holds.{LaneHolds}

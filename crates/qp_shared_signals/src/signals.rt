@@ -2,7 +2,7 @@
 
 ghost use Rattle.std.specs.Prelude.{◌<◌, IsTrue};
 ghost use Rattle.qp_model.specs.WordLaw.{is_object, is_signal};
-ghost use Rattle.qp_calls.specs.Clauses.{Reads, Subscribing, Unsubscribing};
+ghost use Rattle.qp_calls.specs.Clauses.{ReadsSubscribers, Subscribing, Unsubscribing};
 ghost use Rattle.qp_shared_lane.specs.Lane.{state_view};
 
 use qp_model::kinds;
@@ -40,7 +40,7 @@ pub fn unsubscribe(lane: &mut LaneState<'_>, sig: u16) -> bool
 pub fn subscribers(lane: &mut LaneState<'_>, sig: u16) -> u32
     requires room { 0 < (state_view lane.old).spare }
     requires signal { IsTrue (is_signal (state_view lane.old).sys sig) }
-    ensures { Reads sig (state_view lane.old) (state_view lane.new) result }
+    ensures { ReadsSubscribers sig (state_view lane.old) (state_view lane.new) result }
 {
     let rec = lane.side.subscribers(lane.by, sig);
     let set = rec.nums[2] as u32;

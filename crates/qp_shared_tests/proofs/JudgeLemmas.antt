@@ -5,7 +5,7 @@ use Rattle.qp_model.specs.declared.systems.PoolDef.{PoolDef}
 use Rattle.qp_model.specs.declared.systems.System.{System}
 use Rattle.qp_model.specs.Sound.{IsSound, IsSoundPool}
 use Rattle.qp_check.specs.Judgeable.{IsJudgeable}
-use Rattle.qp_sim_unique.proofs.FollowLemmas.{sound-followable}
+use Rattle.qp_unique.proofs.FollowLemmas.{sound-followable}
 
 few-blocks : (ps : List PoolDef) → AllByRecursion IsSoundPool ps → AllByRecursion (λ d. d.blocks ≤ 256) ps
 few-blocks [] all = tt

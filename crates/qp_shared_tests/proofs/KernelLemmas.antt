@@ -13,9 +13,9 @@ use Rattle.qp_dispatch.specs.declared.steps.Step.TheVariants as step
 use Rattle.qp_kernel_turns.specs.Lanes.{KeepsLane, LaneStarts, LaneTurns, SameLane}
 use Rattle.qp_kernel.specs.Happenings.{has_no_stim}
 use Rattle.qp_kernel_turns.specs.Ordering.{InOrder}
-use Rattle.qp_kernel_turns.specs.Starting.{IsFresh}
-use Rattle.qp_port_cursor.specs.declared.cursor.Cursor.{Cursor}
-use Rattle.qp_port_cursor.specs.Turning.{SourceTurns}
+use Rattle.qp_kernel_turns.specs.Starting.{IsFreshLane}
+use Rattle.qp_port_lanes.specs.declared.cursor.Cursor.{Cursor}
+use Rattle.qp_port_lanes.specs.SourceTurning.{SourceTurns}
 use Rattle.qp_shared.specs.declared.shared.Shared.{Shared}
 use Rattle.qp_shared.specs.Starting.{AreFirst, serves_all}
 use Rattle.qp_shared_tests.specs.Lanes.{IsSame}
@@ -48,10 +48,10 @@ is-object : (sys : System) (d : ObjectDef) → object_at sys d.priority ≡ Some
 unfolding is_object
 is-object sys d at = ap is_some at
 
-pub first-fresh : (s : Shared) (sys : System) (v : LaneView) (vs : List LaneView) → s.sys.now ≡ sys → AreFirst s 2 (serves_all s.sys.now) (v ∷ vs) → IsFresh sys v
+pub first-fresh : (s : Shared) (sys : System) (v : LaneView) (vs : List LaneView) → s.sys.now ≡ sys → AreFirst s 2 (serves_all s.sys.now) (v ∷ vs) → IsFreshLane sys v
 first-fresh s sys v vs its h =
     let first = h.each 0 v refl in
-    subst (λ t. IsFresh t v) its (record { new = first.new; of = first.sys_is; serves = λ d at. h.serve 0 v refl d.priority ∙ is-object s.sys.now d at })
+    subst (λ t. IsFreshLane t v) its (record { new = first.new; of = first.sys_is; serves = λ d at. h.serve 0 v refl d.priority ∙ is-object s.sys.now d at })
 
 -- in the looks of such a world nothing happens
 pub in-order : (acts : Bool) (sys : System) (looks : ℕ) (v : LaneView) → acts ≡ false → has_no_stim v → InOrder acts sys looks v

@@ -14,7 +14,7 @@ use Rattle.qp_calls.specs.LaneView.{LaneView}
 use Rattle.qp_dispatch.specs.declared.steps.Step.{Step}
 use Rattle.qp_dispatch.specs.declared.steps.Step.TheVariants as step
 use Rattle.qp_kernel_turns.specs.Lanes.{LaneStarts}
-use Rattle.qp_port_home.specs.At.{HasEmptyLane}
+use Rattle.qp_port_lanes.specs.At.{HasEmptyLane}
 use Rattle.qp_shared.specs.declared.shared.Shared.{Shared}
 use Rattle.qp_shared.specs.Starting.{AreFirst, serves_one}
 use Rattle.qp_wait_rings.specs.declared.ringing.RingingLane.{RingingLane}

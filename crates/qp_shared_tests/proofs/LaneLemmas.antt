@@ -5,7 +5,7 @@ use Rattle.qp_base.specs.declared.event.Ev.{Ev}
 use Rattle.qp_model.specs.declared.systems.System.{System}
 use Rattle.qp_model.specs.WordLaw.{is_object}
 use Rattle.qp_calls.specs.LaneView.{LaneView}
-use Rattle.qp_port_workers.specs.Turns.{TurnEach}
+use Rattle.qp_port_phases.specs.Turns.{TurnEach}
 use Rattle.qp_shared.specs.declared.shared.Shared.{Shared}
 use Rattle.qp_shared.specs.Ending.{AreAll}
 use Rattle.qp_shared.specs.Starting.{AreFirst, serves_one}

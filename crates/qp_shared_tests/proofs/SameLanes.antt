@@ -17,10 +17,10 @@ use Rattle.qp_calls.specs.declared.answers.RoomFault.{RoomFault}
 use Rattle.qp_calls.specs.declared.answers.Take.{Take}
 use Rattle.qp_calls.specs.declared.answers.Take.TheVariants as take
 use Rattle.qp_calls.specs.declared.did.Did.{Did}
-use Rattle.qp_calls.specs.Clauses.{Counted, Gives, Takes, last_nil, same_counts}
+use Rattle.qp_calls.specs.Clauses.{Counted, GivesBlock, Takes, last_nil, same_counts}
 use Rattle.qp_calls.specs.Groups.{DoesCall, EndsStep, Refused}
 use Rattle.qp_calls.specs.LaneView.{AddsOf, Counts, Gains, LaneView, Looks, NotShown, Roomier}
-use Rattle.qp_calls_meet.specs.Meeting.{Met}
+use Rattle.qp_calls_log.specs.Meeting.{Met}
 use Rattle.qp_shared_tests.specs.Lanes.{IsPlayer, IsSame}
 
 pub same-itself : (v : LaneView) → IsSame v v
@@ -53,7 +53,7 @@ pub same-call : (now : Option model.Entry) (c : Call) (v w : LaneView) (r : Resu
 same-call now c v w (Ok d) h = same-gains _ v w h.grows
 same-call now c v w (Err fault) h = same-equal v w h.0
 
-pub same-given : (pool : ℕ) (reserve : Option ℕ) (ev : Event) (v w : LaneView) (g : Give) → Gives pool reserve ev v w g → IsSame v w
+pub same-given : (pool : ℕ) (reserve : Option ℕ) (ev : Event) (v w : LaneView) (g : Give) → GivesBlock pool reserve ev v w g → IsSame v w
 same-given pool reserve ev v w (give.Given f) h = same-gains _ v w h.adds.grows
 same-given pool reserve ev v w (give.Short n free) h = same-gains _ v w h.adds.grows
 

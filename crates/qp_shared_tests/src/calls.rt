@@ -5,7 +5,7 @@ ghost use Rattle.qp_model.specs.Sound.{IsSound};
 ghost use Rattle.qp_model.specs.WordLaw.{is_object};
 ghost use Rattle.qp_model.specs.declared.words.Word.TheVariants as word;
 ghost use Rattle.qp_calls.specs.Clauses.{FitsPool, event_of};
-ghost use Rattle.qp_calls_meet.specs.Meeting.{IsTogether};
+ghost use Rattle.qp_calls_log.specs.Meeting.{IsTogether};
 ghost use Rattle.qp_shared_tests.specs.Lanes.{IsSame};
 
 use crate::events::{event, fits_first};
@@ -15,7 +15,7 @@ use crate::shown::shown_behind;
 use crate::systems::{TWO, system};
 use qp_base::{Ev, Steps};
 use qp_calls::{Counts, Did, Give, Ops, post_static};
-use qp_calls_meet::Meets;
+use qp_calls_log::Meets;
 use qp_model::kernels::PORT;
 use qp_model::{Rec, System};
 use qp_shared::{Shared, SharedLane};

@@ -8,7 +8,7 @@ ghost use Rattle.qp_kernel.specs.Happenings.{has_no_stim};
 ghost use Rattle.qp_kernel.specs.Turning.{under_qk};
 ghost use Rattle.qp_kernel_turns.specs.Knowing.{KnowsAt, MayLook};
 ghost use Rattle.qp_kernel_turns.specs.Objects.{AreMade};
-ghost use Rattle.qp_kernel_turns.specs.Starting.{AllStarted, IsFresh};
+ghost use Rattle.qp_kernel_turns.specs.Starting.{AllStarted, IsFreshLane};
 ghost use Rattle.qp_shared.specs.Lane.{lane_view};
 ghost use Rattle.qp_shared_tests.specs.Lanes.{IsSame};
 
@@ -20,8 +20,8 @@ use qp_kernel::{Alone, Kernel, World};
 use qp_kernel_turns::{Bounds, Objects, kernel_turn};
 use qp_model::kernels::QK;
 use qp_model::{Stimuli, System};
-use qp_port_cursor::laws::new_cursors_stand;
-use qp_port_cursor::{Cursor, source_turn};
+use qp_port_lanes::laws::new_cursors_stand;
+use qp_port_lanes::{Cursor, source_turn};
 use qp_shared::{Sealed, Shared, SharedLane};
 use std::alloc::Global;
 use std::sync::Wait;
@@ -30,7 +30,7 @@ use std::sync::Wait;
 fn start<O: Ops>(ops: &mut O, sys: &System, objects: &mut Objects) -> bool
     requires sound { IsSound sys.now }
     requires made { AreMade sys.now objects.old }
-    requires fresh { IsFresh sys.now (O.lane ops.old) }
+    requires fresh { IsFreshLane sys.now (O.lane ops.old) }
     ensures all { result ≡ true → AllStarted sys.now objects.old objects.new (O.lane ops.old) (O.lane ops.new) }
     ensures same { IsSame (O.lane ops.old) (O.lane ops.new) }
     ensures plan { (O.lane ops.new).plan ≡ (O.lane ops.old).plan }
@@ -106,7 +106,7 @@ fn play<'a, R: Wait>(
     requires sound { IsSound sys.now }
     requires fit { StimuliFit sys.now stim.now }
     requires made { AreMade sys.now objects }
-    requires fresh { IsFresh sys.now (lane_view first) }
+    requires fresh { IsFreshLane sys.now (lane_view first) }
     requires plan { (lane_view first).plan ≡ [] }
     requires of { (lane_view second.old).sys ≡ sys.now }
     requires new { IsNew (lane_view second.old) }

@@ -6,7 +6,7 @@ ghost use Rattle.qp_shared_tests.specs.Lanes.{IsPlayer, IsSame};
 use qp_base::{Ev, Steps};
 use qp_calls::{Ops, Take, end_step, post_new, post_static};
 use qp_model::System;
-use qp_port_workers::Worker;
+use qp_port_phases::Worker;
 use std::marker::Brand;
 use std::sync::Wait;
 use std::sync::ledger::{Blank, Ledger};

@@ -16,7 +16,7 @@ use qp_base::Ev;
 use qp_calls::Ops;
 use qp_model::kernels::PORT;
 use qp_model::{Journal, System, kinds};
-use qp_port_workers::Worker;
+use qp_port_phases::Worker;
 use qp_shared::{Sealed, Shared};
 use std::alloc::Global;
 use std::sync::Wait;

@@ -2,7 +2,7 @@
 
 ghost use Rattle.std.specs.Prelude.{◌≡◌, ◌+◌, ◌<◌, ◌≤◌, IfSome, IsTrue, length, true, ℕ};
 ghost use Rattle.qp_model.specs.WordLaw.{is_object, is_signal, is_timer};
-ghost use Rattle.qp_side.specs.Seat.{OwnsTimer, StaysAs, recs_of, rights, serves_object};
+ghost use Rattle.qp_side.specs.Seat.{OwnsTimer, StaysAs, side_recs, rights, serves_object};
 
 use crate::objects::has_object;
 use qp_base::Steps;
@@ -51,10 +51,10 @@ fn owns(sys: &System, t: u8) -> bool
 fn make_on_signal(seat: &mut SideSeat<'_>, sys: &System, call: Call) -> Option<Rec>
     requires its { seat.old.words.now.shared.key ≡ sys.now }
     requires serves { IsTrue (serves_object seat.old.seat.me.0 1) }
-    requires room { length (recs_of seat.old.seat.me.0) ≤ 1000000 }
+    requires room { length (side_recs seat.old.seat.me.0) ≤ 1000000 }
     ensures same { (seat.new.words ≡ seat.old.words) × (seat.new.seat.table_id ≡ seat.old.seat.table_id) }
     ensures stays { StaysAs seat.old.seat.me.0 seat.new.seat.me.0 }
-    ensures more { length (recs_of seat.new.seat.me.0) ≤ length (recs_of seat.old.seat.me.0) + 1 }
+    ensures more { length (side_recs seat.new.seat.me.0) ≤ length (side_recs seat.old.seat.me.0) + 1 }
 {
     match call {
         Call::Subscribe { sig } if has_object(sys, 1) && has_signal(sys, sig) => {
@@ -77,10 +77,10 @@ pub(crate) fn make<L: Ledger>(
 ) -> Option<Rec>
     requires its { seat.old.words.now.shared.key ≡ sys.now }
     requires serves { IsTrue (serves_object seat.old.seat.me.0 1) }
-    requires room { length (recs_of seat.old.seat.me.0) ≤ 1000000 }
+    requires room { length (side_recs seat.old.seat.me.0) ≤ 1000000 }
     ensures same { (seat.new.words ≡ seat.old.words) × (seat.new.seat.table_id ≡ seat.old.seat.table_id) }
     ensures stays { StaysAs seat.old.seat.me.0 seat.new.seat.me.0 }
-    ensures more { length (recs_of seat.new.seat.me.0) ≤ length (recs_of seat.old.seat.me.0) + 1 }
+    ensures more { length (side_recs seat.new.seat.me.0) ≤ length (side_recs seat.old.seat.me.0) + 1 }
 {
     match call {
         Call::Arm { t, ticks, interval } if ticks > 0 && owns(sys, t) => {
@@ -108,7 +108,7 @@ pub(crate) fn first_seat<'a>(
     ensures given { IfSome result (λ s. root.new.given ≡ 1) }
     ensures its { IfSome result (λ s. (s.words.now.shared.key ≡ sys.now) × (s.seat.table_id ≡ side.now.words.shared.table_id)) }
     ensures serves { IfSome result (λ s. IsTrue (serves_object s.seat.me.0 1)) }
-    ensures none { IfSome result (λ s. length (recs_of s.seat.me.0) ≡ 0) }
+    ensures none { IfSome result (λ s. length (side_recs s.seat.me.0) ≡ 0) }
     ensures one { IfSome result (λ s. rights s.seat.me.0 ≡ 1) }
 {
     if !has_object(sys, 1) {

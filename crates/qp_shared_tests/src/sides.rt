@@ -2,7 +2,7 @@
 
 ghost use Rattle.std.specs.Prelude.{◌≡◌, ◌+◌, ◌<◌, ◌≤◌, IsTrue, length};
 ghost use Rattle.qp_model.specs.Sound.{IsSound};
-ghost use Rattle.qp_side.specs.Seat.{StaysAs, recs_of, serves_object};
+ghost use Rattle.qp_side.specs.Seat.{StaysAs, side_recs, serves_object};
 
 use crate::seats::{Call, first_seat, make};
 use crate::stops::stop_and_end;
@@ -175,7 +175,7 @@ fn play<L: Ledger>(seat: &mut SideSeat<'_>, sys: &System, calls: &[Made], blank:
     requires some { 0 < blank.parts }
     requires its { seat.old.words.now.shared.key ≡ sys.now }
     requires serves { IsTrue (serves_object seat.old.seat.me.0 1) }
-    requires none { length (recs_of seat.old.seat.me.0) ≡ 0 }
+    requires none { length (side_recs seat.old.seat.me.0) ≡ 0 }
     requires few { length calls.now ≤ 1000000 }
     ensures { StaysAs seat.old.seat.me.0 seat.new.seat.me.0 }
 {

@@ -2,7 +2,7 @@
 
 ghost use Rattle.std.specs.Prelude.{◌≡◌, ◌≤◌, true};
 ghost use Rattle.qp_model.specs.Sound.{IsSound};
-ghost use Rattle.qp_port_home.specs.At.{HasEmptyLane, IsHome, IsMade};
+ghost use Rattle.qp_port_lanes.specs.At.{HasEmptyLane, IsHome, IsMade};
 ghost use Rattle.qp_shared.specs.Starting.{IsRootOf};
 ghost use Rattle.qp_wait.specs.Handed as handed;
 ghost use Rattle.qp_wait.specs.Handed.{AreBellsOf, bell_view};
@@ -14,7 +14,7 @@ use crate::shown::shown_behind;
 use qp_base::NoGate;
 use qp_dispatch::{Step, Turn};
 use qp_model::System;
-use qp_port_home::Home;
+use qp_port_lanes::Home;
 use qp_shared::{Root, Shared};
 use qp_wait::{BellLane, BellRoot, Bells, wait_turn};
 use std::alloc::Global;

@@ -11,8 +11,8 @@ use Rattle.qp_table.specs.After.{Steps}
 use Rattle.qp_table.specs.declared.view.Spot.{Spot}
 use Rattle.qp_table.specs.declared.view.View.{View}
 use Rattle.qp_table.proofs.Bounds.{pool-ascends, pool-count, map-small}
-use Rattle.qp_shared_steps.specs.Told.{FromTold}
-use Rattle.qp_shared_steps.proofs.LawLemmas.{beginnings_tell}
+use Rattle.qp_table.specs.Told.{FromTold}
+use Rattle.qp_table.proofs.StepLawLemmas.{beginnings_tell}
 
 -- a look that tells nothing
 pub still : (sys : System) (id : ℕ) (v : View) (w : ℕ) → Steps sys id v w (λ n. n) (λ n u. u ≡ v)

@@ -7,17 +7,16 @@ ghost use Rattle.qp_model.specs.WordLaw.{is_pool};
 ghost use Rattle.qp_table.specs.Counting.{many};
 ghost use Rattle.qp_table.specs.Rule.{is_ref, is_spot, is_spot_at, fills_of, is_value, IsContent};
 ghost use Rattle.qp_table.specs.After.{HasRoom, ref};
-ghost use Rattle.qp_shared_views.specs.Words.{value_seen};
-ghost use Rattle.qp_shared_views.specs.Lane.{has_content};
-ghost use Rattle.qp_shared_steps.specs.Asked.{size_of, is_unfinished, is_begun, is_asked};
-ghost use Rattle.qp_shared_steps.specs.Told.{HasPlace, DropTold, FirstTold, FromTold, FillTold, ReadTold, EyePoolTold, IsLowest, GiveTold};
+ghost use Rattle.qp_table.specs.Words.{value_seen};
+ghost use Rattle.qp_table.specs.Lane.{has_content};
+ghost use Rattle.qp_table.specs.Asked.{size_of, is_unfinished, is_begun, is_asked};
+ghost use Rattle.qp_table.specs.Told.{HasPlace, DropTold, FirstTold, FromTold, FillTold, ReadTold, EyePoolTold, IsLowest, GiveTold};
 
 use crate::places::{block_at, event_at, pool_at};
 use crate::steps::{About, NOTHING, Words, add, exchange, look, store};
 use atomic_table::Seat;
 use qp_base::{Ev, Steps};
-use qp_shared_views::UNIT;
-use qp_table::View;
+use qp_table::{UNIT, View};
 use std::marker::Brand;
 use std::sync::ledger::Ledger;
 

@@ -8,4 +8,4 @@ pub mod queues;
 pub mod steps;
 
 pub use first::new_words;
-pub use steps::{Law, Words};
+pub use steps::{TableLaw, Words};

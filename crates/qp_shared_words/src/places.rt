@@ -1,7 +1,7 @@
 //! Where each word stands.
 
 ghost use Rattle.std.specs.Prelude.{◌≡◌};
-ghost use Rattle.qp_table.specs.Rule.{pool_at, block_at, queue_at, cell_at, event_at};
+ghost use Rattle.qp_table.specs.Rule.{pool_at, block_at, queue_at, cell_at, event_word_at};
 
 /// The word of a pool.
 pub fn pool_at(pool: u8) -> usize
@@ -33,7 +33,7 @@ pub fn cell_at(object: u8, cell: u16) -> usize
 
 /// An event word of a block.
 pub fn event_at(pool: u8, block: u8, place: u8) -> usize
-    ensures { result ≡ event_at pool block place }
+    ensures { result ≡ event_word_at pool block place }
 {
     12936 + 16 * (32 * pool as usize + block as usize) + place as usize
 }

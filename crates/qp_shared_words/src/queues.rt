@@ -9,11 +9,11 @@ ghost use Rattle.qp_table.specs.Counting.{many};
 ghost use Rattle.qp_table.specs.Rule.{is_place, code};
 ghost use Rattle.qp_table.specs.After.{HasRoom, InHand};
 ghost use Rattle.qp_table.specs.QueueLaws.{cells_of};
-ghost use Rattle.qp_shared_views.specs.Words.{value_seen};
+ghost use Rattle.qp_table.specs.Words.{value_seen};
 ghost use Rattle.qp_shared_words.specs.Fronts.{KnowsFront};
 ghost use Rattle.qp_shared_words.specs.Nils.{is_new};
-ghost use Rattle.qp_shared_steps.specs.Asked.{IsOldest};
-ghost use Rattle.qp_shared_steps.specs.Told.{LookTold, SeenTold, NilTold, EyeTold, free_in, TryTold, LayTold, SwapTold};
+ghost use Rattle.qp_table.specs.Asked.{IsOldest};
+ghost use Rattle.qp_table.specs.Told.{LookTold, SeenTold, NilTold, EyeTold, free_in, TryTold, LayTold, SwapTold};
 
 use crate::places::{cell_at, queue_at};
 use crate::steps::{About, NOTHING, Words, exchange, look, store, swap};

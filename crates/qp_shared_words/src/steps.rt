@@ -16,31 +16,31 @@ use std::alloc::Global;
 use std::marker::{Brand, PhantomData};
 
 /// The rule of the event table. Its key is the system; the first view has lane 0, all other lane numbers, and every object.
-pub struct Law;
+pub struct TableLaw;
 
-impl TableRule<(), View, System> for Law {
+impl TableRule<(), View, System> for TableLaw {
     ghost holds = { λ sys s. Holds sys s.words s.views };
 
     ghost first = { λ sys. newcomer later_lanes (first_serves sys 32) };
 }
 
 /// What a step tells: of the view before, the number found and the view after. Its caller picks it.
-pub trait Tells {
+pub trait StepTells {
     ghost tells: { View → ℕ → View → Type 0 };
 }
 
-impl Tells for Brand {
+impl StepTells for Brand {
     ghost tells = { λ v n u. Unit {0} };
 }
 
-pub struct Tell<T: Tells>(PhantomData<T>);
+pub struct Tell<T: StepTells>(PhantomData<T>);
 
-impl<T: Tells> Play<(), View> for Tell<T> {
+impl<T: StepTells> Play<(), View> for Tell<T> {
     ghost then = { λ st m n m'. T.tells m.0 n m'.0 };
 }
 
 /// The 21,128 words of one event table, which threads share.
-pub type Words = Table<(), View, System, Law, Global>;
+pub type Words = Table<(), View, System, TableLaw, Global>;
 
 /// What a step is about, for its proof alone: the object for which the lane works, a queue, a block or an entry, and numbers of the step. `low` is an entry's block or, of a static one, its signal; `last` are the counts that the queue's last `nil` showed.
 #[derive(Clone, Copy, Drop)]
@@ -72,7 +72,12 @@ pub const NOTHING: About = About {
 };
 
 /// Reads a word.
-pub fn look<T: Tells>(words: &Words, seat: &mut Seat<(), View>, word: usize, _about: About) -> u64
+pub fn look<T: StepTells>(
+    words: &Words,
+    seat: &mut Seat<(), View>,
+    word: usize,
+    _about: About,
+) -> u64
     requires own { (seat.old.table_id ≡ words.now.shared.table_id) × (word < words.now.shared.table_id.words) }
     requires keeps { Steps words.now.shared.key seat.old.id seat.old.me.0 word (λ n. n) (T.tells seat.old.me.0) }
     ensures same { (seat.new.table_id ≡ seat.old.table_id) × (seat.new.id ≡ seat.old.id) }
@@ -82,7 +87,7 @@ pub fn look<T: Tells>(words: &Words, seat: &mut Seat<(), View>, word: usize, _ab
 }
 
 /// Adds to a word.
-pub fn add<T: Tells>(
+pub fn add<T: StepTells>(
     words: &Words,
     seat: &mut Seat<(), View>,
     word: usize,
@@ -98,7 +103,7 @@ pub fn add<T: Tells>(
 }
 
 /// Sets a word to `new` where it is `old`, and answers what was found. `A` is what the step is about: `About`, or that and an event.
-pub fn exchange<T: Tells, A: Copy>(
+pub fn exchange<T: StepTells, A: Copy>(
     words: &Words,
     seat: &mut Seat<(), View>,
     word: usize,
@@ -117,7 +122,7 @@ pub fn exchange<T: Tells, A: Copy>(
 }
 
 /// Puts a value into a word, and answers what was found.
-pub(crate) fn swap<T: Tells>(
+pub(crate) fn swap<T: StepTells>(
     words: &Words,
     seat: &mut Seat<(), View>,
     word: usize,
@@ -133,7 +138,7 @@ pub(crate) fn swap<T: Tells>(
 }
 
 /// Writes a word.
-pub(crate) fn store<T: Tells>(
+pub(crate) fn store<T: StepTells>(
     words: &Words,
     seat: &mut Seat<(), View>,
     word: usize,

@@ -22,34 +22,34 @@ use Rattle.qp_table.specs.Counting.{Each, total, many}
 use Rattle.qp_table.specs.Rule.{is_serve}
 use Rattle.qp_table.specs.declared.view.Serve.{Serve}
 use Rattle.qp_table.specs.After.{rec_of, logged, HasRoom}
-use Rattle.qp_table.specs.declared.view.Log.{Log}
-use Rattle.qp_side_words.specs.Rule.{signal_at, timer_at, SideFitting, AreSubscribers}
-use Rattle.qp_side_words.specs.Told.{side_glanced, side_noted, bit_value, bit_in, EyeSignalTold, SubTold, UnsubTold, PubTold, SideSaw, counter_in, interval_in, last_seen}
-use Rattle.qp_side_words.specs.declared.SideView.{SideView}
-use Rattle.qp_side.specs.Seat.{StaysAs, first_recs, OwnsTimer, recs_of, SideAdds}
+use Rattle.qp_table.specs.declared.view.SeatLog.{SeatLog}
+use Rattle.qp_side.specs.Rule.{signal_at, timer_at, SideFitting, AreSubscribers}
+use Rattle.qp_side.specs.Told.{side_glanced, side_noted, bit_value, bit_in, EyeSignalTold, SubTold, UnsubTold, PubTold, SideSaw, counter_in, interval_in, last_seen}
+use Rattle.qp_side.specs.declared.view.SideView.{SideView}
+use Rattle.qp_side.specs.Seat.{StaysAs, first_recs, OwnsTimer, side_recs, SideAdds}
 use Rattle.qp_side.specs.Tries.{side_seeing, SideNotes, ArmEnds, IdleEnds, DisarmEnds, RearmEnds, TickEnds}
-use Rattle.qp_side.specs.Calls.{SideDraws, Comes, IsThere, Goes, IsAway, IsArmed, WasArmed, IsDisarmed, IsFired, IsDown, Subscribes, Unsubscribes, ShowsSet, ArmsTimer, DisarmsTimer, RearmsTimer, TicksTimer, IsIdle, SideTries, own_draw}
+use Rattle.qp_side.specs.Calls.{SideDraws, ObjectComes, IsThere, ObjectGoes, IsAway, IsArmed, WasArmed, IsDisarmed, IsFired, IsDown, Subscribes, Unsubscribes, ShowsSet, ArmsTimer, DisarmsTimer, RearmsTimer, TicksTimer, IsIdle, SideTries, own_draw}
 use Rattle.qp_side.proofs.Following.{saw-then}
 use Rattle.qp_side.proofs.Marks.{signal-adds, signal-draws, timer-adds, timer-draws, timer-mark}
 
 -- a seat's own log has room for a record
-pub room-of : (v : SideView) → length v.view.logs ≡ 1 → length (recs_of v) ≤ 1000000 → HasRoom v.view
+pub room-of : (v : SideView) → length v.view.logs ≡ 1 → length (side_recs v) ≤ 1000000 → HasRoom v.view
 room-of v one few = go v.view.logs refl
   where
-    go : (gs : List Log) → v.view.logs ≡ gs → HasRoom v.view
+    go : (gs : List SeatLog) → v.view.logs ≡ gs → HasRoom v.view
     go [] is = let e = ap length is in absurd (omega arith)
     go (g ∷ gs) is =
         let e : length v.view.logs ≡ length (g ∷ gs) = ap length is in
-        let r : length g.recs ≤ 1000000 = subst (λ (ls : List Log). length (first_recs ls) ≤ 1000000) is few in
+        let r : length g.recs ≤ 1000000 = subst (λ (ls : List SeatLog). length (first_recs ls) ≤ 1000000) is few in
         let none : gs ≡ [] = empty gs (omega arith) in
-        record { own = g; others = gs; is = is; room = subst (λ (ls : List Log). total (λ (x : Log). length x.recs) ls < 1000001) (sym (is ∙ ap (λ xs. g ∷ xs) none)) (omega arith) }
+        record { own = g; others = gs; is = is; room = subst (λ (ls : List SeatLog). total (λ (x : SeatLog). length x.recs) ls < 1000001) (sym (is ∙ ap (λ xs. g ∷ xs) none)) (omega arith) }
       where
-        empty : (xs : List Log) → length xs ≡ 0 → xs ≡ []
+        empty : (xs : List SeatLog) → length xs ≡ 0 → xs ≡ []
         empty [] e = refl
         empty (x ∷ xs) e = absurd (omega arith)
 
 pub room-after : (v z : SideView) → z.view.logs ≡ v.view.logs → HasRoom v.view → HasRoom z.view
-room-after v z same r = record { own = r.own; others = r.others; is = same ∙ r.is; room = subst (λ (ls : List Log). total (λ (x : Log). length x.recs) ls < 1000001) (sym same) r.room }
+room-after v z same r = record { own = r.own; others = r.others; is = same ∙ r.is; room = subst (λ (ls : List SeatLog). total (λ (x : SeatLog). length x.recs) ls < 1000001) (sym same) r.room }
 
 pub some-serve : (o : ℕ) (xs : List Serve) → IsTrue (list_any (is_serve o) xs) → 0 < many (is_serve o) xs
 some-serve o [] h = absurd (true≢false (sym h))
@@ -264,19 +264,19 @@ module _ (sys : System) (w : Word) (r : Rec) (v u : SideView) where
     answered = ap (λ (z : SideView). z.answered) a.1.rest;
   }
 
-  pub more-recs : length v.view.logs ≡ 1 → (a : (k : ℕ) × SideAdds sys w k r v u) → recs_of u ≡ recs_of v ++ r ∷ []
+  pub more-recs : length v.view.logs ≡ 1 → (a : (k : ℕ) × SideAdds sys w k r v u) → side_recs u ≡ side_recs v ++ r ∷ []
   more-recs one a = ap first_recs a.1.logs ∙ go v.view.logs one
     where
-      go : (gs : List Log) → length gs ≡ 1 → first_recs (logged r gs) ≡ first_recs gs ++ r ∷ []
+      go : (gs : List SeatLog) → length gs ≡ 1 → first_recs (logged r gs) ≡ first_recs gs ++ r ∷ []
       go [] e = absurd (omega arith)
       go (g ∷ gs) e = refl
 
 module _ (sys : System) (o : ℕ) (v : SideView) (r : Rec) (u : SideView) where
-  pub subscribes-adds : (s : ℕ) (b : Bool) → MatchBool b (Comes sys o s v r u) (IsThere sys o s v r u) → (k : ℕ) × SideAdds sys (word.Signal s) k r v u
+  pub subscribes-adds : (s : ℕ) (b : Bool) → MatchBool b (ObjectComes sys o s v r u) (IsThere sys o s v r u) → (k : ℕ) × SideAdds sys (word.Signal s) k r v u
   subscribes-adds s true a = (_, a.draws.adds)
   subscribes-adds s false a = (_, a.adds)
 
-  pub unsubscribes-adds : (s : ℕ) (b : Bool) → MatchBool b (Goes sys o s v r u) (IsAway sys o s v r u) → (k : ℕ) × SideAdds sys (word.Signal s) k r v u
+  pub unsubscribes-adds : (s : ℕ) (b : Bool) → MatchBool b (ObjectGoes sys o s v r u) (IsAway sys o s v r u) → (k : ℕ) × SideAdds sys (word.Signal s) k r v u
   unsubscribes-adds s true a = (_, a.draws.adds)
   unsubscribes-adds s false a = (_, a.adds)
 

@@ -16,16 +16,16 @@ use Rattle.qp_model.proofs.WordLawLemmas.{subscribers-counts, time_event-counts}
 use Rattle.qp_table.specs.Counting.{Each, total, many}
 use Rattle.qp_table.specs.Rule.{is_log, mark_in}
 use Rattle.qp_table.specs.declared.view.Glance.{Glance}
-use Rattle.qp_table.specs.declared.view.Log.{Log}
+use Rattle.qp_table.specs.declared.view.SeatLog.{SeatLog}
 use Rattle.qp_table.proofs.Counting.{total-append, each-map}
 use Rattle.qp_table.proofs.Marks.{low-mark}
-use Rattle.qp_shared_views.specs.Words.{later, latest}
-use Rattle.qp_side_words.specs.Rule.{signal_at, timer_at, SideFitting}
-use Rattle.qp_side_words.specs.Told.{last_seen, both_of}
-use Rattle.qp_side_words.specs.Laws.{IsSideWhole}
-use Rattle.qp_side_words.specs.declared.SideView.{SideView}
-use Rattle.qp_side_words.proofs.Places.{signal-low, timer-low}
-use Rattle.qp_side.specs.Seat.{first_recs, recs_of, side_mark}
+use Rattle.qp_table.specs.Words.{later, latest}
+use Rattle.qp_side.specs.Rule.{signal_at, timer_at, SideFitting}
+use Rattle.qp_side.specs.Told.{last_seen, both_of}
+use Rattle.qp_side.specs.Laws.{IsSideWhole}
+use Rattle.qp_side.specs.declared.view.SideView.{SideView}
+use Rattle.qp_side.proofs.Places.{signal-low, timer-low}
+use Rattle.qp_side.specs.Seat.{first_recs, side_recs, side_mark}
 use Rattle.qp_side.specs.Ending.{SideEnds, joined_last}
 use Rattle.qp_side.proofs.Permuting.{IsLane, Covers, recs_all, permuted, same-law, same-hist}
 
@@ -34,40 +34,40 @@ each-parts P [] ys e = (tt, e)
 each-parts P (x ∷ xs) ys e = let r = each-parts P xs ys e.1 in ((e.0, r.0), r.1)
 
 -- a view's own log
-abbrev first_log : List Log → Log
+abbrev first_log : List SeatLog → SeatLog
 first_log [] = record { number = 0; recs = [] }
 first_log (g ∷ gs) = g
 
-abbrev log_of : SideView → Log
+abbrev log_of : SideView → SeatLog
 log_of v = first_log v.view.logs
 
-one-log : (gs : List Log) → length gs ≡ 1 → gs ≡ first_log gs ∷ []
+one-log : (gs : List SeatLog) → length gs ≡ 1 → gs ≡ first_log gs ∷ []
 one-log [] e = absurd (omega arith)
 one-log (g ∷ []) e = refl
 one-log (g ∷ h ∷ gs) e = absurd (omega arith)
 
-log-recs : (views : List SideView) → recs_all (map log_of views) ≡ map recs_of views
+log-recs : (views : List SideView) → recs_all (map log_of views) ≡ map side_recs views
 log-recs [] = refl
 log-recs (v ∷ vs) = λ i. go v.view.logs i ∷ log-recs vs i
   where
-    go : (gs : List Log) → (first_log gs).recs ≡ first_recs gs
+    go : (gs : List SeatLog) → (first_log gs).recs ≡ first_recs gs
     go [] = refl
     go (g ∷ gs) = refl
 
 -- what a seat has that took over others
 module _ (v : SideView) where
-  joined-logs : (P : Log → Type 0) (views : List SideView) → Each (λ (w : SideView). length w.view.logs ≡ 1) views → Each P (joined_last v views).view.logs → Each P (map log_of views)
+  joined-logs : (P : SeatLog → Type 0) (views : List SideView) → Each (λ (w : SideView). length w.view.logs ≡ 1) views → Each P (joined_last v views).view.logs → Each P (map log_of views)
   joined-logs P [] ones e = tt
   joined-logs P (w ∷ ws) ones e =
       let r = each-parts P (joined_last v ws).view.logs w.view.logs e in
       let own : Each P (log_of w ∷ []) = subst (Each P) (one-log w.view.logs ones.0) r.1 in
       (own.0, joined-logs P ws ones.1 r.0)
 
-  joined-many : (p : Log → Bool) (views : List SideView) → v.view.logs ≡ [] → Each (λ (w : SideView). length w.view.logs ≡ 1) views → many p (joined_last v views).view.logs ≡ many p (map log_of views)
+  joined-many : (p : SeatLog → Bool) (views : List SideView) → v.view.logs ≡ [] → Each (λ (w : SideView). length w.view.logs ≡ 1) views → many p (joined_last v views).view.logs ≡ many p (map log_of views)
   joined-many p [] none ones = ap (many p) none
   joined-many p (w ∷ ws) none ones =
       let r = joined-many p ws none ones.1 in
-      let a = total-append (λ (g : Log). cond (p g) 1 0) (joined_last v ws).view.logs w.view.logs in
+      let a = total-append (λ (g : SeatLog). cond (p g) 1 0) (joined_last v ws).view.logs w.view.logs in
       let o : many p w.view.logs ≡ many p (log_of w ∷ []) = ap (many p) (one-log w.view.logs ones.0) in omega arith
 
   joined-seen : (P : Glance → Type 0) (views : List SideView) → Each P (joined_last v views).view.seen → Each (λ (w : SideView). Each P w.view.seen) views
@@ -111,7 +111,7 @@ module _ (sys : System) (fit : SideFitting sys) (root : SideView) (views : List 
           dite (ℕ_discrete (many (is_log n) (map log_of views)) 1) (λ one. inl one) (λ no. inr (omega arith, whole.rest n (omega arith) (omega arith)))
 
   abbrev lanes : List (List Rec)
-  lanes = map recs_of views
+  lanes = map side_recs views
 
   law-of : {S : Type 0} (m : Machine S) (w : Word) → Keeps S m w whole.lanes → Keeps S m w lanes
   law-of m w law = subst (Keeps _ m w) (log-recs views) (same-law whole.lanes (recs_all (map log_of views)) order.0 order.1 w m law)

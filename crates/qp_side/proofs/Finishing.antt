@@ -3,8 +3,8 @@ use Rattle.std.proofs.Common.{◌≡◌, ◌+◌, List, [], ◌∷◌, ◌++◌,
 use Rattle.std.proofs.lemmas.List.{map-append}
 use Rattle.std.proofs.lemmas.List.Sums.{sum_by-append}
 use Rattle.qp_table.specs.Counting.{Each}
-use Rattle.qp_side_words.specs.Told.{both_of}
-use Rattle.qp_side_words.specs.declared.SideView.{SideView}
+use Rattle.qp_side.specs.Told.{both_of}
+use Rattle.qp_side.specs.declared.view.SideView.{SideView}
 use Rattle.qp_side.specs.Seat.{rights}
 use Rattle.qp_side.specs.Ending.{joined_last}
 use Rattle.qp_side.specs.declared.seat.SideSeat.{SideSeat}

@@ -1,9 +1,9 @@
 -- Tries on a time event, one behind another.
 use Rattle.std.proofs.Common.{◌≡◌, ℕ, ◌<◌, ◌≤◌, sym, ap, subst, ◌∙◌, arith}
 use Rattle.qp_table.specs.Rule.{mark_in}
-use Rattle.qp_side_words.specs.Rule.{timer_at}
-use Rattle.qp_side_words.specs.Told.{last_seen, SideSaw}
-use Rattle.qp_side_words.specs.declared.SideView.{SideView}
+use Rattle.qp_side.specs.Rule.{timer_at}
+use Rattle.qp_side.specs.Told.{last_seen, SideSaw}
+use Rattle.qp_side.specs.declared.view.SideView.{SideView}
 use Rattle.qp_side.specs.Tries.{side_seeing}
 
 -- only what was seen has changed, and of the time event's word x was seen last

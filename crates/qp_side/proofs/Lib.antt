@@ -6,3 +6,9 @@ pub mod Permuting
 pub mod EndLemmas
 pub mod Finishing
 pub mod CrossingLemmas
+pub mod Places
+pub mod StepLemmas
+pub mod SignalLemmas
+pub mod ClockLemmas
+pub mod StopLemmas
+pub mod SeatLemmas

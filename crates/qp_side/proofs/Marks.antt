@@ -8,10 +8,10 @@ use Rattle.qp_model.specs.History.{same_word}
 use Rattle.qp_model.specs.WordLaw.{is_signal, is_timer}
 use Rattle.qp_table.specs.Rule.{mark_in}
 use Rattle.qp_table.proofs.Marks.{low-mark}
-use Rattle.qp_side_words.specs.Rule.{signal_at, timer_at, SideFitting}
-use Rattle.qp_side_words.specs.Told.{last_seen, SideSaw}
-use Rattle.qp_side_words.specs.declared.SideView.{SideView}
-use Rattle.qp_side_words.proofs.Places.{signal-low, timer-low}
+use Rattle.qp_side.specs.Rule.{signal_at, timer_at, SideFitting}
+use Rattle.qp_side.specs.Told.{last_seen, SideSaw}
+use Rattle.qp_side.specs.declared.view.SideView.{SideView}
+use Rattle.qp_side.proofs.Places.{signal-low, timer-low}
 use Rattle.qp_side.specs.Seat.{side_mark, SideLooks, SideAdds}
 use Rattle.qp_side.specs.Calls.{SideDraws}
 use Rattle.qp_side.specs.Tries.{SideNotes}

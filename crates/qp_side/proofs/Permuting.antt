@@ -12,35 +12,35 @@ use Rattle.qp_model.specs.History.{all_items, lane_items, marks, marks_rise, his
 use Rattle.qp_model.specs.Machine.{Machine}
 use Rattle.qp_model.specs.WordLaw.{Keeps}
 use Rattle.qp_model.proofs.WordLemmas.{all_items-append}
-use Rattle.qp_model_lanes.proofs.Orders.{keeps-ordered, hist-ordered}
+use Rattle.qp_model_order.proofs.Orders.{keeps-ordered, hist-ordered}
 use Rattle.qp_table.specs.Counting.{Each, many, without}
 use Rattle.qp_table.specs.Rule.{is_log}
-use Rattle.qp_table.specs.declared.view.Log.{Log}
+use Rattle.qp_table.specs.declared.view.SeatLog.{SeatLog}
 
-abbrev pub recs_all : List Log → List (List Rec)
-recs_all logs = map (λ (g : Log). g.recs) logs
+abbrev pub recs_all : List SeatLog → List (List Rec)
+recs_all logs = map (λ (g : SeatLog). g.recs) logs
 
 -- a log's records are those of the lane of its number
-abbrev pub IsLane : List (List Rec) → Log → Type 0
+abbrev pub IsLane : List (List Rec) → SeatLog → Type 0
 IsLane lanes g = get_elem? lanes g.number ≡ some g.recs
 
 -- a lane is one log's, or it is empty and no log's
-abbrev pub Covers : List (List Rec) → List Log → ℕ → Type 0
+abbrev pub Covers : List (List Rec) → List SeatLog → ℕ → Type 0
 Covers lanes logs n = (many (is_log n) logs ≡ 1) ⊎ ((many (is_log n) logs ≡ 0) × (get_elem? lanes n ≡ some []))
 
-abbrev lower : Log → Log
+abbrev lower : SeatLog → SeatLog
 lower g = record { number = g.number - 1; recs = g.recs }
 
-lower-recs : (logs : List Log) → recs_all (map lower logs) ≡ recs_all logs
+lower-recs : (logs : List SeatLog) → recs_all (map lower logs) ≡ recs_all logs
 lower-recs [] = refl
 lower-recs (g ∷ gs) = ap (λ ls. g.recs ∷ ls) (lower-recs gs)
 
 -- where no log has number 0, all are of the lanes behind the first
-none-zero : (gs : List Log) → many (is_log 0) gs ≡ 0 → Each (λ (g : Log). eqb g.number 0 ≡ false) gs
+none-zero : (gs : List SeatLog) → many (is_log 0) gs ≡ 0 → Each (λ (g : SeatLog). eqb g.number 0 ≡ false) gs
 none-zero [] z = tt
 none-zero (g ∷ gs) z = go (eqb g.number 0) refl z (none-zero gs)
   where
-    go : (b : Bool) → eqb g.number 0 ≡ b → cond {A = ℕ} b 1 0 + many (is_log 0) gs ≡ 0 → (many (is_log 0) gs ≡ 0 → Each (λ (g : Log). eqb g.number 0 ≡ false) gs) → (eqb g.number 0 ≡ false) × Each (λ (g : Log). eqb g.number 0 ≡ false) gs
+    go : (b : Bool) → eqb g.number 0 ≡ b → cond {A = ℕ} b 1 0 + many (is_log 0) gs ≡ 0 → (many (is_log 0) gs ≡ 0 → Each (λ (g : SeatLog). eqb g.number 0 ≡ false) gs) → (eqb g.number 0 ≡ false) × Each (λ (g : SeatLog). eqb g.number 0 ≡ false) gs
     go true e s r = absurd (omega arith)
     go false e s r = (e, r (omega arith))
 
@@ -48,7 +48,7 @@ lower-lane : (x : List Rec) (xs : List (List Rec)) (n : ℕ) (r : List Rec) → 
 lower-lane x xs zero r ne at = absurd (true≢false (sym (eq-eqb 0 0 refl) ∙ ne))
 lower-lane x xs (suc n) r ne at = let e : suc n - 1 ≡ n = omega arith in subst (λ k. get_elem? xs k ≡ some r) (sym e) at
 
-lower-lanes : (x : List Rec) (xs : List (List Rec)) (gs : List Log) → Each (λ (g : Log). eqb g.number 0 ≡ false) gs → Each (IsLane (x ∷ xs)) gs → Each (IsLane xs) (map lower gs)
+lower-lanes : (x : List Rec) (xs : List (List Rec)) (gs : List SeatLog) → Each (λ (g : SeatLog). eqb g.number 0 ≡ false) gs → Each (IsLane (x ∷ xs)) gs → Each (IsLane xs) (map lower gs)
 lower-lanes x xs [] ne each = tt
 lower-lanes x xs (g ∷ gs) ne each = (lower-lane x xs g.number g.recs ne.0 each.0, lower-lanes x xs gs ne.1 each.1)
 
@@ -63,12 +63,12 @@ lower-number (suc n) k ne = go (eqb n k) refl
     go true is = let same = eqb-true n k is in eq-eqb (suc n - 1) k (omega arith) ∙ sym (eq-eqb (suc n) (suc k) (omega arith))
     go false is = ne_eqb (suc n - 1) k (λ q. absurd (true≢false (sym (eq-eqb n k (omega arith)) ∙ is))) ∙ sym (ne_eqb (suc n) (suc k) (λ q. absurd (true≢false (sym (eq-eqb n k (omega arith)) ∙ is))))
 
-lower-many : (k : ℕ) (gs : List Log) → Each (λ (g : Log). eqb g.number 0 ≡ false) gs → many (is_log k) (map lower gs) ≡ many (is_log (suc k)) gs
+lower-many : (k : ℕ) (gs : List SeatLog) → Each (λ (g : SeatLog). eqb g.number 0 ≡ false) gs → many (is_log k) (map lower gs) ≡ many (is_log (suc k)) gs
 lower-many k [] ne = refl
 lower-many k (g ∷ gs) ne = let e = ap (λ (b : Bool). cond {A = ℕ} b 1 0) (lower-number g.number k ne.0) in let r = lower-many k gs ne.1 in omega arith
 
 -- the first lane's log is taken out
-taken-out : (x : List Rec) (xs : List (List Rec)) (gs : List Log) → Each (IsLane (x ∷ xs)) gs → 0 < many (is_log 0) gs → IsPermutation (x ∷ recs_all (without (is_log 0) gs)) (recs_all gs)
+taken-out : (x : List Rec) (xs : List (List Rec)) (gs : List SeatLog) → Each (IsLane (x ∷ xs)) gs → 0 < many (is_log 0) gs → IsPermutation (x ∷ recs_all (without (is_log 0) gs)) (recs_all gs)
 taken-out x xs [] each some_log = absurd (omega arith)
 taken-out x xs (g ∷ gs) each some_log = go (eqb g.number 0) refl some_log (taken-out x xs gs each.1)
   where
@@ -81,7 +81,7 @@ taken-out x xs (g ∷ gs) each some_log = go (eqb g.number 0) refl some_log (tak
         (IsPermutation-middle (x ∷ []) g.recs (recs_all (without (is_log 0) gs)))
         (IsPermutation-cons g.recs (x ∷ recs_all (without (is_log 0) gs)) (recs_all gs) (r (omega arith)))
 
-without-each : (P : Log → Type 0) (p : Log → Bool) (gs : List Log) → Each P gs → Each P (without p gs)
+without-each : (P : SeatLog → Type 0) (p : SeatLog → Bool) (gs : List SeatLog) → Each P gs → Each P (without p gs)
 without-each P p [] each = tt
 without-each P p (g ∷ gs) each = go (p g) (without-each P p gs each.1)
   where
@@ -90,7 +90,7 @@ without-each P p (g ∷ gs) each = go (p g) (without-each P p gs each.1)
     go false r = (each.0, r)
 
 -- taking one out of number 0 leaves as many of others, and one less of 0
-without-many : (k : ℕ) (gs : List Log) → 0 < many (is_log 0) gs → many (is_log k) (without (is_log 0) gs) + cond (eqb 0 k) 1 0 ≡ many (is_log k) gs
+without-many : (k : ℕ) (gs : List SeatLog) → 0 < many (is_log 0) gs → many (is_log k) (without (is_log 0) gs) + cond (eqb 0 k) 1 0 ≡ many (is_log k) gs
 without-many k [] s = absurd (omega arith)
 without-many k (g ∷ gs) s = go (eqb g.number 0) refl s (without-many k gs)
   where
@@ -100,14 +100,14 @@ without-many k (g ∷ gs) s = go (eqb g.number 0) refl s (without-many k gs)
 
 -- the logs' records and some empty lanes are all lanes
 abbrev pub IsPermuted : List (List Rec) → Type 0
-IsPermuted lanes = (logs : List Log) → Each (IsLane lanes) logs → ((n : ℕ) → n < length lanes → Covers lanes logs n) → (k : ℕ) × IsPermutation lanes (recs_all logs ++ replicate k [])
+IsPermuted lanes = (logs : List SeatLog) → Each (IsLane lanes) logs → ((n : ℕ) → n < length lanes → Covers lanes logs n) → (k : ℕ) × IsPermutation lanes (recs_all logs ++ replicate k [])
 
 pub permuted : (lanes : List (List Rec)) → IsPermuted lanes
 permuted [] [] each cover = (0, IsPermutation-refl [])
 permuted [] (g ∷ gs) each cover = absurd (some-ne-none g.recs (sym each.0))
 permuted (x ∷ xs) logs each cover = ⊎_elim (first (λ gs e c. permuted xs gs e c)) (second (λ gs e c. permuted xs gs e c)) (cover 0 (omega arith))
   where
-    step : IsPermuted xs → (gs : List Log) → many (is_log 0) gs ≡ 0 → Each (IsLane (x ∷ xs)) gs → ((n : ℕ) → n < length xs → Covers (x ∷ xs) gs (suc n)) → (k : ℕ) × IsPermutation xs (recs_all gs ++ replicate k [])
+    step : IsPermuted xs → (gs : List SeatLog) → many (is_log 0) gs ≡ 0 → Each (IsLane (x ∷ xs)) gs → ((n : ℕ) → n < length xs → Covers (x ∷ xs) gs (suc n)) → (k : ℕ) × IsPermutation xs (recs_all gs ++ replicate k [])
     step rec gs none each covers =
         let ne = none-zero gs none in
         let r = rec (map lower gs) (lower-lanes x xs gs ne each)

@@ -11,8 +11,8 @@ use Rattle.qp_table.specs.After.{passing, failing}
 use Rattle.qp_table.specs.First.{first_serves}
 use Rattle.qp_table.specs.declared.view.Serve.{Serve}
 use Rattle.qp_table.proofs.Start.{object-within, serves-once}
-use Rattle.qp_shared_side.specs.Seats.{in_set}
-use Rattle.qp_side_words.specs.Rule.{SideFitting}
+use Rattle.qp_side.specs.Seats.{in_set}
+use Rattle.qp_side.specs.Rule.{SideFitting}
 use Rattle.qp_side.specs.Seat.{is_in}
 
 pub fitting-of : (sys : System) → IsSound sys → SideFitting sys

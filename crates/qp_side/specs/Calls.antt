@@ -10,8 +10,8 @@ use Rattle.qp_model.specs.declared.words.Word.TheVariants as word
 use Rattle.qp_model.specs.Parts.{members}
 use Rattle.qp_model.specs.WordLaw.{is_object}
 use Rattle.qp_table.specs.After.{rec_of}
-use Rattle.qp_side_words.specs.Rule.{member_in}
-use Rattle.qp_side_words.specs.declared.SideView.{SideView}
+use Rattle.qp_side.specs.Rule.{member_in}
+use Rattle.qp_side.specs.declared.view.SideView.{SideView}
 use Rattle.qp_side.specs.Seat.{side_mark, SideAdds}
 
 -- an operation: the record drew number n of the word
@@ -22,7 +22,7 @@ pub record SideDraws (sys : System) (w : Word) (n : ℕ) (r : Rec) (v u : SideVi
 -- Signals.
 
 -- `sub` where object o comes, or `same` where it is a subscriber
-pub record Comes (sys : System) (o sig : ℕ) (v : SideView) (r : Rec) (u : SideView) : Type 0 where
+pub record ObjectComes (sys : System) (o sig : ℕ) (v : SideView) (r : Rec) (u : SideView) : Type 0 where
   pub n : ℕ
   pub is : r ≡ rec_of 31 o (sig ∷ n ∷ [])
   pub draws : SideDraws sys (word.Signal sig) n r v u
@@ -35,10 +35,10 @@ pub record IsThere (sys : System) (o sig : ℕ) (v : SideView) (r : Rec) (u : Si
   pub was : member_in o sig v.view.logs ≡ true
 
 abbrev pub Subscribes : System → ℕ → ℕ → SideView → Rec → SideView → Type 0
-Subscribes sys o sig v r u = MatchBool (r.kind == 31) (Comes sys o sig v r u) (IsThere sys o sig v r u)
+Subscribes sys o sig v r u = MatchBool (r.kind == 31) (ObjectComes sys o sig v r u) (IsThere sys o sig v r u)
 
 -- `unsub` where object o goes, or `same` where it is no subscriber
-pub record Goes (sys : System) (o sig : ℕ) (v : SideView) (r : Rec) (u : SideView) : Type 0 where
+pub record ObjectGoes (sys : System) (o sig : ℕ) (v : SideView) (r : Rec) (u : SideView) : Type 0 where
   pub n : ℕ
   pub is : r ≡ rec_of 32 o (sig ∷ n ∷ [])
   pub draws : SideDraws sys (word.Signal sig) n r v u
@@ -51,7 +51,7 @@ pub record IsAway (sys : System) (o sig : ℕ) (v : SideView) (r : Rec) (u : Sid
   pub was : member_in o sig v.view.logs ≡ false
 
 abbrev pub Unsubscribes : System → ℕ → ℕ → SideView → Rec → SideView → Type 0
-Unsubscribes sys o sig v r u = MatchBool (r.kind == 32) (Goes sys o sig v r u) (IsAway sys o sig v r u)
+Unsubscribes sys o sig v r u = MatchBool (r.kind == 32) (ObjectGoes sys o sig v r u) (IsAway sys o sig v r u)
 
 -- `pub` with the set, whose members are objects of the system
 pub record ShowsSet (sys : System) (o sig : ℕ) (v : SideView) (r : Rec) (u : SideView) : Type 0 where

@@ -11,19 +11,19 @@ use Rattle.qp_model.specs.History.{same_word}
 use Rattle.qp_model.specs.WordLaw.{is_signal, is_timer}
 use Rattle.qp_table.specs.Rule.{mark_in, is_serve}
 use Rattle.qp_table.specs.After.{logged}
-use Rattle.qp_table.specs.declared.view.Log.{Log}
-use Rattle.qp_side_words.specs.Rule.{signal_at, timer_at}
-use Rattle.qp_side_words.specs.Told.{last_seen}
-use Rattle.qp_side_words.specs.declared.SideView.{SideView}
+use Rattle.qp_table.specs.declared.view.SeatLog.{SeatLog}
+use Rattle.qp_side.specs.Rule.{signal_at, timer_at}
+use Rattle.qp_side.specs.Told.{last_seen}
+use Rattle.qp_side.specs.declared.view.SideView.{SideView}
 
 -- the records of the first log
-abbrev pub first_recs : List Log → List Rec
+abbrev pub first_recs : List SeatLog → List Rec
 first_recs [] = []
 first_recs (g ∷ gs) = g.recs
 
 -- the records that the seat answered
-abbrev pub recs_of : SideView → List Rec
-recs_of v = first_recs v.view.logs
+abbrev pub side_recs : SideView → List Rec
+side_recs v = first_recs v.view.logs
 
 -- the most operations of a signal's or a time event's word that the seat has seen; 0 of words that the system hasn't, and of all others
 abbrev pub side_mark : System → SideView → Word → ℕ

@@ -3,9 +3,9 @@ use Rattle.std.specs.Prelude.{◌≡◌, ℕ, ◌+◌, ◌-◌, ◌*◌, ◌/◌
 use Rattle.qp_model.specs.declared.record.Rec.{Rec}
 use Rattle.qp_table.specs.After.{rec_of}
 use Rattle.qp_table.specs.declared.view.Glance.{Glance}
-use Rattle.qp_side_words.specs.Rule.{timer_at}
-use Rattle.qp_side_words.specs.Told.{side_noted, SideSaw, counter_in, interval_in, tick_rec}
-use Rattle.qp_side_words.specs.declared.SideView.{SideView}
+use Rattle.qp_side.specs.Rule.{timer_at}
+use Rattle.qp_side.specs.Told.{side_noted, SideSaw, counter_in, interval_in, tick_rec}
+use Rattle.qp_side.specs.declared.view.SideView.{SideView}
 
 -- the same view, which has seen other glances
 abbrev pub side_seeing : List Glance → SideView → SideView

@@ -1,11 +1,11 @@
 //! A lane's seat on the side table.
 
 ghost use Rattle.std.specs.Prelude.{◌≡◌, length};
-ghost use Rattle.qp_side_words.specs.Rule.{SideFitting};
+ghost use Rattle.qp_side.specs.Rule.{SideFitting};
 
+use crate::steps::Words;
+use crate::view::SideView;
 use atomic_table::Seat;
-use qp_shared_side::Words;
-use qp_side_words::SideView;
 
 /// A lane's seat: what it makes on the words of the side table, one call at a time. It answers records and keeps none.
 ///

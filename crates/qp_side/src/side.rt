@@ -2,15 +2,15 @@
 
 ghost use Rattle.std.specs.Prelude.{◌≡◌, ◌-◌, ◌≤◌, length};
 ghost use Rattle.qp_model.specs.Lists.{count_up};
-ghost use Rattle.qp_side_words.specs.Rule.{SideFitting};
+ghost use Rattle.qp_side.specs.Rule.{SideFitting};
 
 use crate::seat::SideSeat;
+use crate::steps::Words;
+use crate::view::SideView;
+use crate::words::{give_seat, join_seats, know_whole, new_words};
 use atomic_table::Seat;
 use qp_base::Memory;
 use qp_model::System;
-use qp_shared_side::Words;
-use qp_shared_side::seats::{give_seat, join_seats, know_whole, new_words};
-use qp_side_words::SideView;
 use std::alloc::Global;
 
 /// The words of a system's signals and time events, and the stop word, which threads share.
@@ -39,8 +39,8 @@ impl Side {
     ghost use Rattle.qp_model.specs.Sound.{IsSound};
     ghost use Rattle.qp_model.specs.WordLaw.{is_object};
     ghost use Rattle.qp_table.specs.First.{first_serves};
-    ghost use Rattle.qp_shared_side.specs.Seats.{in_set};
-    ghost use Rattle.qp_side_words.specs.Told.{root_less, seat_with, side_root};
+    ghost use Rattle.qp_side.specs.Seats.{in_set};
+    ghost use Rattle.qp_side.specs.Told.{root_less, seat_with, side_root};
     ghost use Rattle.qp_side.specs.Seat.{is_in, rights, serves_object};
     ghost use Rattle.qp_side.specs.Ending.{SideEnds};
 

@@ -3,7 +3,7 @@
 ghost use Rattle.std.specs.Prelude.{◌≡◌, ◌<◌, ◌≤◌};
 
 use crate::seat::SideSeat;
-use qp_shared_side::stops::{find, hand_in};
+use crate::stop_steps::{find, hand_in};
 
 impl SideSeat<'_> {
     ghost use Rattle.qp_side.specs.Calls.{HandsIn, FindsCode};

@@ -10,11 +10,11 @@ use crate::seat::SideSeat;
 use crate::tries::{try_arm, try_disarm, try_rearm, try_tick};
 use qp_base::Steps;
 use qp_model::{Rec, kinds};
-use qp_shared_views::UNIT;
+use qp_table::UNIT;
 use std::sync::ledger::Ledger;
 
 impl SideSeat<'_> {
-    ghost use Rattle.qp_side.specs.Seat.{OwnsTimer, StaysAs, recs_of};
+    ghost use Rattle.qp_side.specs.Seat.{OwnsTimer, StaysAs, side_recs};
     ghost use Rattle.qp_side.specs.Calls.{ArmsTimer, DisarmsTimer, RearmsTimer, SideTries, TicksTimer};
 
     /// Arms a time event of object `o`. The record is `arm`, or assertion 3 where its counter isn't 0.
@@ -26,12 +26,12 @@ impl SideSeat<'_> {
         interval: u16,
         steps: &mut Steps<L>,
     ) -> Rec
-        requires room { length (recs_of self.old.seat.me.0) ≤ 1000000 }
+        requires room { length (side_recs self.old.seat.me.0) ≤ 1000000 }
         requires some { 0 < ticks }
         requires owns { OwnsTimer self.old.words.now.shared.key o t }
         ensures same { (self.new.words ≡ self.old.words) × (self.new.seat.table_id ≡ self.old.seat.table_id) }
         ensures stays { StaysAs self.old.seat.me.0 self.new.seat.me.0 }
-        ensures answered { recs_of self.new.seat.me.0 ≡ recs_of self.old.seat.me.0 ++ result ∷ [] }
+        ensures answered { side_recs self.new.seat.me.0 ≡ side_recs self.old.seat.me.0 ++ result ∷ [] }
         ensures arms { ArmsTimer self.old.words.now.shared.key o t ticks interval self.old.seat.me.0 result self.new.seat.me.0 }
         ensures tries { SideTries self.old.words.now.shared.key (word.Timer t) result steps.old steps.new self.old.seat.me.0 self.new.seat.me.0 }
     {
@@ -49,11 +49,11 @@ impl SideSeat<'_> {
 
     /// Disarms a time event of object `o`. The record is `disarm` with the former counter, or `idle` where that is 0.
     pub fn disarm<L: Ledger>(&mut self, o: u8, t: u8, steps: &mut Steps<L>) -> Rec
-        requires room { length (recs_of self.old.seat.me.0) ≤ 1000000 }
+        requires room { length (side_recs self.old.seat.me.0) ≤ 1000000 }
         requires owns { OwnsTimer self.old.words.now.shared.key o t }
         ensures same { (self.new.words ≡ self.old.words) × (self.new.seat.table_id ≡ self.old.seat.table_id) }
         ensures stays { StaysAs self.old.seat.me.0 self.new.seat.me.0 }
-        ensures answered { recs_of self.new.seat.me.0 ≡ recs_of self.old.seat.me.0 ++ result ∷ [] }
+        ensures answered { side_recs self.new.seat.me.0 ≡ side_recs self.old.seat.me.0 ++ result ∷ [] }
         ensures disarms { DisarmsTimer self.old.words.now.shared.key o t self.old.seat.me.0 result self.new.seat.me.0 }
         ensures tries { SideTries self.old.words.now.shared.key (word.Timer t) result steps.old steps.new self.old.seat.me.0 self.new.seat.me.0 }
     {
@@ -67,12 +67,12 @@ impl SideSeat<'_> {
 
     /// Sets the counter of a time event of object `o`; the interval stays. The record is `rearm` with the former counter.
     pub fn rearm<L: Ledger>(&mut self, o: u8, t: u8, ticks: u16, steps: &mut Steps<L>) -> Rec
-        requires room { length (recs_of self.old.seat.me.0) ≤ 1000000 }
+        requires room { length (side_recs self.old.seat.me.0) ≤ 1000000 }
         requires some { 0 < ticks }
         requires owns { OwnsTimer self.old.words.now.shared.key o t }
         ensures same { (self.new.words ≡ self.old.words) × (self.new.seat.table_id ≡ self.old.seat.table_id) }
         ensures stays { StaysAs self.old.seat.me.0 self.new.seat.me.0 }
-        ensures answered { recs_of self.new.seat.me.0 ≡ recs_of self.old.seat.me.0 ++ result ∷ [] }
+        ensures answered { side_recs self.new.seat.me.0 ≡ side_recs self.old.seat.me.0 ++ result ∷ [] }
         ensures rearms { RearmsTimer self.old.words.now.shared.key o t ticks self.old.seat.me.0 result self.new.seat.me.0 }
         ensures tries { SideTries self.old.words.now.shared.key (word.Timer t) result steps.old steps.new self.old.seat.me.0 self.new.seat.me.0 }
     {
@@ -87,11 +87,11 @@ impl SideSeat<'_> {
     /// A tick of a time event, where the lane works for object `o`, 0 for none. The record is `tick` with the ticks that
     /// are left, or `fire` with the counter that is reloaded, or `idle` where it is disarmed.
     pub fn tick_one<L: Ledger>(&mut self, o: u8, t: u8, steps: &mut Steps<L>) -> Rec
-        requires room { length (recs_of self.old.seat.me.0) ≤ 1000000 }
+        requires room { length (side_recs self.old.seat.me.0) ≤ 1000000 }
         requires timer { IsTrue (is_timer self.old.words.now.shared.key t) }
         ensures same { (self.new.words ≡ self.old.words) × (self.new.seat.table_id ≡ self.old.seat.table_id) }
         ensures stays { StaysAs self.old.seat.me.0 self.new.seat.me.0 }
-        ensures answered { recs_of self.new.seat.me.0 ≡ recs_of self.old.seat.me.0 ++ result ∷ [] }
+        ensures answered { side_recs self.new.seat.me.0 ≡ side_recs self.old.seat.me.0 ++ result ∷ [] }
         ensures ticks { TicksTimer self.old.words.now.shared.key o t self.old.seat.me.0 result self.new.seat.me.0 }
         ensures tries { SideTries self.old.words.now.shared.key (word.Timer t) result steps.old steps.new self.old.seat.me.0 self.new.seat.me.0 }
     {

@@ -3,15 +3,15 @@
 ghost use Rattle.std.specs.Prelude.{◌≡◌, ◌+◌, ◌/◌, ◌<◌, ◌≤◌, cond, IsTrue};
 ghost use Rattle.qp_model.specs.WordLaw.{is_timer};
 ghost use Rattle.qp_table.specs.After.{HasRoom};
-ghost use Rattle.qp_side_words.specs.Rule.{timer_at};
-ghost use Rattle.qp_side_words.specs.Told.{last_seen};
+ghost use Rattle.qp_side.specs.Rule.{timer_at};
+ghost use Rattle.qp_side.specs.Told.{last_seen};
 ghost use Rattle.qp_side.specs.Tries.{ArmEnds, DisarmEnds, RearmEnds, TickEnds};
 
+use crate::clock_steps::{arm, disarm, look_at, look_if_armed, look_to_arm, rearm, tick};
+use crate::steps::Words;
+use crate::view::SideView;
 use atomic_table::Seat;
 use qp_base::Steps;
-use qp_shared_side::Words;
-use qp_shared_side::clocks::{arm, disarm, look_at, look_if_armed, look_to_arm, rearm, tick};
-use qp_side_words::SideView;
 use std::sync::ledger::Ledger;
 
 /// Arms a time event where it is disarmed. Answers the word as it was then, and whether it is armed by this.

@@ -9,8 +9,8 @@ use Rattle.std.proofs.lemmas.List.{append-nil}
 use Rattle.arrayvec.specs.ArrayVec.{ArrayVec}
 use Rattle.qp_stim.specs.declared.heard.Pars.{Pars}
 use Rattle.qp_stim.specs.declared.names.Signal.{Signal}
-use Rattle.qp_stim.specs.declared.verdict.Step.{Step}
-use Rattle.qp_stim.specs.Numbers.{number_of}
+use Rattle.qp_stim.specs.declared.verdict.LineStep.{LineStep}
+use Rattle.qp_stim.specs.Numbers.{number_of_token}
 use Rattle.qp_stim.specs.Grammar.{◌>>=◌, numbers_of}
 use Rattle.qp_stim.specs.Codes.{all_fit, stands}
 use Rattle.qp_stim.specs.Reading.{held, no_pars, with_par, with_pars, admits}
@@ -22,10 +22,10 @@ none_by p None os h = refl
 none_by p (Some n) os h = cc
 
 -- a token that is no number
-pub numbers_of-None : (p : Pars) (token : List ℕ) (more : List (List ℕ)) → option_map held (number_of token) ≡ None
+pub numbers_of-None : (p : Pars) (token : List ℕ) (more : List (List ℕ)) → option_map held (number_of_token token) ≡ None
     → option_map (with_pars p) (numbers_of (token ∷ more)) ≡ None
 unfolding numbers_of
-numbers_of-None p token more h = none_by p (number_of token) (numbers_of more) h
+numbers_of-None p token more h = none_by p (number_of_token token) (numbers_of more) h
 
 more_by : (p : Pars) (o : Option ℕ) (os : Option (List ℕ)) (n : Option ℕ) → option_map held o ≡ Some n
     → option_map (with_pars p) (o >>= λ n. os >>= λ ns. Some (n ∷ ns)) ≡ option_map (with_pars (with_par p n)) os
@@ -34,10 +34,10 @@ more_by p (Some k) None n h = refl
 more_by p (Some k) (Some ks) n h = let same : held k ≡ n = cc in ap (λ x. Some (with_pars (with_par p x) ks)) same
 
 -- a token that is one
-pub numbers_of-Some : (p : Pars) (token : List ℕ) (more : List (List ℕ)) (n : Option ℕ) → option_map held (number_of token) ≡ Some n
+pub numbers_of-Some : (p : Pars) (token : List ℕ) (more : List (List ℕ)) (n : Option ℕ) → option_map held (number_of_token token) ≡ Some n
     → option_map (with_pars p) (numbers_of (token ∷ more)) ≡ option_map (with_pars (with_par p n)) (numbers_of more)
 unfolding numbers_of
-numbers_of-Some p token more n h = more_by p (number_of token) (numbers_of more) n h
+numbers_of-Some p token more n h = more_by p (number_of_token token) (numbers_of more) n h
 
 pub numbers_of-end : (p : Pars) → option_map (with_pars p) (numbers_of []) ≡ Some p
 unfolding numbers_of
@@ -117,21 +117,21 @@ few_or_many : (pars : List ℕ) → (length pars ≤ 8) ⊎ (8 < length pars)
 few_or_many pars = grind arith
 
 -- where a parameter is out of range
-admits-out : (sources : ℕ) (signal : Signal) (p : Pars) (reserve : Option ℕ) (step : Step) → p.fit ≡ false → admits sources signal p reserve step ≡ Err 3
+admits-out : (sources : ℕ) (signal : Signal) (p : Pars) (reserve : Option ℕ) (step : LineStep) → p.fit ≡ false → admits sources signal p reserve step ≡ Err 3
 admits-out sources signal p reserve step h =
     ap (λ b. cond (not b || (signal.fixed && is_some reserve)) (Err 3) (cond (sources == 0) (Err 4) (cond (p.many || not (length p.kept.items == signal.params)) (Err 5) (Ok step)))) h
 
 -- where there are more than eight
-admits-many : (sources : ℕ) (signal : Signal) (p : Pars) (reserve : Option ℕ) (a b : Step) → p.many ≡ true
+admits-many : (sources : ℕ) (signal : Signal) (p : Pars) (reserve : Option ℕ) (a b : LineStep) → p.many ≡ true
     → admits sources signal p reserve a ≡ stands sources (not p.fit || (signal.fixed && is_some reserve)) true b
 admits-many sources signal p reserve a b h =
     ap (λ m. cond (not p.fit || (signal.fixed && is_some reserve)) (Err 3) (cond (sources == 0) (Err 4) (cond (m || not (length p.kept.items == signal.params)) (Err 5) (Ok a)))) h
 
-stands-out : (sources : ℕ) (fit fixed wrong : Bool) (step : Step) → fit ≡ false → Err 3 ≡ stands sources (not fit || fixed) wrong step
+stands-out : (sources : ℕ) (fit fixed wrong : Bool) (step : LineStep) → fit ≡ false → Err 3 ≡ stands sources (not fit || fixed) wrong step
 stands-out sources true fixed wrong step h = cc
 stands-out sources false fixed wrong step h = refl
 
-admits_by : (sources : ℕ) (signal : Signal) (pars : List ℕ) (reserve : Option ℕ) (made : ArrayVec ℕ → Step) → signal.params ≤ 8
+admits_by : (sources : ℕ) (signal : Signal) (pars : List ℕ) (reserve : Option ℕ) (made : ArrayVec ℕ → LineStep) → signal.params ≤ 8
     → (fits : Bool) → all_fit pars ≡ fits
     → admits sources signal (with_pars no_pars pars) reserve (made (with_pars no_pars pars).kept)
     ≡ stands sources (not (all_fit pars) || (signal.fixed && is_some reserve)) (not (length pars == signal.params)) (made (record { items = pars }))
@@ -152,7 +152,7 @@ admits_by sources signal pars reserve made few true h =
     ]
 
 -- the codes 3 to 5 of the parameters, by what was kept of them
-pub admits-pars : (sources : ℕ) (signal : Signal) (pars : List ℕ) (reserve : Option ℕ) (made : ArrayVec ℕ → Step) → signal.params ≤ 8
+pub admits-pars : (sources : ℕ) (signal : Signal) (pars : List ℕ) (reserve : Option ℕ) (made : ArrayVec ℕ → LineStep) → signal.params ≤ 8
     → admits sources signal (with_pars no_pars pars) reserve (made (with_pars no_pars pars).kept)
     ≡ stands sources (not (all_fit pars) || (signal.fixed && is_some reserve)) (not (length pars == signal.params)) (made (record { items = pars }))
 admits-pars sources signal pars reserve made few = admits_by sources signal pars reserve made few (all_fit pars) refl

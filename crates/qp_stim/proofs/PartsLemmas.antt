@@ -8,7 +8,7 @@ use Rattle.std.proofs.lemmas.Bool.Decides.{nat_tests}
 use Rattle.std.proofs.lemmas.List.{take_all}
 use Rattle.std.proofs.lemmas.List.Splits.{slice_split_first, slice_split_none}
 use Rattle.std.proofs.lemmas.List.Sums.{fails_before_first}
-use Rattle.qp_stim.specs.Parts.{split, before, after}
+use Rattle.qp_stim.specs.Parts.{split, before_separator, after}
 use Rattle.qp_stim.specs.Reading.{parts_left}
 
 none_chosen : (b : Bool) (k : ℕ) → cond b (Some k) None ≡ None → b ≡ false
@@ -28,7 +28,7 @@ pub position-Some : (p : ℕ → Bool) (xs : List ℕ) (i : ℕ) → position p 
 position-Some p xs i h = ap (λ k. take k xs) (sym (some_chosen _ _ _ h).1)
 
 split_by : (c : ℕ) (xs : List ℕ) (b : Bool) → nat_lt (position_or_len (λ x. x == c) xs) (length xs) ≡ b
-    → split c xs ≡ before c xs ∷ parts_left c (option_map (λ place. drop (place + 1) xs) (cond b (Some (position_or_len (λ x. x == c) xs)) None))
+    → split c xs ≡ before_separator c xs ∷ parts_left c (option_map (λ place. drop (place + 1) xs) (cond b (Some (position_or_len (λ x. x == c) xs)) None))
 split_by c xs true h = slice_split_first (λ x. x == c) xs 0 (ltb-true _ _ h)
 split_by c xs false h =
     let past = ltb-false (position_or_len (λ x. x == c) xs) (length xs) h in
@@ -36,7 +36,7 @@ split_by c xs false h =
     slice_split_none (λ x. x == c) xs none ∙ ap (λ part. part ∷ []) (sym (take_all (position_or_len (λ x. x == c) xs) xs past))
 
 -- the parts are the first, and those of what stands after the separator
-pub split-cut : (c : ℕ) (xs : List ℕ) → split c xs ≡ before c xs ∷ parts_left c (after c xs)
+pub split-cut : (c : ℕ) (xs : List ℕ) → split c xs ≡ before_separator c xs ∷ parts_left c (after c xs)
 split-cut c xs = split_by c xs (nat_lt (position_or_len (λ x. x == c) xs) (length xs)) refl
 
 after_by : (c : ℕ) (xs : List ℕ) (b : Bool) → nat_lt (position_or_len (λ x. x == c) xs) (length xs) ≡ b
@@ -62,7 +62,7 @@ parts_left-empty c (Some xs) false h = sym (ap (λ parts. length parts == 0) (sp
 
 -- the parts that are left, by the first of them
 pub parts_left-cut : (c : ℕ) (rest : Option (Bor (List ℕ))) (text : Bor (List ℕ)) (first : List ℕ) (more : Option (Bor (List ℕ))) → rest ≡ Some text
-    → first ≡ before c text.now → option_map (λ x. x.now) more ≡ after c text.now
+    → first ≡ before_separator c text.now → option_map (λ x. x.now) more ≡ after c text.now
     → parts_left c (option_map (λ x. x.now) rest) ≡ first ∷ parts_left c (option_map (λ x. x.now) more)
 parts_left-cut c rest text first more was front behind =
     ap (λ (r : Option (Bor (List ℕ))). parts_left c (option_map (λ x. x.now) r)) was
@@ -82,7 +82,7 @@ pub length-left : (c : ℕ) (rest : Option (Bor (List ℕ))) (text : Bor (List �
     → option_map (λ x. x.now) more ≡ after c text.now
     → option_map_or (λ r. length r.now + 1) more 0 + 1 ≤ option_map_or (λ r. length r.now + 1) rest 0
 length-left c rest text more was behind =
-    let before = length_of_some text rest was in
+    let before_separator = length_of_some text rest was in
     let now : option_map_or (λ rest. length rest + 1) (option_map (λ (x : Bor (List ℕ)). x.now) more) 0 ≡ option_map_or (λ rest. length rest + 1) (after c text.now) 0 =
     ap (λ r. option_map_or (λ (rest : List ℕ). length rest + 1) r 0) behind in
-    omega (arith, before, now, length_of_map more, length-after c text.now)
+    omega (arith, before_separator, now, length_of_map more, length-after c text.now)

@@ -14,15 +14,15 @@ use Rattle.qp_model.specs.declared.systems.SignalDef.{SignalDef}
 use Rattle.qp_model.specs.declared.systems.ObjectDef.{ObjectDef}
 use Rattle.qp_stim.specs.declared.fault.StimFault.{StimFault}
 use Rattle.qp_stim.specs.declared.names.Signal.{Signal}
-use Rattle.qp_stim.specs.declared.verdict.Step.{Step}
-use Rattle.qp_stim.specs.declared.verdict.Step.TheVariants.{Skips, Opens, Adds}
+use Rattle.qp_stim.specs.declared.verdict.LineStep.{LineStep}
+use Rattle.qp_stim.specs.declared.verdict.LineStep.TheVariants.{Skips, Opens, Adds}
 use Rattle.qp_stim.specs.Parts.{is_skipped, lines}
 use Rattle.qp_stim.specs.Names.{Dictionary, FewParams, names_of, object_in, signal_in}
 use Rattle.qp_stim.specs.Grammar.{Said, said_of}
 use Rattle.qp_stim.specs.Grammar as line
 use Rattle.qp_stim.specs.Codes.{exceeds, all_fit, is_out, event, stands, post_step, publish_step, source_step, step_said, step_if, step_of}
 use Rattle.qp_stim.specs.Stimuli.{◌>>=◌, Fault, add_to_last, sources_after, fails_at, read_on, stimuli_of}
-use Rattle.qp_stim.specs.Answer.{Answers}
+use Rattle.qp_stim.specs.Answer.{StimuliAnswers}
 use Rattle.qp_stim.specs.Rules.{EventFits, PostFits, StimFits, StimuliFit}
 use Rattle.qp_model.proofs.HomeLemmas.{All-snoc}
 
@@ -91,12 +91,12 @@ chosen_Ok : {A : Type 0} (b : Bool) (code : ℕ) (r : Result A ℕ) (x : A) → 
 chosen_Ok true code r x h = cc
 chosen_Ok false code r x h = (refl, h)
 
-record Stands (out miscounted : Bool) (step found : Step) : Type 0 where
+record Stands (out miscounted : Bool) (step found : LineStep) : Type 0 where
   in_range : out ≡ false
   counted : miscounted ≡ false
   same : step ≡ found
 
-stands_Ok : (sources : ℕ) (out miscounted : Bool) (step found : Step) → stands sources out miscounted step ≡ Ok found → Stands out miscounted step found
+stands_Ok : (sources : ℕ) (out miscounted : Bool) (step found : LineStep) → stands sources out miscounted step ≡ Ok found → Stands out miscounted step found
 stands_Ok sources out miscounted step found h =
     let a = chosen_Ok out 3 (cond (sources == 0) (Err 4) (cond miscounted (Err 5) (Ok step))) found h in
     let b = chosen_Ok (sources == 0) 4 (cond miscounted (Err 5) (Ok step)) found a.1 in
@@ -137,12 +137,12 @@ event_fits sys name signal pars reserve found in_range counted =
     }
 
 -- what a line that stands does, behind so many sources
-StepFits : System → ℕ → Step → Type 0
+StepFits : System → ℕ → LineStep → Type 0
 StepFits sys sources Skips = ⊤
 StepFits sys sources Opens = sources + 1 ≤ 16
 StepFits sys sources (Adds s) = StimFits sys s
 
-post_fits : (sys : System) (sources : ℕ) (o name : List ℕ) (to : Option ℕ) (signal : Option Signal) (pars : List ℕ) (margin reserve : Option ℕ) (step : Step)
+post_fits : (sys : System) (sources : ℕ) (o name : List ℕ) (to : Option ℕ) (signal : Option Signal) (pars : List ℕ) (margin reserve : Option ℕ) (step : LineStep)
     → object_in sys.objects o ≡ to → signal_in 4 sys.signals name ≡ signal → post_step sources to signal pars margin reserve ≡ Ok step → StepFits sys sources step
 unfolding post_step StepFits
 post_fits sys sources o name None None pars margin reserve step object found h = cc
@@ -159,7 +159,7 @@ post_fits sys sources o name (Some to) (Some signal) pars margin reserve step ob
     } in
     subst (StepFits sys sources) s.same fits
 
-publish_fits : (sys : System) (sources : ℕ) (name : List ℕ) (signal : Option Signal) (pars : List ℕ) (reserve : Option ℕ) (step : Step)
+publish_fits : (sys : System) (sources : ℕ) (name : List ℕ) (signal : Option Signal) (pars : List ℕ) (reserve : Option ℕ) (step : LineStep)
     → signal_in 4 sys.signals name ≡ signal → publish_step sources signal pars reserve ≡ Ok step → StepFits sys sources step
 unfolding publish_step StepFits
 publish_fits sys sources name None pars reserve step found h = cc
@@ -168,31 +168,31 @@ publish_fits sys sources name (Some signal) pars reserve step found h =
     let fits : EventFits sys (event signal pars) reserve = event_fits sys name signal pars reserve found s.in_range s.counted in
     subst (StepFits sys sources) s.same fits
 
-opens_by : (b : Bool) (step : Step) → cond {A = Result Step ℕ} b (Ok Opens) (Err 4) ≡ Ok step → (b ≡ true) × (Opens ≡ step)
+opens_by : (b : Bool) (step : LineStep) → cond {A = Result LineStep ℕ} b (Ok Opens) (Err 4) ≡ Ok step → (b ≡ true) × (Opens ≡ step)
 opens_by true step h = let same : Opens ≡ step = cc in (refl, same)
 opens_by false step h = cc
 
 next_below : (sources n : ℕ) → ((n == sources + 1) && nat_le n 16) ≡ true → sources + 1 ≤ 16
 next_below sources n h = grind (arith, nat_tests)
 
-source_fits : (sys : System) (sources n : ℕ) (step : Step) → source_step sources n ≡ Ok step → StepFits sys sources step
+source_fits : (sys : System) (sources n : ℕ) (step : LineStep) → source_step sources n ≡ Ok step → StepFits sys sources step
 unfolding source_step StepFits
 source_fits sys sources n step h =
     let opens = opens_by ((n == sources + 1) && nat_le n 16) step h in
     subst (StepFits sys sources) opens.1 (next_below sources n opens.0)
 
-tick_fits : (sys : System) (sources rate : ℕ) (step : Step) → stands sources (nat_lt 3 rate) false (Adds (stim.Tick rate)) ≡ Ok step → StepFits sys sources step
+tick_fits : (sys : System) (sources rate : ℕ) (step : LineStep) → stands sources (nat_lt 3 rate) false (Adds (stim.Tick rate)) ≡ Ok step → StepFits sys sources step
 unfolding StepFits
 tick_fits sys sources rate step h =
     let s = stands_Ok sources (nat_lt 3 rate) false (Adds (stim.Tick rate)) step h in
     let below : rate < 4 = omega (arith, ltb-false 3 rate s.in_range) in
     subst (StepFits sys sources) s.same below
 
-settle_fits : (sys : System) (sources : ℕ) (step : Step) → stands sources false false (Adds stim.Settle) ≡ Ok step → StepFits sys sources step
+settle_fits : (sys : System) (sources : ℕ) (step : LineStep) → stands sources false false (Adds stim.Settle) ≡ Ok step → StepFits sys sources step
 unfolding StepFits
 settle_fits sys sources step h = subst (StepFits sys sources) (stands_Ok sources false false (Adds stim.Settle) step h).same tt
 
-said_fits : (sys : System) (sources : ℕ) (said : Said) (step : Step) → step_said (names_of sys) sources said ≡ Ok step → StepFits sys sources step
+said_fits : (sys : System) (sources : ℕ) (said : Said) (step : LineStep) → step_said (names_of sys) sources said ≡ Ok step → StepFits sys sources step
 unfolding step_said
 said_fits sys sources (line.Source n) step h = source_fits sys sources n step h
 said_fits sys sources (line.Post o e margin reserve) step h =
@@ -201,17 +201,17 @@ said_fits sys sources (line.Publish e reserve) step h = publish_fits sys sources
 said_fits sys sources (line.Tick rate) step h = tick_fits sys sources rate step h
 said_fits sys sources line.Settle step h = settle_fits sys sources step h
 
-if_fits : (sys : System) (sources : ℕ) (said : Option Said) (step : Step) → step_if (names_of sys) sources said ≡ Ok step → StepFits sys sources step
+if_fits : (sys : System) (sources : ℕ) (said : Option Said) (step : LineStep) → step_if (names_of sys) sources said ≡ Ok step → StepFits sys sources step
 if_fits sys sources None step h = cc
 if_fits sys sources (Some said) step h = said_fits sys sources said step h
 
-line_by : (sys : System) (sources : ℕ) (b : Bool) (said : Option Said) (step : Step) → cond b (Ok Skips) (step_if (names_of sys) sources said) ≡ Ok step
+line_by : (sys : System) (sources : ℕ) (b : Bool) (said : Option Said) (step : LineStep) → cond b (Ok Skips) (step_if (names_of sys) sources said) ≡ Ok step
     → StepFits sys sources step
 unfolding StepFits
 line_by sys sources true said step h = let same : Skips ≡ step = cc in subst (StepFits sys sources) same tt
 line_by sys sources false said step h = if_fits sys sources said step h
 
-line_fits : (sys : System) (sources : ℕ) (text : List ℕ) (step : Step) → step_of (names_of sys) sources text ≡ Ok step → StepFits sys sources step
+line_fits : (sys : System) (sources : ℕ) (text : List ℕ) (step : LineStep) → step_of (names_of sys) sources text ≡ Ok step → StepFits sys sources step
 unfolding step_of
 line_fits sys sources text step h = line_by sys sources (is_skipped text) (said_of text) step h
 
@@ -226,7 +226,7 @@ add_to_last-fits sys s [] fits all = tt
 add_to_last-fits sys s (x ∷ []) fits all = (All-snoc (StimFits sys) x s all.0 fits, tt)
 add_to_last-fits sys s (x ∷ y ∷ xs) fits all = (all.0, add_to_last-fits sys s (y ∷ xs) fits all.1)
 
-after_fits : (sys : System) (sources : List (List Stim)) (step : Step) → StimuliFit sys sources → StepFits sys (length sources) step
+after_fits : (sys : System) (sources : List (List Stim)) (step : LineStep) → StimuliFit sys sources → StepFits sys (length sources) step
     → StimuliFit sys (sources_after sources step)
 unfolding StepFits
 after_fits sys sources Skips fits step = fits
@@ -239,8 +239,8 @@ after_fits sys sources (Adds s) fits step = record {
   stimuli = add_to_last-fits sys s sources step fits.stimuli;
 }
 
-next_fits : (sys : System) (n : ℕ) (sources found : List (List Stim)) (text : List ℕ) (more : List (List ℕ)) (r : Result Step ℕ) → StimuliFit sys sources
-    → ((step : Step) → StimuliFit sys (sources_after sources step) → read_on (names_of sys) (n + 1) (sources_after sources step) more ≡ Ok found → StimuliFit sys found)
+next_fits : (sys : System) (n : ℕ) (sources found : List (List Stim)) (text : List ℕ) (more : List (List ℕ)) (r : Result LineStep ℕ) → StimuliFit sys sources
+    → ((step : LineStep) → StimuliFit sys (sources_after sources step) → read_on (names_of sys) (n + 1) (sources_after sources step) more ≡ Ok found → StimuliFit sys found)
     → step_of (names_of sys) (length sources) text ≡ r
     → (fails_at n r >>= λ step. read_on (names_of sys) (n + 1) (sources_after sources step) more) ≡ Ok found → StimuliFit sys found
 next_fits sys n sources found text more (Ok step) fits others is h = others step (after_fits sys sources step fits (line_fits sys (length sources) text step is)) h
@@ -259,13 +259,13 @@ pub stimuli_of-fits : (sys : System) (text : List ℕ) (sources : List (List Sti
 stimuli_of-fits sys text sources h =
     lines_fit sys 1 [] sources (lines text) (record { few = omega arith; stimuli = tt }) (sym (stimuli_of-names sys text) ∙ h)
 
-pub answers-fit : (sys : System) (text : List ℕ) (r : Result (List (List Stim)) StimFault) → Answers r (stimuli_of sys text) → IfOk r (StimuliFit sys)
+pub answers-fit : (sys : System) (text : List ℕ) (r : Result (List (List Stim)) StimFault) → StimuliAnswers r (stimuli_of sys text) → IfOk r (StimuliFit sys)
 answers-fit sys text (Ok sources) h = stimuli_of-fits sys text sources h
 answers-fit sys text (Err fault) h = tt
 
 pub answers-names : (sys : System) (names : Dictionary) (text : List ℕ) (r : Result (List (List Stim)) StimFault) → names ≡ names_of sys
-    → Answers r (read_on names 1 [] (lines text)) → Answers r (stimuli_of sys text)
+    → StimuliAnswers r (read_on names 1 [] (lines text)) → StimuliAnswers r (stimuli_of sys text)
 answers-names sys names text r same h =
-    let P : Dictionary → Type 0 = λ d. Answers r (read_on d 1 [] (lines text)) in
-    let Q : Result (List (List Stim)) Fault → Type 0 = Answers r in
+    let P : Dictionary → Type 0 = λ d. StimuliAnswers r (read_on d 1 [] (lines text)) in
+    let Q : Result (List (List Stim)) Fault → Type 0 = StimuliAnswers r in
     subst Q (sym (stimuli_of-names sys text)) (subst P same h)

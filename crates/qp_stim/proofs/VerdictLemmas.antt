@@ -9,8 +9,8 @@ use Rattle.arrayvec.specs.ArrayVec.{ArrayVec}
 use Rattle.qp_model.specs.declared.stimulus.Stim.TheVariants as stim
 use Rattle.qp_stim.specs.declared.heard.Heard.{Heard}
 use Rattle.qp_stim.specs.declared.names.Signal.{Signal}
-use Rattle.qp_stim.specs.declared.verdict.Step.{Step}
-use Rattle.qp_stim.specs.declared.verdict.Step.TheVariants.{Skips, Opens, Adds}
+use Rattle.qp_stim.specs.declared.verdict.LineStep.{LineStep}
+use Rattle.qp_stim.specs.declared.verdict.LineStep.TheVariants.{Skips, Opens, Adds}
 use Rattle.qp_stim.specs.Parts.{is_skipped}
 use Rattle.qp_stim.specs.Names.{Dictionary, FewParams}
 use Rattle.qp_stim.specs.Grammar.{Said, said_of}
@@ -62,7 +62,7 @@ tick_verdict-held sources n =
       | inr h ↦ ap (tick_verdict sources) h.1 ∙ large_tick sources n h.0
     ]
 
-join_codes : (sources : ℕ) (margin reserve unfit fixed wrong : Bool) (step : Step)
+join_codes : (sources : ℕ) (margin reserve unfit fixed wrong : Bool) (step : LineStep)
     → cond margin (Err 3) (cond reserve (Err 3) (stands sources (unfit || fixed) wrong step)) ≡ stands sources (margin || ((unfit || reserve) || fixed)) wrong step
 join_codes sources true reserve unfit fixed wrong step = refl
 join_codes sources false true true fixed wrong step = refl
@@ -81,7 +81,7 @@ post_verdict-held sources None None pars margin reserve few = refl
 post_verdict-held sources None (Some signal) pars margin reserve few = refl
 post_verdict-held sources (Some to) None pars margin reserve few = refl
 post_verdict-held sources (Some to) (Some signal) pars margin reserve few =
-    let made : Option ℕ → Option ℕ → ArrayVec ℕ → Step = λ m r kept. Adds (stim.Post to (record { sig = signal.number; pars = kept }) m r) in
+    let made : Option ℕ → Option ℕ → ArrayVec ℕ → LineStep = λ m r kept. Adds (stim.Post to (record { sig = signal.number; pars = kept }) m r) in
     let P = with_pars no_pars pars in
     ap (λ x. x >>= λ m. small_of (option_map held reserve) >>= λ r. admits sources signal P r (made m r P.kept)) (small_of-held margin)
     ∙ bind_small (exceeds 255 margin) margin (λ m. small_of (option_map held reserve) >>= λ r. admits sources signal P r (made m r P.kept))
@@ -96,7 +96,7 @@ pub publish_verdict-held : (sources : ℕ) (signal : Option Signal) (pars : List
 unfolding publish_verdict publish_step
 publish_verdict-held sources None pars reserve few = refl
 publish_verdict-held sources (Some signal) pars reserve few =
-    let made : Option ℕ → ArrayVec ℕ → Step = λ r kept. Adds (stim.Publish (record { sig = signal.number; pars = kept }) r) in
+    let made : Option ℕ → ArrayVec ℕ → LineStep = λ r kept. Adds (stim.Publish (record { sig = signal.number; pars = kept }) r) in
     let P = with_pars no_pars pars in
     ap (λ x. x >>= λ r. admits sources signal P r (made r P.kept)) (small_of-held reserve)
     ∙ bind_small (exceeds 255 reserve) reserve (λ r. admits sources signal P r (made r P.kept))

@@ -11,6 +11,6 @@ FaultIs Memory text = ⊤
 FaultIs (Line number code) text = text ≡ Err (record { line = number; code = code })
 
 -- the stimuli of the text or its first fault, unless memory ran out
-abbrev pub Answers : Result (List (List Stim)) StimFault → Result (List (List Stim)) Fault → Type 0
-Answers (Ok stimuli) text = text ≡ Ok stimuli
-Answers (Err fault) text = FaultIs fault text
+abbrev pub StimuliAnswers : Result (List (List Stim)) StimFault → Result (List (List Stim)) Fault → Type 0
+StimuliAnswers (Ok stimuli) text = text ≡ Ok stimuli
+StimuliAnswers (Err fault) text = FaultIs fault text

@@ -6,8 +6,8 @@ use Rattle.std.specs.List.{list_all}
 use Rattle.qp_base.specs.declared.event.Ev.{Ev}
 use Rattle.qp_model.specs.declared.stimulus.Stim.TheVariants as stim
 use Rattle.qp_stim.specs.declared.names.Signal.{Signal}
-use Rattle.qp_stim.specs.declared.verdict.Step.{Step}
-use Rattle.qp_stim.specs.declared.verdict.Step.TheVariants.{Skips, Opens, Adds}
+use Rattle.qp_stim.specs.declared.verdict.LineStep.{LineStep}
+use Rattle.qp_stim.specs.declared.verdict.LineStep.TheVariants.{Skips, Opens, Adds}
 use Rattle.qp_stim.specs.LineCodes.{GRAMMAR, UNDECLARED, RANGE, SOURCE, COUNT}
 use Rattle.qp_stim.specs.Parts.{is_skipped}
 use Rattle.qp_stim.specs.Names.{Dictionary}
@@ -31,26 +31,26 @@ abbrev pub event : Signal → List ℕ → Ev
 event signal pars = record { sig = signal.number; pars = record { items = pars } }
 
 -- the codes 3 to 5 of a stimulus that follows so many sources
-abbrev pub stands : ℕ → (out miscounted : Bool) → Step → Result Step ℕ
+abbrev pub stands : ℕ → (out miscounted : Bool) → LineStep → Result LineStep ℕ
 stands sources out miscounted step =
     if out then Err RANGE else if sources == 0 then Err SOURCE else if miscounted then Err COUNT else Ok step
 
-unfoldable pub post_step : ℕ → Option ℕ → Option Signal → List ℕ → Option ℕ → Option ℕ → Result Step ℕ
+unfoldable pub post_step : ℕ → Option ℕ → Option Signal → List ℕ → Option ℕ → Option ℕ → Result LineStep ℕ
 post_step sources (Some to) (Some signal) pars margin reserve =
     stands sources (exceeds 255 margin || is_out signal pars reserve) (not (length pars == signal.params)) (Adds (stim.Post to (event signal pars) margin reserve))
 post_step sources _ _ pars margin reserve = Err UNDECLARED
 
-unfoldable pub publish_step : ℕ → Option Signal → List ℕ → Option ℕ → Result Step ℕ
+unfoldable pub publish_step : ℕ → Option Signal → List ℕ → Option ℕ → Result LineStep ℕ
 publish_step sources (Some signal) pars reserve =
     stands sources (is_out signal pars reserve) (not (length pars == signal.params)) (Adds (stim.Publish (event signal pars) reserve))
 publish_step sources None pars reserve = Err UNDECLARED
 
 -- the next source from 1, of which there are at most 16
-unfoldable pub source_step : ℕ → ℕ → Result Step ℕ
+unfoldable pub source_step : ℕ → ℕ → Result LineStep ℕ
 source_step sources n = if (n == sources + 1) && nat_le n 16 then Ok Opens else Err SOURCE
 
 -- what a line in the grammar does behind so many sources, or its lowest code
-unfoldable pub step_said : Dictionary → ℕ → Said → Result Step ℕ
+unfoldable pub step_said : Dictionary → ℕ → Said → Result LineStep ℕ
 unfolding post_step publish_step source_step
 step_said names sources (line.Source n) = source_step sources n
 step_said names sources (line.Post o e margin reserve) = post_step sources (names.object o) (names.signal e.signal) e.pars margin reserve
@@ -58,11 +58,11 @@ step_said names sources (line.Publish e reserve) = publish_step sources (names.s
 step_said names sources (line.Tick rate) = stands sources (nat_lt 3 rate) false (Adds (stim.Tick rate))
 step_said names sources line.Settle = stands sources false false (Adds stim.Settle)
 
-abbrev pub step_if : Dictionary → ℕ → Option Said → Result Step ℕ
+abbrev pub step_if : Dictionary → ℕ → Option Said → Result LineStep ℕ
 step_if names sources None = Err GRAMMAR
 step_if names sources (Some said) = step_said names sources said
 
 -- what a line does behind so many sources, or its lowest code
-unfoldable pub step_of : Dictionary → ℕ → List ℕ → Result Step ℕ
+unfoldable pub step_of : Dictionary → ℕ → List ℕ → Result LineStep ℕ
 unfolding step_said
 step_of names sources text = if is_skipped text then Ok Skips else step_if names sources (said_of text)

@@ -3,20 +3,20 @@ use Rattle.std.specs.Prelude.{ℕ, ◌==◌, ◌&&◌, List, [], ◌∷◌, leng
 use Rattle.std.specs.declared.option.Option.{Option}
 use Rattle.std.specs.Option.{option_map}
 use Rattle.std.specs.Str.{bytes_eq}
-use Rattle.qp_stim.specs.Parts.{split, before, after, tokens}
-use Rattle.qp_stim.specs.Numbers.{number_of}
+use Rattle.qp_stim.specs.Parts.{split, before_separator, after, tokens}
+use Rattle.qp_stim.specs.Numbers.{number_of_token}
 use Rattle.qp_stim.specs.Names.{is_name}
 
 -- an event as a line names it: its signal and its parameters
-pub record Event : Type 0 where
+pub record EventWords : Type 0 where
   pub signal : List ℕ
   pub pars : List ℕ
 
 -- what a line says, with its names not looked up and its numbers of any size
 pub data Said : Type 0 where
   Source : (number : ℕ) → Said
-  Post : (object : List ℕ) (event : Event) (margin reserve : Option ℕ) → Said
-  Publish : (event : Event) (reserve : Option ℕ) → Said
+  Post : (object : List ℕ) (event : EventWords) (margin reserve : Option ℕ) → Said
+  Publish : (event : EventWords) (reserve : Option ℕ) → Said
   Tick : (rate : ℕ) → Said
   Settle : Said
 
@@ -29,7 +29,7 @@ None >>= f = None
 unfoldable pub numbers_of : List (List ℕ) → Option (List ℕ)
 numbers_of [] = Some []
 numbers_of (token ∷ more) = do
-  n ← number_of token
+  n ← number_of_token token
   ns ← numbers_of more
   Some (n ∷ ns)
 
@@ -42,27 +42,27 @@ closed body (Some (b ∷ bs)) = None
 -- [ "(" NUM { "," NUM } ")" ]
 abbrev pub pars_of : Option (List ℕ) → Option (List ℕ)
 pars_of None = Some []
-pars_of (Some inside) = closed (before 41 inside) (after 41 inside)
+pars_of (Some inside) = closed (before_separator 41 inside) (after 41 inside)
 
 -- SIGNAL [ "(" NUM { "," NUM } ")" ]
-unfoldable pub event_of : List ℕ → Option Event
-event_of token = if is_name (before 40 token) then option_map (λ pars. record { signal = before 40 token; pars = pars }) (pars_of (after 40 token)) else None
+unfoldable pub event_of_words : List ℕ → Option EventWords
+event_of_words token = if is_name (before_separator 40 token) then option_map (λ pars. record { signal = before_separator 40 token; pars = pars }) (pars_of (after 40 token)) else None
 
 -- [ WORD NUM ], and the tokens behind it
 unfoldable pub option_at : List ℕ → List (List ℕ) → Option (Option ℕ × List (List ℕ))
 option_at word [] = Some (None, [])
 option_at word (w ∷ []) = if bytes_eq w word then None else Some (None, w ∷ [])
-option_at word (w ∷ token ∷ more) = if bytes_eq w word then option_map (λ n. (Some n, more)) (number_of token) else Some (None, w ∷ token ∷ more)
+option_at word (w ∷ token ∷ more) = if bytes_eq w word then option_map (λ n. (Some n, more)) (number_of_token token) else Some (None, w ∷ token ∷ more)
 
 -- NUM, and nothing behind it
 unfoldable pub only_number : List (List ℕ) → Option ℕ
-only_number (token ∷ []) = number_of token
+only_number (token ∷ []) = number_of_token token
 only_number _ = None
 
 -- OBJECT EVENT [margin NUM] [reserve NUM]
 unfoldable pub post_of : List (List ℕ) → Option Said
 post_of (object ∷ event ∷ more) = do
-  e ← event_of event
+  e ← event_of_words event
   margin ← option_at (codes "margin") more
   reserve ← option_at (codes "reserve") margin.1
   if is_name object && (length reserve.1 == 0) then Some (Post object e margin.0 reserve.0) else None
@@ -71,7 +71,7 @@ post_of _ = None
 -- EVENT [reserve NUM]
 unfoldable pub publish_of : List (List ℕ) → Option Said
 publish_of (event ∷ more) = do
-  e ← event_of event
+  e ← event_of_words event
   reserve ← option_at (codes "reserve") more
   if length reserve.1 == 0 then Some (Publish e reserve.0) else None
 publish_of _ = None

@@ -16,5 +16,5 @@ decimal_from n [] = n
 decimal_from n (b ∷ bs) = decimal_from (n * 10 + (b - 48)) bs
 
 -- the number of a token, if it is one
-unfoldable pub number_of : List ℕ → Option ℕ
-number_of token = if is_number token then Some (decimal_from 0 token) else None
+unfoldable pub number_of_token : List ℕ → Option ℕ
+number_of_token token = if is_number token then Some (decimal_from 0 token) else None

@@ -9,8 +9,8 @@ abbrev pub split : ℕ → List ℕ → List (List ℕ)
 split separator text = slice_split (λ b. b == separator) text
 
 -- what stands before the first separator, or all where there is none
-abbrev pub before : ℕ → List ℕ → List ℕ
-before separator text = before_first (λ b. b == separator) text
+abbrev pub before_separator : ℕ → List ℕ → List ℕ
+before_separator separator text = before_first (λ b. b == separator) text
 
 -- what stands after the first separator, if there is one
 abbrev pub after : ℕ → List ℕ → Option (List ℕ)

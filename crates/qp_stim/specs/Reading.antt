@@ -10,8 +10,8 @@ use Rattle.qp_stim.specs.declared.heard.Heard.{Heard}
 use Rattle.qp_stim.specs.declared.heard.Heard.TheVariants as heard
 use Rattle.qp_stim.specs.declared.names.Signal.{Signal}
 use Rattle.qp_stim.specs.declared.tokens.Tokens.{Tokens}
-use Rattle.qp_stim.specs.declared.verdict.Step.{Step}
-use Rattle.qp_stim.specs.declared.verdict.Step.TheVariants.{Opens, Adds}
+use Rattle.qp_stim.specs.declared.verdict.LineStep.{LineStep}
+use Rattle.qp_stim.specs.declared.verdict.LineStep.TheVariants.{Opens, Adds}
 use Rattle.qp_stim.specs.LineCodes.{UNDECLARED, RANGE, SOURCE, COUNT}
 use Rattle.qp_stim.specs.Parts.{split}
 use Rattle.qp_stim.specs.Names.{Dictionary}
@@ -34,7 +34,7 @@ abbrev pub with_pars : Pars → List ℕ → Pars
 with_pars p [] = p
 with_pars p (n ∷ ns) = with_pars (with_par p (held n)) ns
 
-abbrev pub heard_event : Dictionary → line.Event → Event
+abbrev pub heard_event : Dictionary → line.EventWords → Event
 heard_event names e = record { signal = names.signal e.signal; pars = with_pars no_pars e.pars }
 
 abbrev pub heard_of : Dictionary → Said → Heard
@@ -75,14 +75,14 @@ declared None = Err UNDECLARED
 declared (Some x) = Ok x
 
 -- the codes 3 to 5 of the parameters
-abbrev pub admits : ℕ → Signal → Pars → Option ℕ → Step → Result Step ℕ
+abbrev pub admits : ℕ → Signal → Pars → Option ℕ → LineStep → Result LineStep ℕ
 admits sources signal pars reserve step =
     if not pars.fit || (signal.fixed && is_some reserve) then Err RANGE
     else if sources == 0 then Err SOURCE
     else if pars.many || not (length pars.kept.items == signal.params) then Err COUNT
     else Ok step
 
-unfoldable pub post_verdict : ℕ → Option ℕ → Event → Option (Option ℕ) → Option (Option ℕ) → Result Step ℕ
+unfoldable pub post_verdict : ℕ → Option ℕ → Event → Option (Option ℕ) → Option (Option ℕ) → Result LineStep ℕ
 post_verdict sources to event margin reserve = do
   o ← declared to
   signal ← declared event.signal
@@ -90,7 +90,7 @@ post_verdict sources to event margin reserve = do
   r ← small_of reserve
   admits sources signal event.pars r (Adds (stim.Post o (record { sig = signal.number; pars = event.pars.kept }) m r))
 
-unfoldable pub publish_verdict : ℕ → Event → Option (Option ℕ) → Result Step ℕ
+unfoldable pub publish_verdict : ℕ → Event → Option (Option ℕ) → Result LineStep ℕ
 publish_verdict sources event reserve = do
   signal ← declared event.signal
   r ← small_of reserve
@@ -100,11 +100,11 @@ abbrev pub is_next : ℕ → Option ℕ → Bool
 is_next sources None = false
 is_next sources (Some n) = nat_le n 16 && (n == sources + 1)
 
-unfoldable pub tick_verdict : ℕ → Option ℕ → Result Step ℕ
+unfoldable pub tick_verdict : ℕ → Option ℕ → Result LineStep ℕ
 tick_verdict sources None = Err RANGE
 tick_verdict sources (Some n) = if nat_lt 3 n then Err RANGE else if sources == 0 then Err SOURCE else Ok (Adds (stim.Tick n))
 
-abbrev pub verdict_on : ℕ → Heard → Result Step ℕ
+abbrev pub verdict_on : ℕ → Heard → Result LineStep ℕ
 verdict_on sources (heard.Source n) = if is_next sources n then Ok Opens else Err SOURCE
 verdict_on sources (heard.Post to event margin reserve) = post_verdict sources to event margin reserve
 verdict_on sources (heard.Publish event reserve) = publish_verdict sources event reserve

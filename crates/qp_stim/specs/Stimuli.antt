@@ -3,8 +3,8 @@ use Rattle.std.specs.Prelude.{ℕ, ◌+◌, List, [], ◌∷◌, ◌++◌, lengt
 use Rattle.std.specs.declared.result.Result.{Result}
 use Rattle.qp_model.specs.declared.stimulus.Stim.{Stim}
 use Rattle.qp_model.specs.declared.systems.System.{System}
-use Rattle.qp_stim.specs.declared.verdict.Step.{Step}
-use Rattle.qp_stim.specs.declared.verdict.Step.TheVariants.{Skips, Opens, Adds}
+use Rattle.qp_stim.specs.declared.verdict.LineStep.{LineStep}
+use Rattle.qp_stim.specs.declared.verdict.LineStep.TheVariants.{Skips, Opens, Adds}
 use Rattle.qp_stim.specs.Parts.{lines}
 use Rattle.qp_stim.specs.Names.{Dictionary, names_of}
 use Rattle.qp_stim.specs.Codes.{step_of}
@@ -21,7 +21,7 @@ add_to_last s (source ∷ []) = (source ++ s ∷ []) ∷ []
 add_to_last s (source ∷ next ∷ more) = source ∷ add_to_last s (next ∷ more)
 
 -- the sources after a line
-abbrev pub sources_after : List (List Stim) → Step → List (List Stim)
+abbrev pub sources_after : List (List Stim) → LineStep → List (List Stim)
 sources_after sources Skips = sources
 sources_after sources Opens = sources ++ [] ∷ []
 sources_after sources (Adds s) = add_to_last s sources

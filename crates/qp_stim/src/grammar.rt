@@ -3,13 +3,13 @@
 ghost use Rattle.std.specs.Prelude.{◌≡◌};
 ghost use Rattle.std.specs.Option.{option_map};
 ghost use Rattle.qp_stim.specs.Parts.{split};
-ghost use Rattle.qp_stim.specs.Grammar.{numbers_of, closed, event_of, option_at, only_number, post_of, publish_of, said_by, said_of};
+ghost use Rattle.qp_stim.specs.Grammar.{numbers_of, closed, event_of_words, option_at, only_number, post_of, publish_of, said_by, said_of};
 ghost use Rattle.qp_stim.specs.Maps.{dictionary};
-ghost use Rattle.qp_stim.specs.Parts.{before, after};
+ghost use Rattle.qp_stim.specs.Parts.{before_separator, after};
 ghost use Rattle.qp_stim.specs.Reading.{held, left, held_option, option_left, no_pars, with_pars, heard_event, heard_of};
 
 use crate::heard::{Event, Heard, Pars};
-use crate::names::{Names, is_identifier};
+use crate::names::{SystemNames, is_identifier};
 use crate::numbers::{Number, number};
 use crate::tokens::{Tokens, cut};
 
@@ -43,7 +43,7 @@ fn numbers(body: &[u8]) -> Option<Pars>
 
 /// Numbers up to a `)`, and nothing behind it.
 fn numbers_to_close(inside: &[u8]) -> Option<Pars>
-    ensures { result ≡ option_map (with_pars no_pars) (closed (before 41 inside.now) (after 41 inside.now)) }
+    ensures { result ≡ option_map (with_pars no_pars) (closed (before_separator 41 inside.now) (after 41 inside.now)) }
 {
     let (body, end) = cut(inside, b')');
     match end {
@@ -52,9 +52,9 @@ fn numbers_to_close(inside: &[u8]) -> Option<Pars>
     }
 }
 
-#[tactic(auto, unfolding(crate::specs::Grammar::event_of))]
-fn event(names: &Names, token: &[u8]) -> Option<Event>
-    ensures { result ≡ option_map (heard_event (dictionary names.now)) (event_of token.now) }
+#[tactic(auto, unfolding(crate::specs::Grammar::event_of_words))]
+fn event(names: &SystemNames, token: &[u8]) -> Option<Event>
+    ensures { result ≡ option_map (heard_event (dictionary names.now)) (event_of_words token.now) }
 {
     let (name, inside) = cut(token, b'(');
     if !is_identifier(name) {
@@ -93,7 +93,7 @@ fn last_number(tokens: Tokens) -> Option<Number>
 }
 
 #[tactic(auto, unfolding(crate::specs::Grammar::post_of))]
-fn post(names: &Names, tokens: Tokens) -> Option<Heard>
+fn post(names: &SystemNames, tokens: Tokens) -> Option<Heard>
     ensures { result ≡ option_map (heard_of (dictionary names.now)) (post_of (left tokens.entry)) }
 {
     let (object, tokens) = tokens.next()?;
@@ -113,7 +113,7 @@ fn post(names: &Names, tokens: Tokens) -> Option<Heard>
 }
 
 #[tactic(auto, unfolding(crate::specs::Grammar::publish_of))]
-fn publish(names: &Names, tokens: Tokens) -> Option<Heard>
+fn publish(names: &SystemNames, tokens: Tokens) -> Option<Heard>
     ensures { result ≡ option_map (heard_of (dictionary names.now)) (publish_of (left tokens.entry)) }
 {
     let (token, tokens) = tokens.next()?;
@@ -128,7 +128,7 @@ fn publish(names: &Names, tokens: Tokens) -> Option<Heard>
 
 /// What a line says, if it is in the grammar.
 #[tactic(auto, unfolding(crate::specs::Grammar::said_by))]
-pub fn heard(names: &Names, line: &[u8]) -> Option<Heard>
+pub fn heard(names: &SystemNames, line: &[u8]) -> Option<Heard>
     ensures { result ≡ option_map (heard_of (dictionary names.now)) (said_of line.now) }
 {
     let (word, tokens) = Tokens::of(line).next()?;

@@ -20,7 +20,7 @@ pub struct Signal {
 
 /// The names of a system, each to be found by its bytes.
 #[derive(Drop)]
-pub struct Names<'a> {
+pub struct SystemNames<'a> {
     pub objects: BTreeMap<&'a [u8], u8>,
     pub signals: BTreeMap<&'a [u8], Signal>,
 }
@@ -82,13 +82,13 @@ fn signals_of(alloc: Global, sys: &System) -> Result<BTreeMap<&[u8], Signal>, Al
     Ok(signals)
 }
 
-impl<'a> Names<'a> {
+impl<'a> SystemNames<'a> {
     /// The names of a system.
     pub fn of(alloc: Global, sys: &'a System) -> Result<Self, AllocError>
         requires { length sys.now.signals ≤ 200 }
         ensures { IfOk result (λ names. dictionary names ≡ names_of sys.now) }
     {
-        Ok(Names {
+        Ok(SystemNames {
             objects: objects_of(alloc, sys)?,
             signals: signals_of(alloc, sys)?,
         })

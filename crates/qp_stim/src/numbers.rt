@@ -4,7 +4,7 @@ ghost use Rattle.std.specs.Prelude.{◌≡◌, IsTrue};
 ghost use Rattle.std.specs.Char.{is_ascii_digit};
 ghost use Rattle.std.specs.List.{list_all};
 ghost use Rattle.std.specs.Option.{option_map};
-ghost use Rattle.qp_stim.specs.Numbers.{is_number, decimal_from, number_of};
+ghost use Rattle.qp_stim.specs.Numbers.{is_number, decimal_from, number_of_token};
 ghost use Rattle.qp_stim.specs.Reading.{held};
 
 /// A number of a text, which may have any length; `None` is one above 64 bits.
@@ -38,9 +38,9 @@ fn value(digits: &[u8]) -> Number
 }
 
 /// The number of a token, if it is one.
-#[tactic(auto, unfolding(crate::specs::Numbers::number_of))]
+#[tactic(auto, unfolding(crate::specs::Numbers::number_of_token))]
 pub fn number(token: &[u8]) -> Option<Number>
-    ensures { result ≡ option_map held (number_of token.now) }
+    ensures { result ≡ option_map held (number_of_token token.now) }
 {
     if is_canonical(token) {
         Some(value(token))

@@ -3,7 +3,7 @@
 ghost use Rattle.std.specs.Prelude.{◌≡◌, ◌≤◌, ◌^◌, [], length, OnOk, IfOk};
 ghost use Rattle.std.specs.Option.{ForNone};
 
-use crate::verdict::Step;
+use crate::verdict::LineStep;
 use qp_model::{Source, Stimuli};
 use std::alloc::{AllocError, Global};
 
@@ -36,12 +36,12 @@ impl Sources {
     }
 
     /// Does what a line does.
-    pub fn take(&mut self, alloc: Global, step: Step) -> Result<(), AllocError>
+    pub fn take(&mut self, alloc: Global, step: LineStep) -> Result<(), AllocError>
         ensures { OnOk result (gathered self.new ≡ sources_after (gathered self.old) step) }
     {
         match step {
-            Step::Skips => {}
-            Step::Opens => {
+            LineStep::Skips => {}
+            LineStep::Opens => {
                 let next = Source {
                     items: Vec::new(alloc),
                 };
@@ -49,7 +49,7 @@ impl Sources {
                     self.whole.push(source)?;
                 }
             }
-            Step::Adds(stim) => {
+            LineStep::Adds(stim) => {
                 if let Some(source) = &mut self.standing {
                     source.items.push(stim)?;
                 }

@@ -3,7 +3,7 @@
 ghost use Rattle.std.specs.Prelude.{◌≡◌, ◌==◌, [], ◌∷◌, length, MatchOption};
 ghost use Rattle.std.specs.List.{position};
 ghost use Rattle.std.specs.Option.{option_map};
-ghost use Rattle.qp_stim.specs.Parts.{before, after, tokens};
+ghost use Rattle.qp_stim.specs.Parts.{before_separator, after, tokens};
 ghost use Rattle.qp_stim.specs.Reading.{left};
 
 /// The place of the first separator.
@@ -15,7 +15,7 @@ fn place_of(text: &[u8], separator: u8) -> Option<usize>
 
 /// What stands before the first separator, and what stands after it, if there is one.
 pub fn cut(text: &[u8], separator: u8) -> (&[u8], Option<&[u8]>)
-    ensures front { result.0.now ≡ before separator text.now }
+    ensures front { result.0.now ≡ before_separator separator text.now }
     ensures rest { option_map (λ x. x.now) result.1 ≡ after separator text.now }
 {
     match place_of(text, separator) {

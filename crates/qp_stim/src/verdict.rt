@@ -9,7 +9,7 @@ ghost use Rattle.qp_stim.specs.Reading.{small_of, admits, is_next, post_verdict,
 
 use crate::grammar::heard;
 use crate::heard::{Event, Heard, Pars};
-use crate::names::{Names, Signal};
+use crate::names::{Signal, SystemNames};
 use crate::numbers::Number;
 use qp_base::Ev;
 use qp_model::Stim;
@@ -29,7 +29,7 @@ const SOURCES: u64 = 16;
 
 /// What a line does.
 #[derive(Drop)]
-pub enum Step {
+pub enum LineStep {
     Skips,
     Opens,
     Adds(Stim),
@@ -48,7 +48,7 @@ fn small(number: Option<Number>) -> Result<Option<u8>, u8>
 
 /// The lowest code of an event whose signal is declared, if any holds.
 fn code_of(sources: usize, signal: Signal, pars: &Pars, reserve: Option<u8>) -> Option<u8>
-    ensures { (step : Step) → MatchOption result (admits sources signal pars.now reserve step ≡ Ok step)
+    ensures { (step : LineStep) → MatchOption result (admits sources signal pars.now reserve step ≡ Ok step)
         (λ code. admits sources signal pars.now reserve step ≡ Err code) }
 {
     if !pars.fit || (signal.fixed && reserve.is_some()) {
@@ -69,7 +69,7 @@ fn post(
     event: Event,
     margin: Option<Number>,
     reserve: Option<Number>,
-) -> Result<Step, u8>
+) -> Result<LineStep, u8>
     ensures { result ≡ post_verdict sources to event margin reserve }
 {
     let to = to.ok_or(UNDECLARED)?;
@@ -83,7 +83,7 @@ fn post(
                 sig: signal.number,
                 pars: event.pars.kept,
             };
-            Ok(Step::Adds(Stim::Post {
+            Ok(LineStep::Adds(Stim::Post {
                 to,
                 ev,
                 margin,
@@ -94,7 +94,7 @@ fn post(
 }
 
 #[tactic(auto, unfolding(crate::specs::Reading::publish_verdict))]
-fn publish(sources: usize, event: Event, reserve: Option<Number>) -> Result<Step, u8>
+fn publish(sources: usize, event: Event, reserve: Option<Number>) -> Result<LineStep, u8>
     ensures { result ≡ publish_verdict sources event reserve }
 {
     let signal = event.signal.ok_or(UNDECLARED)?;
@@ -106,13 +106,13 @@ fn publish(sources: usize, event: Event, reserve: Option<Number>) -> Result<Step
                 sig: signal.number,
                 pars: event.pars.kept,
             };
-            Ok(Step::Adds(Stim::Publish { ev, reserve }))
+            Ok(LineStep::Adds(Stim::Publish { ev, reserve }))
         }
     }
 }
 
 #[tactic(auto, unfolding(crate::specs::Reading::tick_verdict))]
-fn tick(sources: usize, rate: Number) -> Result<Step, u8>
+fn tick(sources: usize, rate: Number) -> Result<LineStep, u8>
     ensures { result ≡ tick_verdict sources rate }
 {
     match rate {
@@ -120,7 +120,7 @@ fn tick(sources: usize, rate: Number) -> Result<Step, u8>
             if sources == 0 {
                 return Err(SOURCE);
             }
-            Ok(Step::Adds(Stim::Tick { rate: rate as u8 }))
+            Ok(LineStep::Adds(Stim::Tick { rate: rate as u8 }))
         }
         _ => Err(RANGE),
     }
@@ -133,12 +133,12 @@ fn is_next_source(sources: usize, number: Number) -> bool
     number.is_some_and(|n| n <= SOURCES && n == sources as u64 + 1)
 }
 
-fn verdict(sources: usize, said: Heard) -> Result<Step, u8>
+fn verdict(sources: usize, said: Heard) -> Result<LineStep, u8>
     requires { sources < 2 ^ 64 - 1 }
     ensures { result ≡ verdict_on sources said }
 {
     match said {
-        Heard::Source(number) if is_next_source(sources, number) => Ok(Step::Opens),
+        Heard::Source(number) if is_next_source(sources, number) => Ok(LineStep::Opens),
         Heard::Source(_) => Err(SOURCE),
         Heard::Post {
             to,
@@ -149,7 +149,7 @@ fn verdict(sources: usize, said: Heard) -> Result<Step, u8>
         Heard::Publish { event, reserve } => publish(sources, event, reserve),
         Heard::Tick(rate) => tick(sources, rate),
         Heard::Settle if sources == 0 => Err(SOURCE),
-        Heard::Settle => Ok(Step::Adds(Stim::Settle)),
+        Heard::Settle => Ok(LineStep::Adds(Stim::Settle)),
     }
 }
 
@@ -160,13 +160,13 @@ fn says_nothing(line: &[u8]) -> bool
 }
 
 /// What a line does behind so many sources, or its lowest code.
-pub fn judge(names: &Names, sources: usize, line: &[u8]) -> Result<Step, u8>
+pub fn judge(names: &SystemNames, sources: usize, line: &[u8]) -> Result<LineStep, u8>
     requires few { FewParams (dictionary names.now) }
     requires sources { sources < 2 ^ 64 - 1 }
     ensures { result ≡ step_of (dictionary names.now) sources line.now }
 {
     if says_nothing(line) {
-        return Ok(Step::Skips);
+        return Ok(LineStep::Skips);
     }
     match heard(names, line) {
         None => Err(GRAMMAR),

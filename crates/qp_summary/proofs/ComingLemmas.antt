@@ -12,7 +12,7 @@ use Rattle.qp_model.specs.Knowing.{Facts, ceiling_after, records_of, told}
 use Rattle.qp_model.specs.declared.journals.Journal.{Journal}
 use Rattle.qp_model.specs.Home.{by_object, home_of, lane_at}
 use Rattle.qp_model.specs.Lawful.{dispatched, facts_of}
-use Rattle.qp_model.specs.OutputSummary.{is_took, taken_in}
+use Rattle.qp_model.specs.OutputSummary.{is_took, count_events_taken}
 use Rattle.qp_model.specs.Record.{item_of}
 use Rattle.qp_model.specs.Told.{Told}
 use Rattle.qp_model.proofs.KindLemmas.{mark-is-no-take}
@@ -33,7 +33,7 @@ module _ (t : Told) (left : List Told) where
   step-dispatched : is_turn_mark t.body ≡ false → dispatched (t ∷ left) ≡ t ∷ dispatched left
   step-dispatched h = ap (λ b. cond (not b) (t ∷ dispatched left) (dispatched left)) h
 
-  taken-next : taken_in (t ∷ left) ≡ one_if (is_took t.body) + taken_in left
+  taken-next : count_events_taken (t ∷ left) ≡ one_if (is_took t.body) + count_events_taken left
   taken-next = sum_by-cons (λ (x : Told). cond (is_took x.body) 1 0) t left
 
   module _ (sys : System) (d : ObjectDef) (all : List Told) (x : Came) (on : IsOn sys d x (t ∷ left) all) where

@@ -10,10 +10,10 @@ use Rattle.std.proofs.lemmas.List.Sums.{sum_by-cons}
 use Rattle.qp_model.specs.declared.bodies.Body.{Body}
 use Rattle.qp_model.specs.declared.bodies.Body.TheVariants as body
 use Rattle.qp_model.specs.KindSorts.{is_malformed, kind_in}
-use Rattle.qp_model.specs.OutputSummary.{is_back_of, is_done, is_new_of, is_took}
+use Rattle.qp_model.specs.OutputSummary.{is_back_of, is_done_record, is_new_of, is_took}
 use Rattle.qp_model.specs.Record.{Item}
-use Rattle.qp_summary.specs.Counting.{AreBlocks, AreCounts, AreTurns, IsCountAt, IsTold, back_of, counted, done_of, given_by, giver, most, taker, took_of}
-use Rattle.qp_summary.specs.declared.turns.Turns.{Turns}
+use Rattle.qp_summary.specs.Counting.{AreBlocks, AreCounts, AreTurns, IsCountAt, IsTold, back_of, with_one_more, done_of, given_by, giver, most, taker, took_of}
+use Rattle.qp_summary.specs.declared.turns.TurnCounts.{TurnCounts}
 use Rattle.qp_summary.specs.declared.blocks.Blocks.{Blocks}
 use Rattle.qp_model.proofs.NumberLemmas.{count-append}
 use Rattle.qp_model.proofs.ListLemmas.{and-true}
@@ -67,7 +67,7 @@ module _ (size : ℕ) (test : ℕ → Item → Bool) (counts : List ℕ) where
     counted-length number false = are.many
 
     -- one of this number
-    pub counts-more : (number : ℕ) → ((k : ℕ) → test k x ≡ (number == k)) → AreCounts size test (counted counts number) (items ++ x ∷ [])
+    pub counts-more : (number : ℕ) → ((k : ℕ) → test k x ≡ (number == k)) → AreCounts size test (with_one_more counts number) (items ++ x ∷ [])
     counts-more number its = record {
       many = counted-length number (nat_lt number (length counts));
       each = λ k n at. by k n (nat_lt number (length counts)) refl (number == k) refl at;
@@ -100,8 +100,8 @@ module _ (size : ℕ) (test : ℕ → Item → Bool) (counts : List ℕ) where
 
   -- what is told of a number
   pub told-of : (items : List Item) → AreCounts size test counts items → (k : ℕ) (o : Option ℕ) → IsCountAt counts k o → IsTold (nat_lt k size) (test k) items o
-  told-of items are k None none = λ counted.
-      let lt : k < size = grind (arith, nat_tests, counted) in
+  told-of items are k None none = λ with_one_more.
+      let lt : k < size = grind (arith, nat_tests, with_one_more) in
       let there = get-there counts k (subst (λ n. k < n) (sym are.many) lt) in
       let high = none (get_or counts k 0) there in
       let is = are.each k (get_or counts k 0) there in
@@ -120,7 +120,7 @@ pub took-alone : (b : Body) → is_took b ≡ true → (is_malformed b ≡ false
 took-alone (body.Took f l m e) h = (refl, refl)
 took-alone _ h = absurd (cc)
 
-pub done-alone : (b : Body) → is_done b ≡ true → (is_malformed b ≡ false) × (kind_in b ≡ 14)
+pub done-alone : (b : Body) → is_done_record b ≡ true → (is_malformed b ≡ false) × (kind_in b ≡ 14)
 done-alone body.Done h = (refl, refl)
 done-alone _ h = absurd (cc)
 
@@ -136,7 +136,7 @@ pub none-of : (o : Option ℕ) → is_some o ≡ false → o ≡ None
 none-of None h = refl
 none-of (Some n) h = absurd (cc)
 
-took-undone : (b : Body) → is_took b ≡ true → is_done b ≡ false
+took-undone : (b : Body) → is_took b ≡ true → is_done_record b ≡ false
 took-undone (body.Took f l m e) h = refl
 took-undone _ h = absurd (cc)
 
@@ -169,39 +169,39 @@ and-false false = refl
 
 -- A record more, of each sort.
 module _ (items : List Item) (x : Item) where
-  pub took-more : (t u : Turns) → is_took x.body ≡ true → u.taken ≡ counted t.taken x.of → u.done ≡ t.done → AreTurns t items → AreTurns u (items ++ x ∷ [])
+  pub took-more : (t u : TurnCounts) → is_took x.body ≡ true → u.taken ≡ with_one_more t.taken x.of → u.done ≡ t.done → AreTurns t items → AreTurns u (items ++ x ∷ [])
   took-more t u is taken done a = record {
     taken =
         subst (λ c. AreCounts 33 took_of c (items ++ x ∷ [])) (sym taken)
         (counts-more 33 took_of t.taken items x a.taken x.of (λ k. and-is (x.of == k) (is_took x.body) true is ∙ and-true (x.of == k)));
     done =
         subst (λ c. AreCounts 33 done_of c (items ++ x ∷ [])) (sym done)
-        (counts-skip 33 done_of t.done items x a.done (λ k. and-is (x.of == k) (is_done x.body) false (took-undone x.body is) ∙ and-false (x.of == k)));
+        (counts-skip 33 done_of t.done items x a.done (λ k. and-is (x.of == k) (is_done_record x.body) false (took-undone x.body is) ∙ and-false (x.of == k)));
   }
 
-  pub done-more : (t u : Turns) → is_took x.body ≡ false → is_done x.body ≡ true → u.taken ≡ t.taken → u.done ≡ counted t.done x.of → AreTurns t items → AreTurns u (items ++ x ∷ [])
+  pub done-more : (t u : TurnCounts) → is_took x.body ≡ false → is_done_record x.body ≡ true → u.taken ≡ t.taken → u.done ≡ with_one_more t.done x.of → AreTurns t items → AreTurns u (items ++ x ∷ [])
   done-more t u untook is taken done a = record {
     taken =
         subst (λ c. AreCounts 33 took_of c (items ++ x ∷ [])) (sym taken)
         (counts-skip 33 took_of t.taken items x a.taken (λ k. and-is (x.of == k) (is_took x.body) false untook ∙ and-false (x.of == k)));
     done =
         subst (λ c. AreCounts 33 done_of c (items ++ x ∷ [])) (sym done)
-        (counts-more 33 done_of t.done items x a.done x.of (λ k. and-is (x.of == k) (is_done x.body) true is ∙ and-true (x.of == k)));
+        (counts-more 33 done_of t.done items x a.done x.of (λ k. and-is (x.of == k) (is_done_record x.body) true is ∙ and-true (x.of == k)));
   }
 
-  pub turn-skip : (t : Turns) → is_took x.body ≡ false → is_done x.body ≡ false → AreTurns t items → AreTurns t (items ++ x ∷ [])
+  pub turn-skip : (t : TurnCounts) → is_took x.body ≡ false → is_done_record x.body ≡ false → AreTurns t items → AreTurns t (items ++ x ∷ [])
   turn-skip t untook undone a = record {
     taken = counts-skip 33 took_of t.taken items x a.taken (λ k. and-is (x.of == k) (is_took x.body) false untook ∙ and-false (x.of == k));
-    done = counts-skip 33 done_of t.done items x a.done (λ k. and-is (x.of == k) (is_done x.body) false undone ∙ and-false (x.of == k));
+    done = counts-skip 33 done_of t.done items x a.done (λ k. and-is (x.of == k) (is_done_record x.body) false undone ∙ and-false (x.of == k));
   }
 
-  pub given-more : (size : ℕ) (b c : Blocks) (p : ℕ) → giver x.body ≡ Some p → c.given ≡ counted b.given p → c.back ≡ b.back → AreBlocks size b items → AreBlocks size c (items ++ x ∷ [])
+  pub given-more : (size : ℕ) (b c : Blocks) (p : ℕ) → giver x.body ≡ Some p → c.given ≡ with_one_more b.given p → c.back ≡ b.back → AreBlocks size b items → AreBlocks size c (items ++ x ∷ [])
   given-more size b c p is given back a = record {
     given = subst (λ n. AreCounts size given_by n (items ++ x ∷ [])) (sym given) (counts-more size given_by b.given items x a.given p (λ k. given-is x.body p k is));
     back = subst (λ n. AreCounts size back_of n (items ++ x ∷ [])) (sym back) (counts-skip size back_of b.back items x a.back (λ k. given-unback x.body p k is));
   }
 
-  pub back-more : (size : ℕ) (b c : Blocks) (p : ℕ) → giver x.body ≡ None → taker x.body ≡ Some p → c.given ≡ b.given → c.back ≡ counted b.back p → AreBlocks size b items → AreBlocks size c (items ++ x ∷ [])
+  pub back-more : (size : ℕ) (b c : Blocks) (p : ℕ) → giver x.body ≡ None → taker x.body ≡ Some p → c.given ≡ b.given → c.back ≡ with_one_more b.back p → AreBlocks size b items → AreBlocks size c (items ++ x ∷ [])
   back-more size b c p ungiven is given back a = record {
     given = subst (λ n. AreCounts size given_by n (items ++ x ∷ [])) (sym given) (counts-skip size given_by b.given items x a.given (λ k. given-none x.body k ungiven));
     back = subst (λ n. AreCounts size back_of n (items ++ x ∷ [])) (sym back) (counts-more size back_of b.back items x a.back p (λ k. back-is x.body p k is));

@@ -15,7 +15,7 @@ use Rattle.qp_model.specs.Home.{by_object, home_of, lane_at}
 use Rattle.qp_model.specs.Kernels.{port}
 use Rattle.qp_model.specs.Knowing.{Facts, ceiling_after, records_of, told}
 use Rattle.qp_model.specs.Lawful.{facts_of}
-use Rattle.qp_model.specs.OutputSummary.{IsObjectLine, IsStateText, all_done, config_text, is_done, is_took, name_in, taken_in, values_text}
+use Rattle.qp_model.specs.OutputSummary.{IsObjectLine, IsStateText, all_done, config_text, is_done_record, is_took, name_in, count_events_taken, values_text}
 use Rattle.qp_model.specs.Record.{Item}
 use Rattle.qp_model.specs.Told.{Told}
 use Rattle.qp_kernel_end.specs.declared.rest.Rest.{Rest}
@@ -76,14 +76,14 @@ module _ (sys : System) (j : Journal) (other : j.kernel ≢ port) (o : ℕ) wher
       ap (λ n. count_by (λ (t : Told). f t.body) (records_of (facts_of sys j) o 0 (lane_items (lane_at j n)))) home ∙ own-count (facts_of sys j) f o 0 (lane_items (lane_at j 0))
 
   module _ (taken done : ℕ) (took : taken ≡ count_by (took_of o) (lane_items (lane_at j 0))) (dones : done ≡ count_by (done_of o) (lane_items (lane_at j 0))) where
-    pub its-taken : taken ≡ taken_in its
+    pub its-taken : taken ≡ count_events_taken its
     its-taken = took ∙ sym (home-count is_took)
 
     pub its-done : (done == taken + 1) ≡ all_done its
-    its-done = ap (λ n. n == taken + 1) (dones ∙ sym (home-count is_done)) ∙ ap (λ n. count_by (λ (t : Told). is_done t.body) its == n + 1) its-taken
+    its-done = ap (λ n. n == taken + 1) (dones ∙ sym (home-count is_done_record)) ∙ ap (λ n. count_by (λ (t : Told). is_done_record t.body) its == n + 1) its-taken
 
 -- the line with its text
-pub known-line : (sys : System) (j : Journal) (d : ObjectDef) (text line : List ℕ) (taken : ℕ) → taken ≡ taken_in (by_object (facts_of sys j) j d.priority)
+pub known-line : (sys : System) (j : Journal) (d : ObjectDef) (text line : List ℕ) (taken : ℕ) → taken ≡ count_events_taken (by_object (facts_of sys j) j d.priority)
     → IsStateText sys d (chart_at sys d.chart) (by_object (facts_of sys j) j d.priority) text → line ≡ codes "object " ++ d.name ++ 32 ∷ decimal taken ++ 32 ∷ text ++ codes "\n" → IsObjectLine sys j d line
 unfolding IsObjectLine
 known-line sys j d text line taken same state is = (text, state, is ∙ ap (λ n. codes "object " ++ d.name ++ 32 ∷ decimal n ++ 32 ∷ text ++ codes "\n") same)

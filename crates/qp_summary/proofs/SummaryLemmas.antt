@@ -15,7 +15,7 @@ use Rattle.qp_model.specs.Ends.{is_turn_mark}
 use Rattle.qp_model.specs.History.{all_items}
 use Rattle.qp_model.specs.Home.{by_object}
 use Rattle.qp_model.specs.Lawful.{CourseHolds, cut_of, dispatched, facts_of}
-use Rattle.qp_model.specs.OutputSummary.{is_took, is_done, taken_in, all_done, CourseLeaves, config_text, name_in, values_text, IsStateText, IsObjectLine, AreObjectLines, IsSummary, pool_line, pool_lines}
+use Rattle.qp_model.specs.OutputSummary.{is_took, is_done_record, count_events_taken, all_done, CourseLeaves, config_text, name_in, values_text, IsStateText, IsObjectLine, AreObjectLines, IsSummary, pool_line, pool_lines}
 use Rattle.qp_model.specs.Record.{Item}
 use Rattle.qp_model.specs.Told.{Told}
 use Rattle.qp_check_course.specs.Followable.{IsFollowable}
@@ -24,7 +24,7 @@ use Rattle.qp_check_course.specs.declared.standing.Standing.{Standing}
 use Rattle.qp_base.specs.Counts.{Rose}
 use Rattle.qp_base.specs.Sink.{appended, AppendsPrefix}
 use Rattle.qp_summary.specs.declared.summary.SummaryFault.TheVariants as fault
-use Rattle.qp_summary.specs.Written.{joined, Writes, Fails}
+use Rattle.qp_summary.specs.Written.{lines_joined, Writes, SummaryFails}
 
 abbrev one_if : Bool → ℕ
 one_if b = cond b 1 0
@@ -49,15 +49,15 @@ took-steps : (b : Body) → is_took b ≡ true → not (is_turn_mark b) ≡ true
 took-steps (body.Took f l m e) h = refl
 took-steps b h = absurd (cc)
 
-done-steps : (b : Body) → is_done b ≡ true → not (is_turn_mark b) ≡ true
+done-steps : (b : Body) → is_done_record b ≡ true → not (is_turn_mark b) ≡ true
 done-steps body.Done h = refl
 done-steps b h = absurd (cc)
 
 dispatched-done : (ts : List Told) → all_done (dispatched ts) ≡ all_done ts
 dispatched-done ts =
-    let dones = filter-counts (λ (t : Told). is_done t.body) (λ t. not (is_turn_mark t.body)) (λ t h. done-steps t.body h) ts in
+    let dones = filter-counts (λ (t : Told). is_done_record t.body) (λ t. not (is_turn_mark t.body)) (λ t h. done-steps t.body h) ts in
     let tooks = filter-counts (λ (t : Told). is_took t.body) (λ t. not (is_turn_mark t.body)) (λ t h. took-steps t.body h) ts in
-    ap (λ n. n == taken_in (dispatched ts) + 1) dones ∙ ap (λ n. count_by (λ t. is_done t.body) ts == n + 1) tooks
+    ap (λ n. n == count_events_taken (dispatched ts) + 1) dones ∙ ap (λ n. count_by (λ t. is_done_record t.body) ts == n + 1) tooks
 
 module _ (sys : System) (d : ObjectDef) (f : IsFollowable sys d) (g : List Told) where
   -- an object that stands somewhere
@@ -112,7 +112,7 @@ front-next (y ∷ ys) (suc i) x lt is =
     rw e (ap (λ zs. y ∷ zs) (front-next ys i x (omega arith) is))
 
 pub object-line : (sys : System) (j : Journal) (d : ObjectDef) (text line : List ℕ) → IsStateText sys d (chart_at sys d.chart) (by_object (facts_of sys j) j d.priority) text
-    → line ≡ codes "object " ++ d.name ++ 32 ∷ decimal (taken_in (by_object (facts_of sys j) j d.priority)) ++ 32 ∷ text ++ codes "\n"
+    → line ≡ codes "object " ++ d.name ++ 32 ∷ decimal (count_events_taken (by_object (facts_of sys j) j d.priority)) ++ 32 ∷ text ++ codes "\n"
     → IsObjectLine sys j d line
 unfolding IsObjectLine
 object-line sys j d text line state is = (text, state, is)
@@ -126,14 +126,14 @@ summary-lines sys j end objects pools ended are held =
 
 -- what the calls leave in the sink
 module _ {T : Type 0} (x : T) (sys : System) (j : Journal) (lines : List (List ℕ)) (is : IsSummary sys j lines) (w0 w1 : Option (List ℕ)) (f0 f1 : ℕ) where
-  pub writes-all : (w1 ≡ appended w0 (joined lines)) × (f1 ≡ f0) → Writes {T = T} (Ok x) sys j w0 w1 f0 f1
+  pub writes-all : (w1 ≡ appended w0 (lines_joined lines)) × (f1 ≡ f0) → Writes {T = T} (Ok x) sys j w0 w1 f0 f1
   unfolding Writes
   writes-all h = (lines, is, h.0, h.1)
 
-  pub writes-front : AppendsPrefix w0 (joined lines) w1 × Rose f0 f1 → Writes {T = T} (Err fault.Failed) sys j w0 w1 f0 f1
-  unfolding Writes Fails
+  pub writes-front : AppendsPrefix w0 (lines_joined lines) w1 × Rose f0 f1 → Writes {T = T} (Err fault.Failed) sys j w0 w1 f0 f1
+  unfolding Writes SummaryFails
   writes-front h = (lines, is, h.0, h.1)
 
 pub writes-none : (T : Type 0) (sys : System) (j : Journal) (w : Option (List ℕ)) (f : ℕ) → Writes {T = T} (Err fault.Memory) sys j w w f f
-unfolding Writes Fails
+unfolding Writes SummaryFails
 writes-none T sys j w f = (refl, refl)

@@ -4,7 +4,7 @@ use Rattle.std.specs.declared.option.Option.{Option}
 use Rattle.qp_model.specs.declared.systems.System.{System}
 use Rattle.qp_model.specs.declared.systems.ObjectDef.{ObjectDef}
 use Rattle.qp_model.specs.Lawful.{dispatched}
-use Rattle.qp_model.specs.OutputSummary.{taken_in}
+use Rattle.qp_model.specs.OutputSummary.{count_events_taken}
 use Rattle.qp_model.specs.Told.{Told}
 use Rattle.qp_check_course.specs.Followable.{IsFollowable}
 use Rattle.qp_check_course.specs.Reading.{CanRead, LeavesOf}
@@ -14,7 +14,7 @@ use Rattle.qp_summary.specs.declared.coming.Came.{Came}
 -- of all these records of the object, those that are left come next
 pub record IsOn (sys : System) (d : ObjectDef) (x : Came) (left all : List Told) : Type 0 where
   pub can : CanRead x.course
-  pub taken : x.taken + taken_in left ≡ taken_in all
+  pub taken : x.taken + count_events_taken left ≡ count_events_taken all
   pub leaves : LeavesOf sys d x.course (dispatched left) (dispatched all)
 
 -- one record more; it can come, where the records follow the object's chart

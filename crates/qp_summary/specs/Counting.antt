@@ -4,9 +4,9 @@ use Rattle.std.specs.declared.option.Option.{Option}
 use Rattle.std.specs.List.{count_by}
 use Rattle.qp_model.specs.declared.bodies.Body.{Body}
 use Rattle.qp_model.specs.declared.bodies.Body.TheVariants as body
-use Rattle.qp_model.specs.OutputSummary.{is_back_of, is_done, is_new_of, is_took}
+use Rattle.qp_model.specs.OutputSummary.{is_back_of, is_done_record, is_new_of, is_took}
 use Rattle.qp_model.specs.Record.{Item}
-use Rattle.qp_summary.specs.declared.turns.Turns.{Turns}
+use Rattle.qp_summary.specs.declared.turns.TurnCounts.{TurnCounts}
 use Rattle.qp_summary.specs.declared.blocks.Blocks.{Blocks}
 
 -- the highest count
@@ -18,8 +18,8 @@ abbrev pub AreNone : ℕ → List ℕ → Type 0
 AreNone size counts = (length counts ≡ size) × ((k n : ℕ) → slice_get counts k ≡ Some n → n ≡ 0)
 
 -- one more of this number, where there is a count for it
-abbrev pub counted : List ℕ → ℕ → List ℕ
-counted counts k = if nat_lt k (length counts) then slice_set counts k (min (get_or counts k 0 + 1) most) else counts
+abbrev pub with_one_more : List ℕ → ℕ → List ℕ
+with_one_more counts k = if nat_lt k (length counts) then slice_set counts k (min (get_or counts k 0 + 1) most) else counts
 
 -- the count of a number, exactly where there is one for it, and it is below the highest
 abbrev pub IsCountAt : List ℕ → ℕ → Option ℕ → Type 0
@@ -38,15 +38,15 @@ pub record IsCount (test : Item → Bool) (items : List Item) (n : ℕ) : Type 0
 
 -- the count of items that pass the test, exactly where it is counted and below the highest
 abbrev pub IsTold : Bool → (Item → Bool) → List Item → Option ℕ → Type 0
-IsTold counted test items None = counted ≡ true → most ≤ count_by test items
-IsTold counted test items (Some n) = (counted ≡ true) × IsCount test items n
+IsTold with_one_more test items None = with_one_more ≡ true → most ≤ count_by test items
+IsTold with_one_more test items (Some n) = (with_one_more ≡ true) × IsCount test items n
 
 -- the object takes an event, and is done
 abbrev pub took_of : ℕ → Item → Bool
 took_of o i = (i.of == o) && is_took i.body
 
 abbrev pub done_of : ℕ → Item → Bool
-done_of o i = (i.of == o) && is_done i.body
+done_of o i = (i.of == o) && is_done_record i.body
 
 -- the pool that gives a block, and the one that gets one back
 abbrev pub giver : Body → Option ℕ
@@ -64,7 +64,7 @@ given_by p i = is_new_of p i.body
 abbrev pub back_of : ℕ → Item → Bool
 back_of p i = is_back_of p i.body
 
-pub record AreTurns (t : Turns) (items : List Item) : Type 0 where
+pub record AreTurns (t : TurnCounts) (items : List Item) : Type 0 where
   pub taken : AreCounts 33 took_of t.taken items
   pub done : AreCounts 33 done_of t.done items
 

@@ -16,20 +16,20 @@ abbrev pub HasStimuli : System → Journal → Type 0
 HasStimuli sys j = (stimuli : List (List Stim)) × Lawful sys stimuli j
 
 -- lines one after another
-abbrev pub joined : List (List ℕ) → List ℕ
-joined lines = flat_map (λ line. line) lines
+abbrev pub lines_joined : List (List ℕ) → List ℕ
+lines_joined lines = flat_map (λ line. line) lines
 
 -- nothing was written where memory was refused; where a put failed its fault was counted, and the bytes are a front of the summary
-unfoldable pub Fails : SummaryFault → System → Journal → Option (List ℕ) → Option (List ℕ) → ℕ → ℕ → Type 0
+unfoldable pub SummaryFails : SummaryFault → System → Journal → Option (List ℕ) → Option (List ℕ) → ℕ → ℕ → Type 0
 unfolding IsSummary
-Fails fault.Memory sys j old new faults_old faults_new = (new ≡ old) × (faults_new ≡ faults_old)
-Fails fault.Failed sys j old new faults_old faults_new =
-    (lines : List (List ℕ)) × IsSummary sys j lines × AppendsPrefix old (joined lines) new × Rose faults_old faults_new
+SummaryFails fault.Memory sys j old new faults_old faults_new = (new ≡ old) × (faults_new ≡ faults_old)
+SummaryFails fault.Failed sys j old new faults_old faults_new =
+    (lines : List (List ℕ)) × IsSummary sys j lines × AppendsPrefix old (lines_joined lines) new × Rose faults_old faults_new
 
 -- what was written is the journal's summary
 unfoldable pub Writes : {T : Type 0} → Result T SummaryFault → System → Journal → Option (List ℕ) → Option (List ℕ) → ℕ → ℕ → Type 0
-unfolding IsSummary Fails
+unfolding IsSummary SummaryFails
 Writes result sys j old new faults_old faults_new =
     MatchResult result
-    (λ _. (lines : List (List ℕ)) × IsSummary sys j lines × (new ≡ appended old (joined lines)) × (faults_new ≡ faults_old))
-    (λ e. Fails e sys j old new faults_old faults_new)
+    (λ _. (lines : List (List ℕ)) × IsSummary sys j lines × (new ≡ appended old (lines_joined lines)) × (faults_new ≡ faults_old))
+    (λ e. SummaryFails e sys j old new faults_old faults_new)

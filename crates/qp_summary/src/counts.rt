@@ -1,7 +1,7 @@
 //! Counts, by number.
 
 ghost use Rattle.std.specs.Prelude.{◌≡◌, IfOk};
-ghost use Rattle.qp_summary.specs.Counting.{AreNone, IsCountAt, counted};
+ghost use Rattle.qp_summary.specs.Counting.{AreNone, IsCountAt, with_one_more};
 
 use std::alloc::{AllocError, Global};
 use std::marker::Model;
@@ -32,7 +32,7 @@ impl Counts {
 
     /// Counts one more of this number.
     pub(crate) fn add(&mut self, number: usize)
-        ensures { self.new ≡ counted self.old number }
+        ensures { self.new ≡ with_one_more self.old number }
     {
         if number < self.items.len() {
             self.items[number] = self.items[number].saturating_add(1);

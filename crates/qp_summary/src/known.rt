@@ -14,7 +14,7 @@ ghost use Rattle.qp_kernel_end.specs.Rests.{AreRestsIn, IsRestOf};
 ghost use Rattle.qp_summary.specs.Resting.{LeavesRest};
 ghost use Rattle.qp_summary.specs.Counting.{AreTurns};
 
-use crate::Turns;
+use crate::TurnCounts;
 use crate::lines::Lines;
 use crate::objects::{line_of, standing_text};
 use qp_chart::Chart;
@@ -49,7 +49,7 @@ fn known_line(
     alloc: Global,
     sys: &System,
     j: &Journal,
-    turns: &Turns,
+    turns: &TurnCounts,
     rests: &[Rest],
     d: &ObjectDef,
 ) -> Result<Option<String>, AllocError>
@@ -92,7 +92,7 @@ pub(crate) fn known_lines(
     if j.kernel == PORT {
         return Ok(None);
     }
-    let turns = Turns::of(alloc, lane_at(j, 0))?;
+    let turns = TurnCounts::of(alloc, lane_at(j, 0))?;
     let mut lines = Lines::none(alloc);
     for d in &sys.objects.items {
         match known_line(alloc, sys, j, &turns, rests, d)? {

@@ -13,4 +13,4 @@ mod turns;
 
 pub use blocks::Blocks;
 pub use summary::{SummaryFault, write_summary, write_summary_at};
-pub use turns::Turns;
+pub use turns::TurnCounts;

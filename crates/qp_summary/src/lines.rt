@@ -1,7 +1,7 @@
 //! Lines under construction, and how they are put.
 
 ghost use Rattle.std.specs.Prelude.{◌≡◌, ◌++◌, ◌∷◌, [], string_bytes, OnOk};
-ghost use Rattle.qp_summary.specs.Written.{joined};
+ghost use Rattle.qp_summary.specs.Written.{lines_joined};
 ghost use Rattle.qp_text.specs.Puts.{Puts};
 
 use qp_base::{Sink, SinkFault};
@@ -46,7 +46,7 @@ impl Lines {
 
     /// Writes the lines, with one put for each.
     pub(crate) fn put<K: Sink>(&self, out: &mut K) -> Result<(), SinkFault>
-        ensures { Puts result (joined self.now) (K.written out.old) (K.written out.new) (K.faults out.old) (K.faults out.new) }
+        ensures { Puts result (lines_joined self.now) (K.written out.old) (K.written out.new) (K.faults out.old) (K.faults out.new) }
     {
         for line in &self.items {
             put_line(out, line)?;

@@ -19,7 +19,7 @@ use crate::coming::Came;
 use crate::lines::Lines;
 use qp_chart::{Chart, Name};
 use qp_check_calls::Told;
-use qp_check_course::{Reading, Standing, chart_at};
+use qp_check_course::{CourseReading, Standing, chart_at};
 use qp_check_knowledge::knowledge::Knowledge;
 use qp_check_knowledge::told_lists::{is_turn_mark, told_by};
 use qp_check_lanes::lane_parts::{home_lane, lane_at};
@@ -136,7 +136,7 @@ fn read_lane<'a>(
     requires followable { IsFollowable sys.now d.now }
     ensures { IfOk result (λ came. HasCome sys.now d.now (records_of (facts_in knowledge.now) d.now.priority 0 (lane_items lane.now)) came) }
 {
-    let Some(course) = Reading::begin(alloc, sys, d)? else {
+    let Some(course) = CourseReading::begin(alloc, sys, d)? else {
         return Ok(None);
     };
     let mut came = Came { taken: 0, course };

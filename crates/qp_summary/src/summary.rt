@@ -6,7 +6,7 @@ ghost use Rattle.qp_check_course.specs.Followable.{IsFollowable};
 ghost use Rattle.qp_model.specs.Lawful.{CourseHolds};
 ghost use Rattle.qp_model.specs.OutputSummary.{AreObjectLines, IsSummary};
 ghost use Rattle.qp_kernel_end.specs.Rests.{AreRestsIn};
-ghost use Rattle.qp_summary.specs.Written.{HasStimuli, Writes, joined};
+ghost use Rattle.qp_summary.specs.Written.{HasStimuli, Writes, lines_joined};
 ghost use Rattle.qp_text.specs.Puts.{Puts};
 
 use crate::known::known_lines;
@@ -14,8 +14,8 @@ use crate::lines::Lines;
 use crate::objects::object_lines;
 use crate::pools::pool_lines;
 use qp_base::{Sink, SinkFault};
-use qp_check_histories::records_by_word::RecordsByWord;
 use qp_check_knowledge::knowledge::Knowledge;
+use qp_check_words::records_by_word::RecordsByWord;
 use qp_kernel_end::Rest;
 use qp_model::{Journal, System};
 use std::alloc::{AllocError, Global};
@@ -95,7 +95,7 @@ impl Summary {
 
     /// Writes the lines, with one put for each.
     fn put<K: Sink>(&self, out: &mut K) -> Result<(), SinkFault>
-        ensures { Puts result (joined self.now) (K.written out.old) (K.written out.new) (K.faults out.old) (K.faults out.new) }
+        ensures { Puts result (lines_joined self.now) (K.written out.old) (K.written out.new) (K.faults out.old) (K.faults out.new) }
     {
         self.end.put(out)?;
         self.objects.put(out)?;

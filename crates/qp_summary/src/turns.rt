@@ -1,7 +1,7 @@
 //! How many steps the objects of a lane began and ended.
 
 ghost use Rattle.std.specs.Prelude.{◌≡◌, ◌++◌, ◌∷◌, [], nat_lt, IfOk, List};
-ghost use Rattle.qp_model.specs.OutputSummary.{is_done, is_took};
+ghost use Rattle.qp_model.specs.OutputSummary.{is_done_record, is_took};
 ghost use Rattle.qp_model.specs.History.{lane_items};
 ghost use Rattle.qp_model.specs.Record.{Item, body_of, item_of};
 ghost use Rattle.qp_summary.specs.Counting.{AreTurns, IsTold, done_of, took_of};
@@ -15,7 +15,7 @@ const PRIORITIES: usize = 33;
 
 /// How many events each object took, and how often it was done, by priority.
 #[derive(Drop)]
-pub struct Turns {
+pub struct TurnCounts {
     taken: Counts,
     done: Counts,
 }
@@ -29,16 +29,16 @@ fn is_took(r: &Rec) -> bool
 
 /// Whether it is done with its start or a step.
 fn is_done(r: &Rec) -> bool
-    ensures { result ≡ is_done (body_of r.now) }
+    ensures { result ≡ is_done_record (body_of r.now) }
 {
     r.kind == kinds::DONE && matches!(r.body(), Body::Done)
 }
 
-impl Turns {
+impl TurnCounts {
     fn none(alloc: Global) -> Result<Self, AllocError>
         ensures { IfOk result (λ turns. AreTurns turns []) }
     {
-        Ok(Turns {
+        Ok(TurnCounts {
             taken: Counts::none(alloc, PRIORITIES)?,
             done: Counts::none(alloc, PRIORITIES)?,
         })
@@ -59,7 +59,7 @@ impl Turns {
     pub fn of(alloc: Global, lane: &[Rec]) -> Result<Self, AllocError>
         ensures { IfOk result (λ turns. AreTurns turns (lane_items lane.now)) }
     {
-        let mut turns = Turns::none(alloc)?;
+        let mut turns = TurnCounts::none(alloc)?;
         for r in lane {
             turns.add(r);
         }

@@ -19,30 +19,30 @@ use Rattle.qp_chart_names.specs.Codes.{RANGE}
 use Rattle.qp_chart_names.proofs.FaultLemmas.{none-next, none-last}
 use Rattle.qp_model.specs.declared.systems.PoolDef.{PoolDef}
 use Rattle.qp_system.specs.Between.{first_behind, sizes_fault, is_not_above}
-use Rattle.qp_system.specs.Passes.{IsFirst, Passes}
+use Rattle.qp_system.specs.Passes.{IsFirstFault, Passes}
 use Rattle.qp_system_tables.specs.Refused.{fault_at}
 
 -- what is found first is the first fault
-pub first-here : (o later : Option Fault) (e : SystemFault) → IsFirst o e → IsFirst (option_or o later) e
+pub first-here : (o later : Option Fault) (e : SystemFault) → IsFirstFault o e → IsFirstFault (option_or o later) e
 first-here o later Memory h = tt
 first-here o later NotToml h = h
 first-here o later (At c p) h = rw h refl
 
 -- where nothing is found first, what is found later
-pub first-later : (o later : Option Fault) (e : SystemFault) → o ≡ None → IsFirst later e → IsFirst (option_or o later) e
+pub first-later : (o later : Option Fault) (e : SystemFault) → o ≡ None → IsFirstFault later e → IsFirstFault (option_or o later) e
 first-later o later e none h = rw none h
 
 -- the first of some faults
-pub first-head : (o : Option Fault) (os : List (Option Fault)) (e : SystemFault) → IsFirst o e → IsFirst (first_of (o ∷ os)) e
+pub first-head : (o : Option Fault) (os : List (Option Fault)) (e : SystemFault) → IsFirstFault o e → IsFirstFault (first_of (o ∷ os)) e
 unfolding first_of
 first-head o os e h = first-here o (first_of os) e h
 
-pub first-tail : (o : Option Fault) (os : List (Option Fault)) (e : SystemFault) → o ≡ None → IsFirst (first_of os) e → IsFirst (first_of (o ∷ os)) e
+pub first-tail : (o : Option Fault) (os : List (Option Fault)) (e : SystemFault) → o ≡ None → IsFirstFault (first_of os) e → IsFirstFault (first_of (o ∷ os)) e
 unfolding first_of
 first-tail o os e none h = first-later o (first_of os) e none h
 
 -- a test that holds gives its fault, and one that fails none
-pub fault_if-holds : (test : Bool) (code : ℕ) (path : List Part) (e : SystemFault) → test ≡ true → e ≡ fault_at code path → IsFirst (fault_if test code path) e
+pub fault_if-holds : (test : Bool) (code : ℕ) (path : List Part) (e : SystemFault) → test ≡ true → e ≡ fault_at code path → IsFirstFault (fault_if test code path) e
 fault_if-holds test code path e holds h = rw (h, holds) refl
 
 pub fault_if-fails : (test : Bool) (code : ℕ) (path : List Part) → test ≡ false → fault_if test code path ≡ None
@@ -70,8 +70,8 @@ module _ {A : Type 0} (f : List A → ℕ → A → Option Fault) (xs : List A) 
   pub clear-one : (i : ℕ) (x : A) → Clear i → i < length xs → x ≡ get_or xs i x → f (take i xs) (i + 1) x ≡ None → Clear (i + 1)
   clear-one i x clear inside is none = clear ∙ rest-next i x inside is ∙ ap (λ o. option_or o (rest (i + 1))) none
 
-  pub first-at : (i : ℕ) (x : A) (e : SystemFault) → Clear i → i < length xs → x ≡ get_or xs i x → IsFirst (f (take i xs) (i + 1) x) e
-      → IsFirst (first_behind f [] 1 xs) e
+  pub first-at : (i : ℕ) (x : A) (e : SystemFault) → Clear i → i < length xs → x ≡ get_or xs i x → IsFirstFault (f (take i xs) (i + 1) x) e
+      → IsFirstFault (first_behind f [] 1 xs) e
   first-at i x e clear inside is h = rw (clear ∙ rest-next i x inside is) (first-here _ (rest (i + 1)) e h)
 
   pub clear-all : (i : ℕ) → Clear i → length xs ≤ i → first_behind f [] 1 xs ≡ None
@@ -94,7 +94,7 @@ module _ (xs : List PoolDef) where
 
   -- a size that isn't
   pub sizes-at : (i : ℕ) (before : Option ℕ) (d : PoolDef) (whole : Option Fault) (e : SystemFault) → whole ≡ sizes_fault (i + 1) before (drop i xs) → i < length xs
-      → is_not_above before (get_or xs i d).size ≡ true → e ≡ fault_at RANGE (Key POOL ∷ Pos (i + 1) ∷ Key SIZE ∷ []) → IsFirst whole e
+      → is_not_above before (get_or xs i d).size ≡ true → e ≡ fault_at RANGE (Key POOL ∷ Pos (i + 1) ∷ Key SIZE ∷ []) → IsFirstFault whole e
   sizes-at i before d whole e so_far inside not_above h =
       rw (so_far ∙ sizes-next i before d inside) (first-here _ (sizes_fault ((i + 1) + 1) (Some (get_or xs i d).size) (drop (i + 1) xs)) e (fault_if-holds _ _ _ e not_above h))
 
@@ -132,7 +132,7 @@ module _ {A : Type 0} (f : ℕ → A → Option Fault) (xs : List A) where
   pub passed-one : (i : ℕ) (x : A) → Passed i → i < length xs → x ≡ get_or xs i x → f (i + 1) x ≡ None → Passed (i + 1)
   passed-one i x passed inside is none = passed ∙ left-next i x inside is ∙ ap (λ o. option_or o (left (i + 1))) none
 
-  pub passed-at : (i : ℕ) (x : A) (e : SystemFault) → Passed i → i < length xs → x ≡ get_or xs i x → IsFirst (f (i + 1) x) e → IsFirst (first_in f 1 xs) e
+  pub passed-at : (i : ℕ) (x : A) (e : SystemFault) → Passed i → i < length xs → x ≡ get_or xs i x → IsFirstFault (f (i + 1) x) e → IsFirstFault (first_in f 1 xs) e
   passed-at i x e passed inside is h = rw (passed ∙ left-next i x inside is) (first-here _ (left (i + 1)) e h)
 
   pub passed-all : (i : ℕ) → Passed i → length xs ≤ i → first_in f 1 xs ≡ None

@@ -16,7 +16,7 @@ use Rattle.qp_chart_names.proofs.FaultLemmas.{none-next, none-last}
 use Rattle.qp_system_tables.specs.declared.fault.SystemFault.{SystemFault}
 use Rattle.qp_system_tables.specs.declared.raw.RawObject.{RawObject}
 use Rattle.qp_system.specs.Between.{chart_named, has_vars, timers_of, placing_fault}
-use Rattle.qp_system.specs.Passes.{IsFirst}
+use Rattle.qp_system.specs.Passes.{IsFirstFault}
 use Rattle.qp_system_tables.specs.Refused.{fault_at}
 use Rattle.qp_system.proofs.PassLemmas.{first-head, first-tail, fault_if-holds, fault_if-fails}
 
@@ -38,7 +38,7 @@ module _ (charts : List RawChart) (earlier : List RawObject) (k : ℕ) (o : RawO
   taken = list_any (λ (x : RawObject). x.priority == o.priority) earlier
 
   -- the object's chart isn't declared
-  pub no_chart : (e : SystemFault) → found ≡ None → e ≡ fault_at NO_SUCH_NAME (Key OBJECT ∷ Pos k ∷ Key CHART ∷ []) → IsFirst faulty e
+  pub no_chart : (e : SystemFault) → found ≡ None → e ≡ fault_at NO_SUCH_NAME (Key OBJECT ∷ Pos k ∷ Key CHART ∷ []) → IsFirstFault faulty e
   unfolding placing_fault
   no_chart e none h = first-head _ _ _ (fault_if-holds _ _ _ e (ap is_none none) h)
 
@@ -52,18 +52,18 @@ module _ (charts : List RawChart) (earlier : List RawObject) (k : ℕ) (o : RawO
     pub timers-is : timers_of charts o ≡ length c.timer
     timers-is = ap (λ n. option_map_or (λ (d : RawChart). length d.timer) n 0) is
 
-    pub bad_vars : (e : SystemFault) → all_known c o ≡ false → e ≡ fault_at NO_SUCH_NAME (Key OBJECT ∷ Pos k ∷ Key VARS ∷ []) → IsFirst faulty e
+    pub bad_vars : (e : SystemFault) → all_known c o ≡ false → e ≡ fault_at NO_SUCH_NAME (Key OBJECT ∷ Pos k ∷ Key VARS ∷ []) → IsFirstFault faulty e
     unfolding placing_fault
     bad_vars e fails h = first-tail _ _ _ (fault_if-fails _ _ _ there) (first-head _ _ _ (fault_if-holds _ _ _ e (vars-is ∙ ap not fails) h))
 
-    pub bad_priority : (e : SystemFault) → all_known c o ≡ true → taken ≡ true → e ≡ fault_at DOUBLE (Key OBJECT ∷ Pos k ∷ Key PRIORITY ∷ []) → IsFirst faulty e
+    pub bad_priority : (e : SystemFault) → all_known c o ≡ true → taken ≡ true → e ≡ fault_at DOUBLE (Key OBJECT ∷ Pos k ∷ Key PRIORITY ∷ []) → IsFirstFault faulty e
     unfolding placing_fault
     bad_priority e known twice h =
         first-tail _ _ _ (fault_if-fails _ _ _ there) (first-tail _ _ _ (fault_if-fails _ _ _ (vars-is ∙ ap not known))
         (first-head _ _ _ (fault_if-holds _ _ _ e (twice) h)))
 
     pub bad_threshold : (e : SystemFault) → all_known c o ≡ true → taken ≡ false → o.threshold < o.priority
-        → e ≡ fault_at RANGE (Key OBJECT ∷ Pos k ∷ Key THRESHOLD ∷ []) → IsFirst faulty e
+        → e ≡ fault_at RANGE (Key OBJECT ∷ Pos k ∷ Key THRESHOLD ∷ []) → IsFirstFault faulty e
     unfolding placing_fault
     bad_threshold e known once low h =
         first-tail _ _ _ (fault_if-fails _ _ _ there) (first-tail _ _ _ (fault_if-fails _ _ _ (vars-is ∙ ap not known))
@@ -75,7 +75,7 @@ module _ (charts : List RawChart) (earlier : List RawObject) (k : ℕ) (o : RawO
       sum-is = rw (timers-is, so_far) refl
 
       pub bad_count : (e : SystemFault) → all_known c o ≡ true → taken ≡ false → o.priority ≤ o.threshold → 64 < timers + length c.timer
-          → e ≡ fault_at TOO_MANY (Key OBJECT ∷ Pos k ∷ []) → IsFirst faulty e
+          → e ≡ fault_at TOO_MANY (Key OBJECT ∷ Pos k ∷ []) → IsFirstFault faulty e
       unfolding placing_fault
       bad_count e known once high many h =
           first-tail _ _ _ (fault_if-fails _ _ _ there) (first-tail _ _ _ (fault_if-fails _ _ _ (vars-is ∙ ap not known))

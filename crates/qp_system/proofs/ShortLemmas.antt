@@ -14,7 +14,7 @@ use Rattle.qp_chart_names.specs.Faults.{Fault, fault, fault_if, first_of, first_
 use Rattle.qp_chart_text.specs.Terms.{Term, Command}
 use Rattle.qp_chart_names.specs.ActionFaults.{action_fault, guard_fault, text_fault, text_at, texts_fault, when_fault}
 use Rattle.qp_chart.specs.Parents.{loop_at, depth_at, tree_fault}
-use Rattle.qp_chart.specs.ChartFaults.{timer_fault, parent_at, init_fault, row_fault, row_at, rows_fault, state_fault, frame_fault, body_fault, parts_fault, chart_fault, state_place, row_place}
+use Rattle.qp_chart.specs.ChartFaults.{timer_fault, parent_at, init_fault, row_fault, row_fault_at, rows_fault, state_fault, frame_fault, body_fault, parts_fault, chart_fault, state_place, row_place}
 use Rattle.qp_chart_names.specs.NameFaults.{undeclared, undeclared_key, double_at, double_fault, doubles_fault}
 
 -- the path of the fault, if there is one, has at most six parts
@@ -106,8 +106,8 @@ short-row names chart k j earlier row =
     (short-head _ _ (short-key _ row.to _ (omega arith)) short-end))))
 
 short-rows : (names : Names) (chart : RawChart) (k : ℕ) (rows : List RawRow) → Short (rows_fault names chart k rows)
-unfolding rows_fault row_at
-short-rows names chart k rows = short-in (row_at names chart k rows) 1 rows (λ j row. short-row names chart k j _ row)
+unfolding rows_fault row_fault_at
+short-rows names chart k rows = short-in (row_fault_at names chart k rows) 1 rows (λ j row. short-row names chart k j _ row)
 
 short-state : (names : Names) (chart : RawChart) (k : ℕ) (s : RawState) → Short (state_fault names chart k s)
 unfolding state_fault

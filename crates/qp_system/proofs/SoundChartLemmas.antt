@@ -21,7 +21,7 @@ use Rattle.qp_chart_names.specs.declared.raw.ObjName.{ObjName}
 use Rattle.qp_chart.specs.declared.checked.Row.{Row}
 use Rattle.qp_chart.specs.declared.checked.State.{State}
 use Rattle.qp_chart.specs.declared.checked.Chart.{Chart}
-use Rattle.qp_chart_text.specs.Terms.{Term, Address, ToMe, ToObject, Event, Order, Set, Say, Post, Lifo, Forward, Publish, Defer, Recall, Flush, Subscribe, Unsubscribe, Arm, Rearm, Disarm, Command, Plain, Locked}
+use Rattle.qp_chart_text.specs.Terms.{Term, Address, ToMe, ToObject, EventTerm, Order, Set, Say, Post, Lifo, Forward, Publish, Defer, Recall, Flush, Subscribe, Unsubscribe, Arm, Rearm, Disarm, Command, Plain, Locked}
 use Rattle.qp_chart_names.specs.ActionFaults.{is_between, is_static, params_of, params_in, reserve_allowed, event_fits, order_in_range, order_fits, command_in_range, command_fits}
 use Rattle.qp_chart.specs.ActionOf.{IsBoundOf, IsTargetOf, IsEventOf, IsByteOf, IsPlainOf, IsActOf, IsActOfText, IsGuardOf}
 use Rattle.qp_chart.specs.ChartOf.{AreActsOf, IsRowOf, IsStateOf, IsChartOf}
@@ -37,7 +37,7 @@ use Rattle.qp_model.specs.Sites.{object_at}
 use Rattle.qp_system_tables.specs.declared.raw.RawObject.{RawObject}
 use Rattle.qp_system_tables.specs.declared.raw.RawSystem.{RawSystem}
 use Rattle.qp_system_tables.specs.Few.{IsFewChart}
-use Rattle.qp_model.specs.SoundChart.{IsSignal, IsDeclared, IsState, IsReceiver, IsTimer, Reaches, IsSoundEvent, IsSoundPlain, IsSoundAct, IsSoundGuard, IsSoundRow, IsSoundState, IsSoundChart}
+use Rattle.qp_model.specs.SoundChart.{IsSignal, IsDeclared, IsState, IsReceiver, IsTimer, NamesKnown, IsSoundEvent, IsSoundPlain, IsSoundAct, IsSoundGuard, IsSoundRow, IsSoundState, IsSoundChart}
 use Rattle.qp_model.proofs.ListLemmas.{every-at}
 use Rattle.qp_system.specs.SystemOf.{IsObjectOf, AreObjectsOf}
 use Rattle.qp_system.specs.Within.{signal_name, object_name, names_of}
@@ -125,7 +125,7 @@ module _ (sys : System) (raw : RawSystem) (signals : sys.signals ≡ raw.signals
     var-count : length (variable_names c.vars) ≡ length chart.vars
     var-count = length-map c.vars (λ (v : (List ℕ) × ℤ). v.0) ∙ sym (ap length vars)
 
-    reaches : (inside : Option ℕ) (e : Term) (b : Bound) → IsBoundOf c (params_in inside) e b → Reaches chart inside b
+    reaches : (inside : Option ℕ) (e : Term) (b : Bound) → IsBoundOf c (params_in inside) e b → NamesKnown chart inside b
     reaches inside e b h = rw var-count at h.in_range
 
     state-inside : (q : List ℕ) (s : ℕ) → state_number c q ≡ Some s → IsState chart (Some s)
@@ -154,7 +154,7 @@ module _ (sys : System) (raw : RawSystem) (signals : sys.signals ≡ raw.signals
         by None is = tt
         by (Some s) is = state-inside name s is
 
-    free-reserve : (s : SignalDef) (event : Event) (z : Option ℤ) (r : Option ℕ) → is_static names event.signal ≡ s.fixed → reserve_allowed names event z ≡ true → IsByteOf z r → s.fixed ≡ true → r ≡ None
+    free-reserve : (s : SignalDef) (event : EventTerm) (z : Option ℤ) (r : Option ℕ) → is_static names event.signal ≡ s.fixed → reserve_allowed names event z ≡ true → IsByteOf z r → s.fixed ≡ true → r ≡ None
     free-reserve s event z None static allowed byte fixed = refl
     free-reserve s event z (Some n) static allowed byte fixed =
         let here : reserve_allowed names event (Some (pos n)) ≡ true = subst (λ y. reserve_allowed names event y ≡ true) byte allowed in
@@ -162,7 +162,7 @@ module _ (sys : System) (raw : RawSystem) (signals : sys.signals ≡ raw.signals
         let no : true ≡ false = sym second ∙ ap not (static ∙ fixed) in
         cc
 
-    event : (inside : Option ℕ) (e : Event) (sig : ℕ) (pars : List Bound) (z : Option ℤ) (r : Option ℕ) → IsEventOf names c (params_in inside) e sig pars
+    event : (inside : Option ℕ) (e : EventTerm) (sig : ℕ) (pars : List Bound) (z : Option ℤ) (r : Option ℕ) → IsEventOf names c (params_in inside) e sig pars
         → event_fits names (params_in inside) e ≡ true → reserve_allowed names e z ≡ true → IsByteOf z r → IsSoundEvent sys chart inside sig pars r
     event inside e sig pars z r made fits allowed byte =
         let s = declared e.signal sig made.signal_is in
@@ -172,7 +172,7 @@ module _ (sys : System) (raw : RawSystem) (signals : sys.signals ≡ raw.signals
           signal = s.0;
           is_signal = s.1;
           count = sym (Corresponds-length (IsBoundOf c (params_in inside)) e.pars pars made.pars_are) ∙ count ∙ params-is e.signal s.0 s.2;
-          each = Corresponds-each (IsBoundOf c (params_in inside)) (Reaches chart inside) (λ t b h. reaches inside t b h) e.pars pars made.pars_are;
+          each = Corresponds-each (IsBoundOf c (params_in inside)) (NamesKnown chart inside) (λ t b h. reaches inside t b h) e.pars pars made.pars_are;
           reserve_pooled = free-reserve s.0 e z r (static-is e.signal s.0 s.2) allowed byte;
         }
 

@@ -22,7 +22,7 @@ use Rattle.qp_system_tables.specs.declared.raw.RawObject.{RawObject}
 use Rattle.qp_system_tables.specs.declared.raw.RawSystem.{RawSystem}
 use Rattle.qp_system.specs.Checked.{HasLater, IsChecked}
 use Rattle.qp_system_tables.specs.Document.{RefusesBytes}
-use Rattle.qp_system.specs.Placed.{chart_place, HasChart, IsWithin}
+use Rattle.qp_system.specs.Placed.{chart_place, HasChart, HasChartAmong}
 use Rattle.qp_system.specs.SystemOf.{chart_names, first_value, first_values, IsObjectOf, AreObjectsOf, HasFault, RefusesSystem}
 use Rattle.qp_model.specs.Sound.{timer_of, timers_of}
 use Rattle.qp_system.proofs.BehindLemmas.{IsPlaced}
@@ -64,11 +64,11 @@ all-have_charts charts raws order h moved =
     (All-from_recursion (HasChart charts) raws (every (IsPlaced charts) (HasChart charts) (placed-has_chart charts) raws h))
 
 -- the numbers of the charts of objects are inside
-pub all-within : (raws : List RawChart) (charts : List Chart) (order : List RawObject) (objects : List ObjectDef) → length raws ≡ length charts → Corresponds (IsObjectOf raws) order objects → All (IsWithin charts) objects
+pub all-within : (raws : List RawChart) (charts : List Chart) (order : List RawObject) (objects : List ObjectDef) → length raws ≡ length charts → Corresponds (IsObjectOf raws) order objects → All (HasChartAmong charts) objects
 all-within raws charts order objects count pairs =
-    All-from_recursion (IsWithin charts) objects (Corresponds-each (IsObjectOf raws) (IsWithin charts) step order objects pairs)
+    All-from_recursion (HasChartAmong charts) objects (Corresponds-each (IsObjectOf raws) (HasChartAmong charts) step order objects pairs)
   where
-    step : (o : RawObject) (d : ObjectDef) → IsObjectOf raws o d → IsWithin charts d
+    step : (o : RawObject) (d : ObjectDef) → IsObjectOf raws o d → HasChartAmong charts d
     step o d made =
         let low = number_in-above 1 (chart_names raws) o.chart d.chart made.chart in
         let high = number_in-below 1 (chart_names raws) o.chart d.chart made.chart in
@@ -109,7 +109,7 @@ object-of charts raw place chart values found inside is valued =
 
 -- the time events of one object more
 pub timers-more : (charts : List Chart) (objects : List ObjectDef) (i : ℕ) (object : ObjectDef) (chart : Chart) (items new : List TimerDef) → i < length objects → object ≡ get_or objects i object
-    → IsWithin charts object → chart ≡ get_or charts (object.chart - 1) chart → items ≡ flat_map (timers_of charts) (take i objects) → new ≡ items ++ map (timer_of object) chart.timer
+    → HasChartAmong charts object → chart ≡ get_or charts (object.chart - 1) chart → items ≡ flat_map (timers_of charts) (take i objects) → new ≡ items ++ map (timer_of object) chart.timer
     → new ≡ flat_map (timers_of charts) (take (i + 1) objects)
 timers-more charts objects i object chart items new inside is within its so_far added =
     let front : take (i + 1) objects ≡ take i objects ++ object ∷ [] = take_more objects i object inside ∙ ap (λ z. take i objects ++ z ∷ []) (sym is) in

@@ -6,3 +6,6 @@ pub mod Checked
 pub mod SystemOf
 pub mod Placed
 pub mod SystemLaw
+-- The definitions of the made system.
+pub mod Files
+pub mod Made

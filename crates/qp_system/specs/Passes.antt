@@ -7,12 +7,12 @@ use Rattle.qp_system_tables.specs.declared.fault.SystemFault.{SystemFault}
 use Rattle.qp_system_tables.specs.declared.fault.SystemFault.TheVariants.{Memory, NotToml, At}
 
 -- what is refused is the first fault, unless memory ran out
-abbrev pub IsFirst : Option Fault → SystemFault → Type 0
-IsFirst first Memory = ⊤
-IsFirst first NotToml = ⊥
-IsFirst first (At code path) = first ≡ fault code path.0.items
+abbrev pub IsFirstFault : Option Fault → SystemFault → Type 0
+IsFirstFault first Memory = ⊤
+IsFirstFault first NotToml = ⊥
+IsFirstFault first (At code path) = first ≡ fault code path.0.items
 
 -- there is no fault, or the refusal carries the first
 abbrev pub Passes : {X : Type 0} → Option Fault → Result X SystemFault → Type 0
 Passes first (Ok _) = first ≡ None
-Passes first (Err e) = IsFirst first e
+Passes first (Err e) = IsFirstFault first e

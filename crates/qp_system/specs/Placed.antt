@@ -17,5 +17,5 @@ abbrev pub HasChart : List RawChart → RawObject → Type 0
 HasChart charts raw = IsSome (chart_place charts raw.chart)
 
 -- the object's chart has a number among these
-abbrev pub IsWithin : List Chart → ObjectDef → Type 0
-IsWithin charts object = (1 ≤ object.chart) × (object.chart ≤ length charts)
+abbrev pub HasChartAmong : List Chart → ObjectDef → Type 0
+HasChartAmong charts object = (1 ≤ object.chart) × (object.chart ≤ length charts)

@@ -8,7 +8,7 @@ ghost use Rattle.std.specs.List.Sorted.{IsPermutation, IsNonDecreasingBy};
 ghost use Rattle.qp_chart_names.specs.Pairs.{Corresponds};
 ghost use Rattle.qp_system.specs.SystemOf.{first_value, IsObjectOf};
 ghost use Rattle.qp_model.specs.Sound.{timer_of, timers_of};
-ghost use Rattle.qp_system.specs.Placed.{chart_place, HasChart, IsWithin};
+ghost use Rattle.qp_system.specs.Placed.{chart_place, HasChart, HasChartAmong};
 
 use qp_chart::{Chart, Name, RawChart, Timer};
 use qp_model::{ObjectDef, ObjectDefs, TimerDef, TimerDefs, Values};
@@ -114,7 +114,7 @@ pub fn timer_defs(
     charts: &[Chart],
     objects: &[ObjectDef],
 ) -> Result<TimerDefs, AllocError>
-    requires { All (IsWithin charts.now) objects.now }
+    requires { All (HasChartAmong charts.now) objects.now }
     ensures { IfOk result (λ timers. timers ≡ flat_map (timers_of charts.now) objects.now) }
 {
     let mut items = Vec::new(alloc);

@@ -11,14 +11,14 @@ use Rattle.qp_chart_names.specs.declared.place.Part.TheVariants.{Key, Pos}
 use Rattle.qp_chart_names.specs.Codes.{TOO_MANY, RANGE}
 use Rattle.qp_chart_names.specs.Faults.{Fault}
 use Rattle.qp_system_tables.specs.Tree.{◌>>=◌, refuse, at_key, knows, defaulted, needed, optional}
-use Rattle.qp_system_tables.specs.Values.{number_of, name_of, text_of, tables_of, texts_of, some_texts, short_texts, vars_of, some_vars, named_vars, all_integers, items_of_kind, allowed}
+use Rattle.qp_system_tables.specs.Values.{integer_between, name_of, text_of, tables_of, texts_of, some_texts, short_texts, vars_of, some_vars, named_vars, all_integers, items_of_kind, allowed}
 use Rattle.qp_chart_names.specs.Keys.{QP, POOL, SIGNAL, CHART, OBJECT, NAME, PARENT, INIT, INIT_DO, VARS, TIMER, STATE, ENTRY, EXIT, ROW, ON, WHEN, DO, TO}
 use Rattle.qp_chart_names.specs.declared.raw.RawState.{RawState}
 use Rattle.qp_chart_names.specs.declared.raw.RawChart.{RawChart}
 use Rattle.qp_chart_names.specs.Readable.{IsReadableRow, IsReadableState}
 use Rattle.qp_system_tables.specs.declared.raw.RawSystem.{RawSystem}
 use Rattle.qp_chart_names.specs.declared.raw.RawRow.{RawRow}
-use Rattle.qp_system_tables.specs.Tables.{read_tables, initial, pool_at, signal_at, row_at, timer_at, state_at, chart_at, object_at, raw_of}
+use Rattle.qp_system_tables.specs.Tables.{read_tables, initial, pool_at, signal_at, read_row, timer_at, state_at, chart_at, object_at, raw_of}
 use Rattle.qp_system_tables.specs.Few.{IsFewChart, IsFew}
 use Rattle.qp_system_tables.proofs.ReadLemmas.{Between, bind-Ok, ok-same, defaulted-Ok, needed-Ok, tables_of-counted, tables-few, listed}
 use Rattle.qp_system_tables.proofs.RangeLemmas.{PoolInRange, pool_at-range, SignalInRange, signal_at-range, TimerInRange, timer_at-range, ObjectInRange, object_at-range}
@@ -84,8 +84,8 @@ vars-few place v xs h = some_vars-few place (option_and_then (λ members. all_in
 abbrev pub FewRow : RawRow → Type 0
 FewRow r = length r.acts ≤ 16
 
-row-few : (at : List Part) (t : Members) (r : RawRow) → row_at at t ≡ Ok r → FewRow r
-unfolding row_at
+row-few : (at : List Part) (t : Members) (r : RawRow) → read_row at t ≡ Ok r → FewRow r
+unfolding read_row
 row-few at t r h =
     let a = bind-Ok (knows (ON ∷ WHEN ∷ DO ∷ TO ∷ []) at t) _ r h in
     let b = bind-Ok (needed name_of ON at t) _ r a.2 in
@@ -109,10 +109,10 @@ state-few at t s h =
     let e = bind-Ok (defaulted [] texts_of EXIT at t) _ s d.2 in
     let f = bind-Ok (initial (at ++ Key INIT ∷ []) (at_key INIT t) (at_key INIT_DO t)) _ s e.2 in
     let g = bind-Ok (defaulted [] texts_of INIT_DO at t) _ s f.2 in
-    let i = bind-Ok (read_tables row_at (at ++ Key ROW ∷ []) (defaulted [] (tables_of 0 32) ROW at t)) _ s g.2 in
+    let i = bind-Ok (read_tables read_row (at ++ Key ROW ∷ []) (defaulted [] (tables_of 0 32) ROW at t)) _ s g.2 in
     let q : RawState = record { name = b.0; parent = c.0; entry = d.0; exit = e.0; init = f.0; init_do = g.0; row = i.0 } in
     let same : q ≡ s = ok-same q s i.2 in
-    let rows = listed FewRow row_at (λ n. n ≤ 32) (at ++ Key ROW ∷ []) (defaulted [] (tables_of 0 32) ROW at t) i.0 (λ ts. defaulted-Ok (λ (l : List Members). length l ≤ 32) [] (tables_of 0 32) ROW at t ts (omega arith) (tables-few 0 32)) row-few i.1 in
+    let rows = listed FewRow read_row (λ n. n ≤ 32) (at ++ Key ROW ∷ []) (defaulted [] (tables_of 0 32) ROW at t) i.0 (λ ts. defaulted-Ok (λ (l : List Members). length l ≤ 32) [] (tables_of 0 32) ROW at t ts (omega arith) (tables-few 0 32)) row-few i.1 in
     subst FewState same (acts-few ENTRY at t d.0 d.1, acts-few EXIT at t e.0 e.1, acts-few INIT_DO at t g.0 g.1, rows.1, rows.0)
 
 abbrev pub FewChart : RawChart → Type 0
@@ -144,7 +144,7 @@ raw-few : (t : Members) (r : RawSystem) → raw_of t ≡ Ok r → FewRaw r
 unfolding raw_of
 raw-few t r h =
     let a = bind-Ok (knows (QP ∷ POOL ∷ SIGNAL ∷ CHART ∷ OBJECT ∷ []) [] t) _ r h in
-    let b = bind-Ok (needed (number_of 1 1) QP [] t) _ r a.2 in
+    let b = bind-Ok (needed (integer_between 1 1) QP [] t) _ r a.2 in
     let c = bind-Ok (read_tables pool_at (Key POOL ∷ []) (defaulted [] (tables_of 0 15) POOL [] t)) _ r b.2 in
     let d = bind-Ok (read_tables signal_at (Key SIGNAL ∷ []) (defaulted [] (tables_of 0 200) SIGNAL [] t)) _ r c.2 in
     let e = bind-Ok (read_tables chart_at (Key CHART ∷ []) (needed (tables_of 1 32) CHART [] t)) _ r d.2 in

@@ -17,12 +17,12 @@ use Rattle.qp_system_tables.specs.declared.fault.SystemFault.{SystemFault}
 use Rattle.qp_system_tables.specs.declared.fault.SystemFault.TheVariants.{Memory, NotToml, At}
 use Rattle.qp_system_tables.specs.Tree.{◌>>=◌, each}
 use Rattle.qp_system_tables.specs.Values.{with_first, all_of_kind, short_texts}
-use Rattle.qp_system_tables.specs.Refused.{Fails}
+use Rattle.qp_system_tables.specs.Refused.{ReadFails}
 use Rattle.qp_system_tables.specs.Front.{with_front, Table, members}
 
 -- a refusal of a part is one of the whole
-pub Fails-through : {Y Z : Type 0} (e : SystemFault) (part : Result Y Fault) (whole : Result Z Fault) → Fails e part
-    → ((f : Fault) → part ≡ Err f → whole ≡ Err f) → Fails e whole
+pub Fails-through : {Y Z : Type 0} (e : SystemFault) (part : Result Y Fault) (whole : Result Z Fault) → ReadFails e part
+    → ((f : Fault) → part ≡ Err f → whole ≡ Err f) → ReadFails e whole
 Fails-through Memory part whole h through = tt
 Fails-through NotToml part whole h through = h
 Fails-through (At code path) part whole h through = through (record { code = code; path = path.0.items }) h
@@ -178,7 +178,7 @@ each-whole read place front i ts whole h invariant = sym invariant ∙ each-last
 -- a table that the program refuses
 pub each-refused : {A : Type 0} (read : List Part → Members → Result A Fault) (place : List Part) (front : List A) (i : ℕ) (ts : List (Bor Table)) (table : Bor Table)
     (at : List Part) (e : SystemFault) (whole : Result (List A) Fault) → i < length ts → table ≡ get_or ts i table → at ≡ place ++ Pos (i + 1) ∷ []
-    → with_front front (each read place (i + 1) (map members (drop i ts))) ≡ whole → Fails e (read at (members table)) → Fails e whole
+    → with_front front (each read place (i + 1) (map members (drop i ts))) ≡ whole → ReadFails e (read at (members table)) → ReadFails e whole
 each-refused {A} read place front i ts table at e whole h is here invariant refused =
     Fails-through e (read at (members table)) whole refused
     (λ f found.

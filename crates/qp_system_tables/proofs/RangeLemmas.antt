@@ -13,7 +13,7 @@ use Rattle.qp_model.specs.declared.systems.SignalDef.{SignalDef}
 use Rattle.qp_chart_names.specs.declared.raw.RawTimer.{RawTimer}
 use Rattle.qp_system_tables.specs.declared.raw.RawObject.{RawObject}
 use Rattle.qp_system_tables.specs.Tree.{refuse, knows, needed, defaulted}
-use Rattle.qp_system_tables.specs.Values.{number_of, number_in, within, name_of, flag_of, vars_of}
+use Rattle.qp_system_tables.specs.Values.{integer_between, integer_in, within, name_of, flag_of, vars_of}
 use Rattle.qp_system_tables.specs.Tables.{pool_at, signal_at, timer_at, object_at}
 use Rattle.qp_system_tables.proofs.ReadLemmas.{Between, bind-Ok, ok-same, defaulted-Ok, needed-Ok}
 
@@ -30,23 +30,23 @@ within-range : (least most : ℕ) (place : List Part) (z : ℤ) (m : ℕ) → wi
 within-range least most place (pos n) m h = pass-range least most n m place _ refl h
 within-range least most place (negsuc n) m h = cc
 
-number_in-range : (least most : ℕ) (place : List Part) (o : Option ℤ) (m : ℕ) → number_in least most place o ≡ Ok m → Between least most m
+number_in-range : (least most : ℕ) (place : List Part) (o : Option ℤ) (m : ℕ) → integer_in least most place o ≡ Ok m → Between least most m
 number_in-range least most place None m h = cc
 number_in-range least most place (Some z) m h = within-range least most place z m h
 
 -- a number that was read
-pub number_of-range : (least most : ℕ) (place : List Part) (v : Data) (m : ℕ) → number_of least most place v ≡ Ok m → Between least most m
-unfolding number_of
+pub number_of-range : (least most : ℕ) (place : List Part) (v : Data) (m : ℕ) → integer_between least most place v ≡ Ok m → Between least most m
+unfolding integer_between
 number_of-range least most place v m h = number_in-range least most place (as_integer v) m h
 
 -- a number at a key
-needed-range : (least most key : ℕ) (at : List Part) (t : Members) (n : ℕ) → needed (number_of least most) key at t ≡ Ok n → Between least most n
-needed-range least most key at t n h = needed-Ok (Between least most) (number_of least most) key at t n (number_of-range least most) h
+needed-range : (least most key : ℕ) (at : List Part) (t : Members) (n : ℕ) → needed (integer_between least most) key at t ≡ Ok n → Between least most n
+needed-range least most key at t n h = needed-Ok (Between least most) (integer_between least most) key at t n (number_of-range least most) h
 
 -- a number at a key with a default in its range
 defaulted-range : (least most default key : ℕ) (at : List Part) (t : Members) (n : ℕ) → Between least most default
-    → defaulted default (number_of least most) key at t ≡ Ok n → Between least most n
-defaulted-range least most default key at t n base h = defaulted-Ok (Between least most) default (number_of least most) key at t n base (number_of-range least most) h
+    → defaulted default (integer_between least most) key at t ≡ Ok n → Between least most n
+defaulted-range least most default key at t n base h = defaulted-Ok (Between least most) default (integer_between least most) key at t n base (number_of-range least most) h
 
 abbrev pub PoolInRange : PoolDef → Type 0
 PoolInRange p = Between 0 8 p.size × Between 1 32 p.blocks
@@ -55,8 +55,8 @@ pub pool_at-range : (at : List Part) (t : Members) (p : PoolDef) → pool_at at 
 unfolding pool_at
 pool_at-range at t p h =
     let a = bind-Ok (knows (SIZE ∷ BLOCKS ∷ []) at t) _ p h in
-    let b = bind-Ok (needed (number_of 0 8) SIZE at t) _ p a.2 in
-    let c = bind-Ok (needed (number_of 1 32) BLOCKS at t) _ p b.2 in
+    let b = bind-Ok (needed (integer_between 0 8) SIZE at t) _ p a.2 in
+    let c = bind-Ok (needed (integer_between 1 32) BLOCKS at t) _ p b.2 in
     let q : PoolDef = record { size = b.0; blocks = c.0 } in
     let same : q ≡ p = ok-same q p c.2 in
     subst PoolInRange same (needed-range 0 8 SIZE at t b.0 b.1, needed-range 1 32 BLOCKS at t c.0 c.1)
@@ -69,7 +69,7 @@ unfolding signal_at
 signal_at-range at t s h =
     let a = bind-Ok (knows (NAME ∷ PARAMS ∷ STATIC ∷ []) at t) _ s h in
     let b = bind-Ok (needed name_of NAME at t) _ s a.2 in
-    let c = bind-Ok (defaulted 0 (number_of 0 8) PARAMS at t) _ s b.2 in
+    let c = bind-Ok (defaulted 0 (integer_between 0 8) PARAMS at t) _ s b.2 in
     let d = bind-Ok (defaulted false flag_of STATIC at t) _ s c.2 in
     let q : SignalDef = record { name = b.0; params = c.0; fixed = d.0 } in
     let same : q ≡ s = ok-same q s d.2 in
@@ -84,7 +84,7 @@ timer_at-range at t r h =
     let a = bind-Ok (knows (NAME ∷ SIGNAL ∷ RATE ∷ []) at t) _ r h in
     let b = bind-Ok (needed name_of NAME at t) _ r a.2 in
     let c = bind-Ok (needed name_of SIGNAL at t) _ r b.2 in
-    let d = bind-Ok (needed (number_of 0 3) RATE at t) _ r c.2 in
+    let d = bind-Ok (needed (integer_between 0 3) RATE at t) _ r c.2 in
     let q : RawTimer = record { name = b.0; signal = c.0; rate = d.0 } in
     let same : q ≡ r = ok-same q r d.2 in
     subst TimerInRange same (needed-range 0 3 RATE at t d.0 d.1)
@@ -98,10 +98,10 @@ object_at-range at t o h =
     let a = bind-Ok (knows (NAME ∷ CHART ∷ PRIORITY ∷ THRESHOLD ∷ QUEUE ∷ DEFER ∷ VARS ∷ []) at t) _ o h in
     let b = bind-Ok (needed name_of NAME at t) _ o a.2 in
     let c = bind-Ok (needed name_of CHART at t) _ o b.2 in
-    let d = bind-Ok (needed (number_of 1 32) PRIORITY at t) _ o c.2 in
-    let e = bind-Ok (defaulted d.0 (number_of 1 32) THRESHOLD at t) _ o d.2 in
-    let f = bind-Ok (needed (number_of 0 255) QUEUE at t) _ o e.2 in
-    let g = bind-Ok (defaulted 0 (number_of 0 255) DEFER at t) _ o f.2 in
+    let d = bind-Ok (needed (integer_between 1 32) PRIORITY at t) _ o c.2 in
+    let e = bind-Ok (defaulted d.0 (integer_between 1 32) THRESHOLD at t) _ o d.2 in
+    let f = bind-Ok (needed (integer_between 0 255) QUEUE at t) _ o e.2 in
+    let g = bind-Ok (defaulted 0 (integer_between 0 255) DEFER at t) _ o f.2 in
     let i = bind-Ok (defaulted [] (vars_of None) VARS at t) _ o g.2 in
     let q : RawObject = record { name = b.0; chart = c.0; priority = d.0; threshold = e.0; queue = f.0; defer = g.0; vars = i.0 } in
     let same : q ≡ o = ok-same q o i.2 in

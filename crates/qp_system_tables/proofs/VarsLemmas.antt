@@ -12,7 +12,7 @@ use Rattle.qp_chart_names.specs.Faults.{Fault}
 use Rattle.qp_system_tables.specs.declared.fault.SystemFault.{SystemFault}
 use Rattle.qp_system_tables.specs.Tree.{◌>>=◌}
 use Rattle.qp_system_tables.specs.Values.{allowed, named_vars, all_integers}
-use Rattle.qp_system_tables.specs.Refused.{Fails}
+use Rattle.qp_system_tables.specs.Refused.{ReadFails}
 use Rattle.qp_system_tables.specs.Front.{with_front}
 use Rattle.qp_system_tables.proofs.FrontLemmas.{Fails-through, with_front-more, with_front-end, option-front-more, option-front-none}
 
@@ -44,7 +44,7 @@ named-end place = refl
 
 -- a variable whose key is no name
 pub named-refused : (place : List Part) (front : List (List ℕ × ℤ)) (i : ℕ) (vars : List Pair) (d : Pair) (e : SystemFault) (whole : Result (List (List ℕ × ℤ)) Fault)
-    → i < length vars → with_front front (named_vars place (map pair_view (drop i vars))) ≡ whole → Fails e (allowed place (get_or vars i d).0.now) → Fails e whole
+    → i < length vars → with_front front (named_vars place (map pair_view (drop i vars))) ≡ whole → ReadFails e (allowed place (get_or vars i d).0.now) → ReadFails e whole
 named-refused place front i vars d e whole h invariant refused =
     Fails-through e (allowed place (get_or vars i d).0.now) whole refused
     (λ f found.

@@ -11,12 +11,12 @@ abbrev pub fault_at : ℕ → List Part → SystemFault
 fault_at code parts = At code (record { 0 = record { items = parts } })
 
 -- what is refused is the fault, unless memory ran out
-abbrev pub Fails : {Y : Type 0} → SystemFault → Result Y Fault → Type 0
-Fails Memory read = ⊤
-Fails NotToml read = ⊥
-Fails (At code path) read = read ≡ Err (record { code = code; path = path.0.items })
+abbrev pub ReadFails : {Y : Type 0} → SystemFault → Result Y Fault → Type 0
+ReadFails Memory read = ⊤
+ReadFails NotToml read = ⊥
+ReadFails (At code path) read = read ≡ Err (record { code = code; path = path.0.items })
 
 -- what was read, seen by view, is what reading gives, unless memory ran out
-abbrev pub Gives : {X Y : Type 0} → (X → Y) → Result X SystemFault → Result Y Fault → Type 0
-Gives view (Ok x) read = read ≡ Ok (view x)
-Gives view (Err e) read = Fails e read
+abbrev pub ReadsAs : {X Y : Type 0} → (X → Y) → Result X SystemFault → Result Y Fault → Type 0
+ReadsAs view (Ok x) read = read ≡ Ok (view x)
+ReadsAs view (Err e) read = ReadFails e read

@@ -18,7 +18,7 @@ use Rattle.qp_chart_names.specs.declared.raw.RawChart.{RawChart}
 use Rattle.qp_system_tables.specs.declared.raw.RawObject.{RawObject}
 use Rattle.qp_system_tables.specs.declared.raw.RawSystem.{RawSystem}
 use Rattle.qp_system_tables.specs.Tree.{◌>>=◌, refuse, at_key, knows, needed, defaulted, optional, each}
-use Rattle.qp_system_tables.specs.Values.{number_of, name_of, text_of, flag_of, texts_of, vars_of, tables_of}
+use Rattle.qp_system_tables.specs.Values.{integer_between, name_of, text_of, flag_of, texts_of, vars_of, tables_of}
 
 -- a list of tables, each of which is read in turn right after the list itself
 abbrev pub read_tables : {A : Type 0} → (List Part → Members → Result A Fault) → List Part → Result (List Members) Fault → Result (List A) Fault
@@ -27,15 +27,15 @@ read_tables read place tables = tables >>= λ ts. each read place 1 ts
 unfoldable pub pool_at : List Part → Members → Result PoolDef Fault
 pool_at at table = do
   _ ← knows (SIZE ∷ BLOCKS ∷ []) at table
-  size ← needed (number_of 0 8) SIZE at table
-  blocks ← needed (number_of 1 32) BLOCKS at table
+  size ← needed (integer_between 0 8) SIZE at table
+  blocks ← needed (integer_between 1 32) BLOCKS at table
   Ok (record { size = size; blocks = blocks })
 
 unfoldable pub signal_at : List Part → Members → Result SignalDef Fault
 signal_at at table = do
   _ ← knows (NAME ∷ PARAMS ∷ STATIC ∷ []) at table
   name ← needed name_of NAME at table
-  params ← defaulted 0 (number_of 0 8) PARAMS at table
+  params ← defaulted 0 (integer_between 0 8) PARAMS at table
   fixed ← defaulted false flag_of STATIC at table
   Ok (record { name = name; params = params; fixed = fixed })
 
@@ -44,11 +44,11 @@ timer_at at table = do
   _ ← knows (NAME ∷ SIGNAL ∷ RATE ∷ []) at table
   name ← needed name_of NAME at table
   signal ← needed name_of SIGNAL at table
-  rate ← needed (number_of 0 3) RATE at table
+  rate ← needed (integer_between 0 3) RATE at table
   Ok (record { name = name; signal = signal; rate = rate })
 
-unfoldable pub row_at : List Part → Members → Result RawRow Fault
-row_at at table = do
+unfoldable pub read_row : List Part → Members → Result RawRow Fault
+read_row at table = do
   _ ← knows (ON ∷ WHEN ∷ DO ∷ TO ∷ []) at table
   on ← needed name_of ON at table
   when ← optional text_of WHEN at table
@@ -79,7 +79,7 @@ state_at at table = do
   exit ← defaulted [] texts_of EXIT at table
   init ← initial (at ++ Key INIT ∷ []) (at_key INIT table) (at_key INIT_DO table)
   init_do ← defaulted [] texts_of INIT_DO at table
-  rows ← read_tables row_at (at ++ Key ROW ∷ []) (defaulted [] (tables_of 0 32) ROW at table)
+  rows ← read_tables read_row (at ++ Key ROW ∷ []) (defaulted [] (tables_of 0 32) ROW at table)
   Ok (record { name = name; parent = parent; entry = entry; exit = exit; init = init; init_do = init_do; row = rows })
 
 unfoldable pub chart_at : List Part → Members → Result RawChart Fault
@@ -98,10 +98,10 @@ object_at at table = do
   _ ← knows (NAME ∷ CHART ∷ PRIORITY ∷ THRESHOLD ∷ QUEUE ∷ DEFER ∷ VARS ∷ []) at table
   name ← needed name_of NAME at table
   chart ← needed name_of CHART at table
-  priority ← needed (number_of 1 32) PRIORITY at table
-  threshold ← defaulted priority (number_of 1 32) THRESHOLD at table
-  queue ← needed (number_of 0 255) QUEUE at table
-  defer ← defaulted 0 (number_of 0 255) DEFER at table
+  priority ← needed (integer_between 1 32) PRIORITY at table
+  threshold ← defaulted priority (integer_between 1 32) THRESHOLD at table
+  queue ← needed (integer_between 0 255) QUEUE at table
+  defer ← defaulted 0 (integer_between 0 255) DEFER at table
   vars ← defaulted [] (vars_of None) VARS at table
   Ok (record { name = name; chart = chart; priority = priority; threshold = threshold; queue = queue; defer = defer; vars = vars })
 
@@ -109,7 +109,7 @@ object_at at table = do
 unfoldable pub raw_of : Members → Result RawSystem Fault
 raw_of table = do
   _ ← knows (QP ∷ POOL ∷ SIGNAL ∷ CHART ∷ OBJECT ∷ []) [] table
-  version ← needed (number_of 1 1) QP [] table
+  version ← needed (integer_between 1 1) QP [] table
   pools ← read_tables pool_at (Key POOL ∷ []) (defaulted [] (tables_of 0 15) POOL [] table)
   signals ← read_tables signal_at (Key SIGNAL ∷ []) (defaulted [] (tables_of 0 200) SIGNAL [] table)
   charts ← read_tables chart_at (Key CHART ∷ []) (needed (tables_of 1 32) CHART [] table)

@@ -41,33 +41,33 @@ unfolding all_known
 knows keys at table = if all_known keys table then Ok tt else refuse UNKNOWN at
 
 -- the reading of a value, at the path to it
-abbrev pub Reads : Type 0 → Type 0
-Reads A = List Part → Data → Result A Fault
+abbrev pub Reader : Type 0 → Type 0
+Reader A = List Part → Data → Result A Fault
 
-abbrev pub needed_at : {A : Type 0} → Reads A → List Part → Option Data → Result A Fault
+abbrev pub needed_at : {A : Type 0} → Reader A → List Part → Option Data → Result A Fault
 needed_at read place None = refuse MISSING place
 needed_at read place (Some value) = read place value
 
 -- a key that has to stand
-unfoldable pub needed : {A : Type 0} → Reads A → ℕ → List Part → Members → Result A Fault
+unfoldable pub needed : {A : Type 0} → Reader A → ℕ → List Part → Members → Result A Fault
 unfolding at_key
 needed read key at table = needed_at read (at ++ Key key ∷ []) (at_key key table)
 
-abbrev pub default_at : {A : Type 0} → A → Reads A → List Part → Option Data → Result A Fault
+abbrev pub default_at : {A : Type 0} → A → Reader A → List Part → Option Data → Result A Fault
 default_at default read place None = Ok default
 default_at default read place (Some value) = read place value
 
 -- a key with a default
-unfoldable pub defaulted : {A : Type 0} → A → Reads A → ℕ → List Part → Members → Result A Fault
+unfoldable pub defaulted : {A : Type 0} → A → Reader A → ℕ → List Part → Members → Result A Fault
 unfolding at_key
 defaulted default read key at table = default_at default read (at ++ Key key ∷ []) (at_key key table)
 
-abbrev pub optional_at : {A : Type 0} → Reads A → List Part → Option Data → Result (Option A) Fault
+abbrev pub optional_at : {A : Type 0} → Reader A → List Part → Option Data → Result (Option A) Fault
 optional_at read place None = Ok None
 optional_at read place (Some value) = read place value >>= λ x. Ok (Some x)
 
 -- a key that may be missing
-unfoldable pub optional : {A : Type 0} → Reads A → ℕ → List Part → Members → Result (Option A) Fault
+unfoldable pub optional : {A : Type 0} → Reader A → ℕ → List Part → Members → Result (Option A) Fault
 unfolding at_key
 optional read key at table = optional_at read (at ++ Key key ∷ []) (at_key key table)
 

@@ -15,13 +15,13 @@ abbrev pub within : ℕ → ℕ → List Part → ℤ → Result ℕ Fault
 within least most place (pos n) = if nat_le least n && nat_le n most then Ok n else refuse RANGE place
 within least most place (negsuc n) = refuse RANGE place
 
-abbrev pub number_in : ℕ → ℕ → List Part → Option ℤ → Result ℕ Fault
-number_in least most place None = refuse WRONG_KIND place
-number_in least most place (Some z) = within least most place z
+abbrev pub integer_in : ℕ → ℕ → List Part → Option ℤ → Result ℕ Fault
+integer_in least most place None = refuse WRONG_KIND place
+integer_in least most place (Some z) = within least most place z
 
 -- an integer from least to most
-unfoldable pub number_of : ℕ → ℕ → List Part → Data → Result ℕ Fault
-number_of least most place value = number_in least most place (as_integer value)
+unfoldable pub integer_between : ℕ → ℕ → List Part → Data → Result ℕ Fault
+integer_between least most place value = integer_in least most place (as_integer value)
 
 -- a value of the key's kind
 abbrev pub of_kind : {A : Type 0} → List Part → Option A → Result A Fault

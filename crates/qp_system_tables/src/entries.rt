@@ -7,7 +7,7 @@ ghost use Rattle.toml.specs.View.{table_view};
 ghost use Rattle.qp_chart_names.specs.declared.place.Part.{Part};
 ghost use Rattle.qp_chart_names.specs.declared.place.Part.TheVariants.{Key};
 ghost use Rattle.qp_chart_names.specs.Faults.{Fault};
-ghost use Rattle.qp_system_tables.specs.Refused.{Gives};
+ghost use Rattle.qp_system_tables.specs.Refused.{ReadsAs};
 ghost use Rattle.qp_system_tables.specs.Tree.{each, needed, defaulted};
 ghost use Rattle.qp_system_tables.specs.Tables.{read_tables};
 ghost use Rattle.qp_system_tables.specs.Values.{tables_of};
@@ -19,7 +19,7 @@ use std::alloc::Global;
 use toml::Table;
 
 /// What one table of a list says.
-pub trait Entry: Drop {
+pub trait TableEntry: Drop {
     /// The reading of a table at a path.
     ghost reading: { List Part → Members → Result Self Fault };
 
@@ -29,11 +29,11 @@ pub trait Entry: Drop {
     /// Reads a table.
     fn read(alloc: Global, section: Section) -> Result<Self, SystemFault>
         requires { length section.at.now ≤ depth }
-        ensures { Gives (λ entry. entry) result (reading section.entry.at.now (table_view section.entry.table.now)) };
+        ensures { ReadsAs (λ entry. entry) result (reading section.entry.at.now (table_view section.entry.table.now)) };
 }
 
 /// The entries of a list, in order.
-fn entries<T: Entry>(
+fn entries<T: TableEntry>(
     alloc: Global,
     place: KeyPlace,
     tables: &[&Table],
@@ -41,7 +41,7 @@ fn entries<T: Entry>(
     requires few { length tables.now ≤ 200 }
     requires room { length place.at.now + 2 ≤ T.depth }
     requires shallow { T.depth ≤ 6 }
-    ensures { Gives (λ v. v.items) result (each T.reading (place.entry.at.now ++ Key place.entry.key ∷ []) 1
+    ensures { ReadsAs (λ v. v.items) result (each T.reading (place.entry.at.now ++ Key place.entry.key ∷ []) 1
         (map (λ t. table_view t.now) tables.now)) }
 {
     let mut items = Vec::new(alloc);
@@ -54,7 +54,7 @@ fn entries<T: Entry>(
 }
 
 /// The entries of the list at a key that has to stand.
-pub fn needed_entries<T: Entry>(
+pub fn needed_entries<T: TableEntry>(
     alloc: Global,
     section: Section,
     key: u8,
@@ -63,7 +63,7 @@ pub fn needed_entries<T: Entry>(
     requires few { count.most ≤ 200 }
     requires room { length section.at.now + 2 ≤ T.depth }
     requires shallow { T.depth ≤ 6 }
-    ensures { Gives (λ v. v.items) result (read_tables T.reading (section.entry.at.now ++ Key key ∷ [])
+    ensures { ReadsAs (λ v. v.items) result (read_tables T.reading (section.entry.at.now ++ Key key ∷ [])
         (needed (tables_of count.least count.most) key section.entry.at.now (table_view section.entry.table.now))) }
 {
     let tables = needed_tables(alloc, section, key, count)?;
@@ -71,7 +71,7 @@ pub fn needed_entries<T: Entry>(
 }
 
 /// The entries of the list at a key, none where the key is missing.
-pub fn entries_or_none<T: Entry>(
+pub fn entries_or_none<T: TableEntry>(
     alloc: Global,
     section: Section,
     key: u8,
@@ -80,7 +80,7 @@ pub fn entries_or_none<T: Entry>(
     requires few { most ≤ 200 }
     requires room { length section.at.now + 2 ≤ T.depth }
     requires shallow { T.depth ≤ 6 }
-    ensures { Gives (λ v. v.items) result (read_tables T.reading (section.entry.at.now ++ Key key ∷ [])
+    ensures { ReadsAs (λ v. v.items) result (read_tables T.reading (section.entry.at.now ++ Key key ∷ [])
         (defaulted [] (tables_of 0 most) key section.entry.at.now (table_view section.entry.table.now))) }
 {
     let tables = tables_or_none(alloc, section, key, most)?;

@@ -5,7 +5,7 @@ ghost use Rattle.std.specs.Option.{option_map};
 ghost use Rattle.toml.specs.Data.{as_table};
 ghost use Rattle.toml.specs.View.{view, items_view, table_view};
 ghost use Rattle.qp_chart_names.specs.declared.place.Part.TheVariants.{Key};
-ghost use Rattle.qp_system_tables.specs.Refused.{Gives};
+ghost use Rattle.qp_system_tables.specs.Refused.{ReadsAs};
 ghost use Rattle.qp_system_tables.specs.Tree.{needed, defaulted};
 ghost use Rattle.qp_system_tables.specs.Values.{all_of_kind, tables_of};
 
@@ -45,7 +45,7 @@ fn tables<'a>(
     value: &'a Value,
 ) -> Result<Vec<&'a Table>, SystemFault>
     ensures few { IfOk result (λ v. length v.items ≤ count.most) }
-    ensures exact { Gives (λ v. map (λ t. table_view t.now) v.items) result (tables_of count.least count.most
+    ensures exact { ReadsAs (λ v. map (λ t. table_view t.now) v.items) result (tables_of count.least count.most
         (place.entry.at.now ++ Key place.entry.key ∷ []) (view value.now)) }
 {
     let Some(items) = value.as_array() else {
@@ -67,7 +67,7 @@ pub fn needed_tables<'a>(
     count: Count,
 ) -> Result<Vec<&'a Table>, SystemFault>
     ensures few { IfOk result (λ v. length v.items ≤ count.most) }
-    ensures exact { Gives (λ v. map (λ t. table_view t.now) v.items) result (needed (tables_of count.least count.most) key
+    ensures exact { ReadsAs (λ v. map (λ t. table_view t.now) v.items) result (needed (tables_of count.least count.most) key
         section.entry.at.now (table_view section.entry.table.now)) }
 {
     let place = section.place(key);
@@ -86,7 +86,7 @@ pub fn tables_or_none<'a>(
     most: usize,
 ) -> Result<Vec<&'a Table>, SystemFault>
     ensures few { IfOk result (λ v. length v.items ≤ most) }
-    ensures exact { Gives (λ v. map (λ t. table_view t.now) v.items) result (defaulted [] (tables_of 0 most) key section.entry.at.now
+    ensures exact { ReadsAs (λ v. map (λ t. table_view t.now) v.items) result (defaulted [] (tables_of 0 most) key section.entry.at.now
         (table_view section.entry.table.now)) }
 {
     match section.value(key) {

@@ -3,9 +3,9 @@
 ghost use Rattle.std.specs.Prelude.{◌∷◌, ◌++◌, [], false};
 ghost use Rattle.toml.specs.View.{view, table_view};
 ghost use Rattle.qp_chart_names.specs.declared.place.Part.TheVariants.{Key};
-ghost use Rattle.qp_system_tables.specs.Refused.{Gives};
+ghost use Rattle.qp_system_tables.specs.Refused.{ReadsAs};
 ghost use Rattle.qp_system_tables.specs.Tree.{needed, defaulted};
-ghost use Rattle.qp_system_tables.specs.Values.{number_of, flag_of};
+ghost use Rattle.qp_system_tables.specs.Values.{integer_between, flag_of};
 
 use crate::fault::SystemFault;
 use crate::section::{KeyPlace, Section};
@@ -20,9 +20,9 @@ pub struct Range {
 }
 
 /// An integer in a range.
-#[tactic(auto, unfolding(crate::specs::Values::number_of))]
+#[tactic(auto, unfolding(crate::specs::Values::integer_between))]
 fn number(place: KeyPlace, range: Range, value: &Value) -> Result<u8, SystemFault>
-    ensures { Gives (λ n. n) result (number_of range.least range.most (place.entry.at.now ++ Key place.entry.key ∷ []) (view value.now)) }
+    ensures { ReadsAs (λ n. n) result (integer_between range.least range.most (place.entry.at.now ++ Key place.entry.key ∷ []) (view value.now)) }
 {
     match value.as_integer() {
         None => Err(place.refuse(code::WRONG_KIND)),
@@ -34,7 +34,7 @@ fn number(place: KeyPlace, range: Range, value: &Value) -> Result<u8, SystemFaul
 /// The number at a key that has to stand.
 #[tactic(auto, unfolding(crate::specs::Tree::needed))]
 pub fn needed_number(section: Section, key: u8, range: Range) -> Result<u8, SystemFault>
-    ensures { Gives (λ n. n) result (needed (number_of range.least range.most) key section.entry.at.now
+    ensures { ReadsAs (λ n. n) result (needed (integer_between range.least range.most) key section.entry.at.now
         (table_view section.entry.table.now)) }
 {
     let place = section.place(key);
@@ -47,7 +47,7 @@ pub fn needed_number(section: Section, key: u8, range: Range) -> Result<u8, Syst
 /// The number at a key, or the default where the key is missing.
 #[tactic(auto, unfolding(crate::specs::Tree::defaulted))]
 pub fn number_or(section: Section, key: u8, range: Range, default: u8) -> Result<u8, SystemFault>
-    ensures { Gives (λ n. n) result (defaulted default (number_of range.least range.most) key section.entry.at.now
+    ensures { ReadsAs (λ n. n) result (defaulted default (integer_between range.least range.most) key section.entry.at.now
         (table_view section.entry.table.now)) }
 {
     match section.value(key) {
@@ -58,7 +58,7 @@ pub fn number_or(section: Section, key: u8, range: Range, default: u8) -> Result
 
 #[tactic(auto, unfolding(crate::specs::Values::flag_of))]
 fn flag(place: KeyPlace, value: &Value) -> Result<bool, SystemFault>
-    ensures { Gives (λ b. b) result (flag_of (place.entry.at.now ++ Key place.entry.key ∷ []) (view value.now)) }
+    ensures { ReadsAs (λ b. b) result (flag_of (place.entry.at.now ++ Key place.entry.key ∷ []) (view value.now)) }
 {
     match value.as_bool() {
         None => Err(place.refuse(code::WRONG_KIND)),
@@ -69,7 +69,7 @@ fn flag(place: KeyPlace, value: &Value) -> Result<bool, SystemFault>
 /// The boolean at a key, false where the key is missing.
 #[tactic(auto, unfolding(crate::specs::Tree::defaulted))]
 pub fn flag_or_false(section: Section, key: u8) -> Result<bool, SystemFault>
-    ensures { Gives (λ b. b) result (defaulted false flag_of key section.entry.at.now (table_view section.entry.table.now)) }
+    ensures { ReadsAs (λ b. b) result (defaulted false flag_of key section.entry.at.now (table_view section.entry.table.now)) }
 {
     match section.value(key) {
         None => Ok(false),

@@ -1,10 +1,10 @@
 //! Objects, and the whole file.
 
 ghost use Rattle.toml.specs.View.{table_view};
-ghost use Rattle.qp_system_tables.specs.Refused.{Gives};
+ghost use Rattle.qp_system_tables.specs.Refused.{ReadsAs};
 ghost use Rattle.qp_system_tables.specs.Tables.{object_at, raw_of};
 
-use crate::entries::{Entry, entries_or_none, needed_entries};
+use crate::entries::{TableEntry, entries_or_none, needed_entries};
 use crate::fault::SystemFault;
 use crate::lists::Count;
 use crate::numbers::{Range, needed_number, number_or};
@@ -27,7 +27,7 @@ const LENGTHS: Range = Range {
 /// How many charts and objects a file has.
 const PARTS: Count = Count { least: 1, most: 32 };
 
-impl Entry for RawObject {
+impl TableEntry for RawObject {
     ghost reading = { object_at };
 
     ghost depth = { 6 };
@@ -65,7 +65,7 @@ impl Entry for RawObject {
 /// The system of a tree, with its names not looked up.
 #[tactic(auto, unfolding(crate::specs::Tables::raw_of))]
 pub fn raw_system(alloc: Global, table: &Table) -> Result<RawSystem, SystemFault>
-    ensures { Gives (λ raw. raw) result (raw_of (table_view table.now)) }
+    ensures { ReadsAs (λ raw. raw) result (raw_of (table_view table.now)) }
 {
     let section = Section { at: &[], table };
     section.knows(&[key::QP, key::POOL, key::SIGNAL, key::CHART, key::OBJECT])?;

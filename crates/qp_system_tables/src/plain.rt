@@ -2,7 +2,7 @@
 
 ghost use Rattle.qp_system_tables.specs.Tables.{pool_at, signal_at};
 
-use crate::entries::Entry;
+use crate::entries::TableEntry;
 use crate::fault::SystemFault;
 use crate::numbers::{Range, flag_or_false, needed_number, number_or};
 use crate::section::Section;
@@ -11,7 +11,7 @@ use qp_chart::key;
 use qp_model::{PoolDef, SignalDef};
 use std::alloc::Global;
 
-impl Entry for PoolDef {
+impl TableEntry for PoolDef {
     ghost reading = { pool_at };
 
     ghost depth = { 6 };
@@ -25,7 +25,7 @@ impl Entry for PoolDef {
     }
 }
 
-impl Entry for SignalDef {
+impl TableEntry for SignalDef {
     ghost reading = { signal_at };
 
     ghost depth = { 6 };

@@ -1,8 +1,8 @@
 //! Time events and rows.
 
-ghost use Rattle.qp_system_tables.specs.Tables.{timer_at, row_at};
+ghost use Rattle.qp_system_tables.specs.Tables.{timer_at, read_row};
 
-use crate::entries::Entry;
+use crate::entries::TableEntry;
 use crate::fault::SystemFault;
 use crate::numbers::{Range, needed_number};
 use crate::section::Section;
@@ -10,7 +10,7 @@ use crate::texts::{needed_name, optional_name, optional_text, texts_or_none};
 use qp_chart::{RawRow, RawTimer, key};
 use std::alloc::Global;
 
-impl Entry for RawTimer {
+impl TableEntry for RawTimer {
     ghost reading = { timer_at };
 
     ghost depth = { 6 };
@@ -25,12 +25,12 @@ impl Entry for RawTimer {
     }
 }
 
-impl Entry for RawRow {
-    ghost reading = { row_at };
+impl TableEntry for RawRow {
+    ghost reading = { read_row };
 
     ghost depth = { 6 };
 
-    #[tactic(auto, unfolding(crate::specs::Tables::row_at))]
+    #[tactic(auto, unfolding(crate::specs::Tables::read_row))]
     fn read(alloc: Global, section: Section) -> Result<RawRow, SystemFault> {
         section.knows(&[key::ON, key::WHEN, key::DO, key::TO])?;
         let on = needed_name(section, key::ON)?;

@@ -5,11 +5,11 @@ ghost use Rattle.std.specs.Option.{option_map};
 ghost use Rattle.toml.specs.View.{table_view, view};
 ghost use Rattle.qp_chart_names.specs.declared.place.Part.TheVariants.{Key};
 ghost use Rattle.qp_chart_names.specs.Keys as key;
-ghost use Rattle.qp_system_tables.specs.Refused.{Gives};
+ghost use Rattle.qp_system_tables.specs.Refused.{ReadsAs};
 ghost use Rattle.qp_system_tables.specs.Tree.{at_key};
 ghost use Rattle.qp_system_tables.specs.Tables.{initial, has_items, state_at, chart_at};
 
-use crate::entries::{Entry, entries_or_none, needed_entries};
+use crate::entries::{TableEntry, entries_or_none, needed_entries};
 use crate::fault::SystemFault;
 use crate::lists::Count;
 use crate::section::Section;
@@ -34,7 +34,7 @@ fn is_filled_list(value: Option<&Value>) -> bool
 
 /// The initial state of a state, which has to stand where the state has initial actions.
 fn initial_name(section: Section) -> Result<Option<Name>, SystemFault>
-    ensures { Gives (option_map (λ name. name)) result (initial (section.entry.at.now ++ Key key.INIT ∷ [])
+    ensures { ReadsAs (option_map (λ name. name)) result (initial (section.entry.at.now ++ Key key.INIT ∷ [])
         (at_key key.INIT (table_view section.entry.table.now)) (at_key key.INIT_DO (table_view section.entry.table.now))) }
 {
     let place = section.place(key::INIT);
@@ -45,7 +45,7 @@ fn initial_name(section: Section) -> Result<Option<Name>, SystemFault>
     }
 }
 
-impl Entry for RawState {
+impl TableEntry for RawState {
     ghost reading = { state_at };
 
     ghost depth = { 4 };
@@ -80,7 +80,7 @@ impl Entry for RawState {
     }
 }
 
-impl Entry for RawChart {
+impl TableEntry for RawChart {
     ghost reading = { chart_at };
 
     ghost depth = { 2 };

@@ -5,7 +5,7 @@ ghost use Rattle.std.specs.Option.{option_map};
 ghost use Rattle.toml.specs.Data.{as_str};
 ghost use Rattle.toml.specs.View.{view, items_view, table_view};
 ghost use Rattle.qp_chart_names.specs.declared.place.Part.TheVariants.{Key};
-ghost use Rattle.qp_system_tables.specs.Refused.{Gives};
+ghost use Rattle.qp_system_tables.specs.Refused.{ReadsAs};
 ghost use Rattle.qp_system_tables.specs.Tree.{needed, defaulted, optional};
 ghost use Rattle.qp_system_tables.specs.Values.{allowed, name_of, text_of, all_of_kind, items_of_kind, short_texts, some_texts, texts_of};
 
@@ -19,7 +19,7 @@ use toml::Value;
 /// A text that has to be a name.
 #[tactic(auto, unfolding(crate::specs::Values::allowed))]
 pub fn allowed_name(place: KeyPlace, text: &str) -> Result<Name, SystemFault>
-    ensures { Gives (λ name. name) result (allowed (place.entry.at.now ++ Key place.entry.key ∷ []) text.now) }
+    ensures { ReadsAs (λ name. name) result (allowed (place.entry.at.now ++ Key place.entry.key ∷ []) text.now) }
 {
     match Name::from(text) {
         Ok(name) if is_allowed(text) => Ok(name),
@@ -30,7 +30,7 @@ pub fn allowed_name(place: KeyPlace, text: &str) -> Result<Name, SystemFault>
 /// A name.
 #[tactic(auto, unfolding(crate::specs::Values::name_of))]
 pub fn name(place: KeyPlace, value: &Value) -> Result<Name, SystemFault>
-    ensures { Gives (λ name. name) result (name_of (place.entry.at.now ++ Key place.entry.key ∷ []) (view value.now)) }
+    ensures { ReadsAs (λ name. name) result (name_of (place.entry.at.now ++ Key place.entry.key ∷ []) (view value.now)) }
 {
     match value.as_str() {
         None => Err(place.refuse(code::WRONG_KIND)),
@@ -41,7 +41,7 @@ pub fn name(place: KeyPlace, value: &Value) -> Result<Name, SystemFault>
 /// The name at a key that has to stand.
 #[tactic(auto, unfolding(crate::specs::Tree::needed))]
 pub fn needed_name(section: Section, key: u8) -> Result<Name, SystemFault>
-    ensures { Gives (λ name. name) result (needed name_of key section.entry.at.now (table_view section.entry.table.now)) }
+    ensures { ReadsAs (λ name. name) result (needed name_of key section.entry.at.now (table_view section.entry.table.now)) }
 {
     let place = section.place(key);
     match section.value(key) {
@@ -53,7 +53,7 @@ pub fn needed_name(section: Section, key: u8) -> Result<Name, SystemFault>
 /// The name at a key that may be missing.
 #[tactic(auto, unfolding(crate::specs::Tree::optional))]
 pub fn optional_name(section: Section, key: u8) -> Result<Option<Name>, SystemFault>
-    ensures { Gives (option_map (λ name. name)) result (optional name_of key section.entry.at.now
+    ensures { ReadsAs (option_map (λ name. name)) result (optional name_of key section.entry.at.now
         (table_view section.entry.table.now)) }
 {
     match section.value(key) {
@@ -65,7 +65,7 @@ pub fn optional_name(section: Section, key: u8) -> Result<Option<Name>, SystemFa
 /// A text of at most 200 bytes.
 #[tactic(auto, unfolding(crate::specs::Values::text_of))]
 fn text(alloc: Global, place: KeyPlace, value: &Value) -> Result<Text, SystemFault>
-    ensures { Gives (λ text. text) result (text_of (place.entry.at.now ++ Key place.entry.key ∷ []) (view value.now)) }
+    ensures { ReadsAs (λ text. text) result (text_of (place.entry.at.now ++ Key place.entry.key ∷ []) (view value.now)) }
 {
     match value.as_str() {
         None => Err(place.refuse(code::WRONG_KIND)),
@@ -79,7 +79,7 @@ fn text(alloc: Global, place: KeyPlace, value: &Value) -> Result<Text, SystemFau
 /// The text at a key that may be missing.
 #[tactic(auto, unfolding(crate::specs::Tree::optional))]
 pub fn optional_text(alloc: Global, section: Section, key: u8) -> Result<Option<Text>, SystemFault>
-    ensures { Gives (λ text. text) result (optional text_of key section.entry.at.now (table_view section.entry.table.now)) }
+    ensures { ReadsAs (λ text. text) result (optional text_of key section.entry.at.now (table_view section.entry.table.now)) }
 {
     match section.value(key) {
         None => Ok(None),
@@ -104,7 +104,7 @@ fn strings(alloc: Global, items: &[Value]) -> Result<Option<Vec<&str>>, AllocErr
 /// Copies of texts of at most 200 bytes each.
 fn copies(alloc: Global, place: KeyPlace, texts: &[&str]) -> Result<Texts, SystemFault>
     requires { length texts.now ≤ 16 }
-    ensures { Gives (λ t. t) result (short_texts (place.entry.at.now ++ Key place.entry.key ∷ []) 1 (map (λ s. s.now) texts.now)) }
+    ensures { ReadsAs (λ t. t) result (short_texts (place.entry.at.now ++ Key place.entry.key ∷ []) 1 (map (λ s. s.now) texts.now)) }
 {
     let mut items = Vec::new(alloc);
     for (i, text) in texts.iter().enumerate() {
@@ -134,7 +134,7 @@ fn strings_in(alloc: Global, value: &Value) -> Result<Option<Vec<&str>>, AllocEr
 
 /// Copies of at most 16 texts.
 fn few_copies(alloc: Global, place: KeyPlace, texts: &[&str]) -> Result<Texts, SystemFault>
-    ensures { Gives (λ t. t) result (some_texts (place.entry.at.now ++ Key place.entry.key ∷ []) (Some (map (λ s. s.now) texts.now))) }
+    ensures { ReadsAs (λ t. t) result (some_texts (place.entry.at.now ++ Key place.entry.key ∷ []) (Some (map (λ s. s.now) texts.now))) }
 {
     if texts.len() > 16 {
         Err(place.refuse(code::TOO_MANY))
@@ -146,7 +146,7 @@ fn few_copies(alloc: Global, place: KeyPlace, texts: &[&str]) -> Result<Texts, S
 /// An action list.
 #[tactic(auto, unfolding(crate::specs::Values::texts_of))]
 fn texts(alloc: Global, place: KeyPlace, value: &Value) -> Result<Texts, SystemFault>
-    ensures { Gives (λ t. t) result (texts_of (place.entry.at.now ++ Key place.entry.key ∷ []) (view value.now)) }
+    ensures { ReadsAs (λ t. t) result (texts_of (place.entry.at.now ++ Key place.entry.key ∷ []) (view value.now)) }
 {
     match strings_in(alloc, value)? {
         None => Err(place.refuse(code::WRONG_KIND)),
@@ -157,7 +157,7 @@ fn texts(alloc: Global, place: KeyPlace, value: &Value) -> Result<Texts, SystemF
 /// The action list at a key, empty where the key is missing.
 #[tactic(auto, unfolding(crate::specs::Tree::defaulted))]
 pub fn texts_or_none(alloc: Global, section: Section, key: u8) -> Result<Texts, SystemFault>
-    ensures { Gives (λ t. t) result (defaulted [] texts_of key section.entry.at.now (table_view section.entry.table.now)) }
+    ensures { ReadsAs (λ t. t) result (defaulted [] texts_of key section.entry.at.now (table_view section.entry.table.now)) }
 {
     match section.value(key) {
         None => Ok(Texts {

@@ -5,7 +5,7 @@ ghost use Rattle.std.specs.Option.{option_and_then, option_map};
 ghost use Rattle.toml.specs.Data.{as_table};
 ghost use Rattle.toml.specs.View.{view, table_view};
 ghost use Rattle.qp_chart_names.specs.declared.place.Part.TheVariants.{Key};
-ghost use Rattle.qp_system_tables.specs.Refused.{Gives};
+ghost use Rattle.qp_system_tables.specs.Refused.{ReadsAs};
 ghost use Rattle.qp_system_tables.specs.Tree.{defaulted};
 ghost use Rattle.qp_system_tables.specs.Values.{all_integers, is_above, named_vars, some_vars, vars_of};
 
@@ -32,7 +32,7 @@ fn integers(alloc: Global, table: &Table) -> Result<Option<Vec<(&str, i64)>>, Al
 
 /// Variables, each of whose keys has to be a name.
 fn named(alloc: Global, place: KeyPlace, vars: &[(&str, i64)]) -> Result<Vars, SystemFault>
-    ensures { Gives (λ vars. vars) result (named_vars (place.entry.at.now ++ Key place.entry.key ∷ []) (map (λ x. (x.0.now, x.1)) vars.now)) }
+    ensures { ReadsAs (λ vars. vars) result (named_vars (place.entry.at.now ++ Key place.entry.key ∷ []) (map (λ x. (x.0.now, x.1)) vars.now)) }
 {
     let mut items = Vec::new(alloc);
     for (text, first) in vars {
@@ -70,7 +70,7 @@ fn few_named(
     most: Option<usize>,
     vars: &[(&str, i64)],
 ) -> Result<Vars, SystemFault>
-    ensures { Gives (λ vars. vars) result (some_vars most (place.entry.at.now ++ Key place.entry.key ∷ [])
+    ensures { ReadsAs (λ vars. vars) result (some_vars most (place.entry.at.now ++ Key place.entry.key ∷ [])
         (Some (map (λ x. (x.0.now, x.1)) vars.now))) }
 {
     if is_more(most, vars.len()) {
@@ -88,7 +88,7 @@ fn vars(
     most: Option<usize>,
     value: &Value,
 ) -> Result<Vars, SystemFault>
-    ensures { Gives (λ vars. vars) result (vars_of most (place.entry.at.now ++ Key place.entry.key ∷ []) (view value.now)) }
+    ensures { ReadsAs (λ vars. vars) result (vars_of most (place.entry.at.now ++ Key place.entry.key ∷ []) (view value.now)) }
 {
     match integers_in(alloc, value)? {
         None => Err(place.refuse(code::WRONG_KIND)),
@@ -104,7 +104,7 @@ pub fn vars_or_none(
     key: u8,
     most: Option<usize>,
 ) -> Result<Vars, SystemFault>
-    ensures { Gives (λ vars. vars) result (defaulted [] (vars_of most) key section.entry.at.now (table_view section.entry.table.now)) }
+    ensures { ReadsAs (λ vars. vars) result (defaulted [] (vars_of most) key section.entry.at.now (table_view section.entry.table.now)) }
 {
     match section.value(key) {
         None => Ok(Vars {

@@ -13,10 +13,10 @@ use Rattle.qp_model.specs.FreeBlocks.{Pool}
 use Rattle.qp_model.specs.WordLaw.{is_block}
 use Rattle.qp_table.specs.Counting.{Each, total, many, without}
 use Rattle.qp_table.specs.Now.{Now, at_two, with_given}
-use Rattle.qp_table.specs.Rule.{event_at, cell_at, is_fill, fills_of, is_value, gives_of, IsContent, HasEvent, Tells, Beside, is_spot, spots, Tokens, Events, Holds}
+use Rattle.qp_table.specs.Rule.{event_word_at, cell_at, is_fill, fills_of, is_value, gives_of, IsContent, HasEvent, Tells, Beside, is_spot, spots, Tokens, Events, Holds}
 use Rattle.qp_table.specs.After.{spot, begun_give, fills_for, filled}
 use Rattle.qp_table.specs.declared.view.Fill.{Fill}
-use Rattle.qp_table.specs.declared.view.Give.{Give}
+use Rattle.qp_table.specs.declared.view.PendingGive.{PendingGive}
 use Rattle.qp_table.specs.declared.view.View.{View}
 use Rattle.qp_table.proofs.Counting.{each-snoc, total-set, total-at, total-le, alone-total, many-snoc, many-without, total-append, cond-le}
 use Rattle.qp_table.proofs.Growing.{two-here, two-else, two-each}
@@ -104,17 +104,17 @@ module _ (sys : System) (words after : List ℕ) (views : List View) (now : Now)
   abbrev next : Now
   next = with_given now p s b from (sig ∷ pars)
 
-  tells-case : (g : Give) (x y : Bool) → eqb p g.pool ≡ x → eqb b g.block ≡ y → gives_of p b g ≡ false → (g.pool ≢ p) ⊎ (g.block ≢ b)
+  tells-case : (g : PendingGive) (x y : Bool) → eqb p g.pool ≡ x → eqb b g.block ≡ y → gives_of p b g ≡ false → (g.pool ≢ p) ⊎ (g.block ≢ b)
   tells-case g true true e f other = let z : gives_of p b g ≡ true = (λ i. eq-eqb g.pool p (sym (eqb-true p g.pool e)) i && eq-eqb g.block b (sym (eqb-true b g.block f)) i) in absurd (true≢false (sym z ∙ other))
   tells-case g true false e f other = inr (λ q. absurd (true≢false (sym (eq-eqb b g.block (sym q)) ∙ f)))
   tells-case g false y e f other = inl (λ q. absurd (true≢false (sym (eq-eqb p g.pool (sym q)) ∙ e)))
 
-  none-given : (g : Give) (t : Bool) → gives_of p b g ≡ t → b2n t ≡ 0 → (g.pool ≢ p) ⊎ (g.block ≢ b)
+  none-given : (g : PendingGive) (t : Bool) → gives_of p b g ≡ t → b2n t ≡ 0 → (g.pool ≢ p) ⊎ (g.block ≢ b)
   none-given g true e z = absurd (omega arith)
   none-given g false e z = tells-case g (eqb p g.pool) (eqb b g.block) refl refl e
 
   -- gives of other blocks know their contents still
-  tells-else : (gs : List Give) → many (gives_of p b) gs ≡ 0 → Each (Tells now) gs → Each (Tells next) gs
+  tells-else : (gs : List PendingGive) → many (gives_of p b) gs ≡ 0 → Each (Tells now) gs → Each (Tells next) gs
   tells-else [] z e = tt
   tells-else (g ∷ gs) z e = (e.0 ∙ sym (two-else p b (sig ∷ pars) now.content g.pool g.block (none-given g (gives_of p b g) refl (omega arith))), tells-else gs (omega arith) e.1)
 
@@ -127,9 +127,9 @@ module _ (sys : System) (words after : List ℕ) (views : List View) (now : Now)
       let unfresh : spots (λ z. z.fresh) views p b ≡ 0 = (let t = tokens.place p b in let f = ap b2n was in let k = ap b2n block in omega arith) in
       let unfilled : total (λ (z : View). many (fills_of p b) z.fills) views ≡ 0 = (let f = fills-fresh sys words views now id v at_id tokens events p b in omega arith) in record {
         few = λ q c h. each-two (λ q c. IsTrue (is_block sys q c) → length (next.content q c) ≤ 9) p b (λ _. rw here (omega arith)) (λ q c n k. rw (else q c n) (events.few q c k)) q c h;
-        word = λ q c j h l none_left. each-two (λ q c. IsTrue (is_block sys q c) → j < length (next.content q c) → total (λ (z : View). many (is_fill q c j) z.fills) (set views id u) ≡ 0 → get_or after (event_at q c j) 0 ≡ get_or (next.content q c) j 0) p b
+        word = λ q c j h l none_left. each-two (λ q c. IsTrue (is_block sys q c) → j < length (next.content q c) → total (λ (z : View). many (is_fill q c j) z.fills) (set views id u) ≡ 0 → get_or after (event_word_at q c j) 0 ≡ get_or (next.content q c) j 0) p b
             (λ _ l gone. let lt : j < length (sig ∷ pars) = subst (λ (x : List ℕ). j < length x) here l in let t = fills-there p b j 0 (sig ∷ pars) (omega arith) (omega arith) in let g = sum (is_fill p b j) in absurd (omega arith))
-            (λ q c n k l gone. stay (event_at q c j) (omega arith) ∙ (events.word q c j k (subst (λ (x : List ℕ). j < length x) (else q c n) l) (let g = sum (is_fill q c j) in omega arith) ∙ ap (λ (x : List ℕ). get_or x j 0) (sym (else q c n)))) q c h l none_left;
+            (λ q c n k l gone. stay (event_word_at q c j) (omega arith) ∙ (events.word q c j k (subst (λ (x : List ℕ). j < length x) (else q c n) l) (let g = sum (is_fill q c j) in omega arith) ∙ ap (λ (x : List ℕ). get_or x j 0) (sym (else q c n)))) q c h l none_left;
         right = λ q c j n ne. each-two (λ q c. n ≢ get_or (next.content q c) j 0 → total (λ (z : View). many (is_value q c j n) z.fills) (set views id u) ≡ 0) p b
             (λ no. let g = sum (is_value p b j n) in let r = value-right p b j n 0 (sig ∷ pars) (omega arith) (λ e. no (e ∙ (let z : j - 0 ≡ j = omega arith in ap (λ i. get_or (sig ∷ pars) i 0) z) ∙ ap (λ (x : List ℕ). get_or x j 0) (sym here))) in
             let le = total-le (λ (z : View). many (is_value p b j n) z.fills) (λ (z : View). many (fills_of p b) z.fills) views (λ i z e. value-le p b j n z.fills) in omega arith)
@@ -166,7 +166,7 @@ module _ (sys : System) (words : List ℕ) (views : List View) (holds : Holds sy
   now = holds.now
 
   -- Who holds a reference reads what the block was given last
-  pub reads : (k j : ℕ) → 0 < many (λ x. (eqb x.pool p && eqb x.block b) && eqb x.name k) v.hands → j < length (now.content p b) → get_or words (event_at p b j) 0 ≡ get_or (now.content p b) j 0
+  pub reads : (k j : ℕ) → 0 < many (λ x. (eqb x.pool p && eqb x.block b) && eqb x.name k) v.hands → j < length (now.content p b) → get_or words (event_word_at p b j) 0 ≡ get_or (now.content p b) j 0
   reads k j mine l =
       let z = holds.fitting.pools p b block in let there = held-stands sys views now id v at_id holds.tokens p b k z.0 mine in let alone = standing sys views now id v at_id holds.tokens p b k there in
       let f = fills-fresh sys words views now id v at_id holds.tokens holds.events p b in let o = alone.3 in
@@ -174,24 +174,24 @@ module _ (sys : System) (words : List ℕ) (views : List View) (holds : Holds sy
       holds.events.word p b j block l (omega arith)
 
   -- An event word is written by the lane that was given the block
-  pub fills : (j n : ℕ) → j < 9 → 0 < many (is_value p b j n) v.fills → Holds sys (set words (event_at p b j) n) (set views id (filled v p b j n))
+  pub fills : (j n : ℕ) → j < 9 → 0 < many (is_value p b j n) v.fills → Holds sys (set words (event_word_at p b j) n) (set views id (filled v p b j n))
   fills j n low mine =
       let u : View = filled v p b j n in let wd = holds.shows.wide in let z = holds.fitting.pools p b block in let z1 = z.1 in let z2 = z.2 in
       let value_is : n ≡ get_or (now.content p b) j 0 = dite (ℕ_discrete n (get_or (now.content p b) j 0)) (λ e. e) (λ ne. let r = holds.events.right p b j n ne in let t = total-at (λ (z : View). many (is_value p b j n) z.fills) views id v at_id in absurd (omega arith)) in
       let less : (t : Fill → Bool) → many t (without (is_value p b j n) v.fills) ≤ many t v.fills = (λ t. without-le (is_value p b j n) t v.fills) in
       let sum : (t : Fill → Bool) → total (λ (z : View). many t z.fills) (set views id u) ≤ total (λ (z : View). many t z.fills) views = (λ t. let a = total-set (λ (z : View). many t z.fills) views id v u at_id in let m = less t in omega arith) in
-      let low_words : (y : ℕ) → y < 4488 → get_or (set words (event_at p b j) n) y 0 ≡ get_or words y 0 = (λ y l. get_or-set_other words (event_at p b j) y n 0 (λ e. absurd (omega arith))) in
-      plain-step sys words (set words (event_at p b j) n) views holds id v u at_id holds.items
-      (shows-else sys holds.fitting words now holds.shows (event_at p b j) n (omega arith))
+      let low_words : (y : ℕ) → y < 4488 → get_or (set words (event_word_at p b j) n) y 0 ≡ get_or words y 0 = (λ y l. get_or-set_other words (event_word_at p b j) y n 0 (λ e. absurd (omega arith))) in
+      plain-step sys words (set words (event_word_at p b j) n) views holds id v u at_id holds.items
+      (shows-else sys holds.fitting words now holds.shows (event_word_at p b j) n (omega arith))
       (tokens-set sys views now now id v u at_id holds.tokens (λ q c. refl) (λ q c k l. refl)
       (begun-kept sys views now now id v u at_id holds.tokens refl (λ q c. refl) (λ q c. refl)) (worn-kept sys views now now id v u at_id holds.tokens refl (λ q c. refl) (λ q c. refl)) holds.tokens.named)
       (record {
         few = holds.events.few;
-        word = λ q c i h l gone. dite (ℕ_discrete (event_at q c i) (event_at p b j))
+        word = λ q c i h l gone. dite (ℕ_discrete (event_word_at q c i) (event_word_at p b j))
             (λ e. let y = holds.fitting.pools q c h in let y1 = y.1 in let y2 = y.2 in let fw = holds.events.few q c h in let same_p : q ≡ p = omega arith in let same_b : c ≡ b = omega arith in let same_i : i ≡ j = omega arith in
-            subst (λ (x : ℕ). get_or (set words (event_at p b j) n) x 0 ≡ get_or (now.content q c) i 0) (sym e)
-            (get_or-set_same words (event_at p b j) n 0 (omega arith) ∙ (value_is ∙ (λ t. get_or (now.content (sym same_p t) (sym same_b t)) (sym same_i t) 0))))
-            (λ ne. get_or-set_other words (event_at p b j) (event_at q c i) n 0 ne ∙ holds.events.word q c i h l
+            subst (λ (x : ℕ). get_or (set words (event_word_at p b j) n) x 0 ≡ get_or (now.content q c) i 0) (sym e)
+            (get_or-set_same words (event_word_at p b j) n 0 (omega arith) ∙ (value_is ∙ (λ t. get_or (now.content (sym same_p t) (sym same_b t)) (sym same_i t) 0))))
+            (λ ne. get_or-set_other words (event_word_at p b j) (event_word_at q c i) n 0 ne ∙ holds.events.word q c i h l
             (let a = total-set (λ (z : View). many (is_fill q c i) z.fills) views id v u at_id in
             let m = many-without (is_value p b j n) (is_fill q c i) (is_fill q c i (record { pool = p; block = b; place = j; value = n })) (λ x e. ap (is_fill q c i) (both-fill p b j n x e)) v.fills mine in
             let d : b2n ((eqb p q && eqb b c) && eqb j i) ≡ 0 = not-this q c i ne in omega arith));
@@ -200,13 +200,13 @@ module _ (sys : System) (words : List ℕ) (views : List View) (holds : Holds sy
             (let o = holds.events.beside id v at_id in record { fills = λ q c. let f = o.fills q c in let m = less (fills_of q c) in omega arith; gives = o.gives; told = o.told }) holds.events.beside;
         event = holds.events.event;
       })
-      (queues-kept sys words (set words (event_at p b j) n) views now now holds.items id v u at_id holds.queues (λ a k h l. get_or-set_other words (event_at p b j) (cell_at a k) n 0 (λ e. let y = (holds.fitting.objects a h).0 in absurd (omega arith))) (λ a. refl) refl refl refl (quiet-same v u refl))
+      (queues-kept sys words (set words (event_word_at p b j) n) views now now holds.items id v u at_id holds.queues (λ a k h l. get_or-set_other words (event_word_at p b j) (cell_at a k) n 0 (λ e. let y = (holds.fitting.objects a h).0 in absurd (omega arith))) (λ a. refl) refl refl refl (quiet-same v u refl))
       refl refl
       (λ nothing. let c = (holds.idle id v at_id nothing).fills in let z = ap (many (is_value p b j n)) c in absurd (omega arith))
-      (seen-kept words (set words (event_at p b j) n) views holds.was id v u holds.seen at_id low_words refl)
+      (seen-kept words (set words (event_word_at p b j) n) views holds.was id v u holds.seen at_id low_words refl)
       (holds.contents id v at_id)
     where
-      not-this : (q c i : ℕ) → event_at q c i ≢ event_at p b j → b2n ((eqb p q && eqb b c) && eqb j i) ≡ 0
+      not-this : (q c i : ℕ) → event_word_at q c i ≢ event_word_at p b j → b2n ((eqb p q && eqb b c) && eqb j i) ≡ 0
       not-this q c i ne = go (eqb p q) (eqb b c) (eqb j i) refl refl refl
         where
           go : (x y z : Bool) → eqb p q ≡ x → eqb b c ≡ y → eqb j i ≡ z → b2n ((x && y) && z) ≡ 0
@@ -241,14 +241,14 @@ module _ (sys : System) (words : List ℕ) (views : List View) (holds : Holds sy
         let one = fresh-alone sys views holds.now id v at_id holds.tokens p b mine in let two = total-two (λ (y : View). many (is_spot p b) y.fresh) views id i v z at_id there (λ e. ne (sym e)) in let o4 = one.4 in omega arith)
 
     -- an event word that isn't to be written any more has its value
-    pub written : many (is_fill p b j) v.fills ≡ 0 → get_or words (event_at p b j) 0 ≡ get_or event j 0
+    pub written : many (is_fill p b j) v.fills ≡ 0 → get_or words (event_word_at p b j) 0 ≡ get_or event j 0
     written none_left = holds.events.word p b j block (subst (λ (x : List ℕ). j < length x) told inside) (others-none ∙ none_left) ∙ ap (λ (x : List ℕ). get_or x j 0) (sym told)
 
     -- A word of the give under way is written, the first time or again
-    pub fills_in : (n : ℕ) → n ≡ get_or event j 0 → Holds sys (set words (event_at p b j) n) (set views id (filled v p b j n))
+    pub fills_in : (n : ℕ) → n ≡ get_or event j 0 → Holds sys (set words (event_word_at p b j) n) (set views id (filled v p b j n))
     fills_in n is = dite (ℕ_discrete (many (is_fill p b j) v.fills) 0)
         (λ none_left.
-        let same : set words (event_at p b j) n ≡ words = ap (set words (event_at p b j)) (is ∙ sym (written none_left)) ∙ set-get_or words (event_at p b j) 0 in
+        let same : set words (event_word_at p b j) n ≡ words = ap (set words (event_word_at p b j)) (is ∙ sym (written none_left)) ∙ set-get_or words (event_word_at p b j) 0 in
         let still : filled v p b j n ≡ v = (λ i. record v { fills = without-none (is_value p b j n) v.fills (let le = value-fill p b j n v.fills in omega arith) i }) in
         subst (λ (z : List ℕ × List View). Holds sys z.0 z.1) (λ i. (sym same i, sym (ap (set views id) still ∙ set_again views id v at_id) i)) holds)
         (λ some_left. let z = some-value p b j v.fills (omega arith) in let few = holds.events.few p b block in let l = ap length told in

@@ -23,7 +23,7 @@ use Rattle.qp_table.specs.Counting.{Each, total, many, upto}
 use Rattle.qp_table.specs.Now.{content_from}
 use Rattle.qp_table.specs.Rule.{cell_at, Fitting, Shows, is_log, is_number, Idle, is_spot, Beside, is_ref, is_serve, Served, Serves, mark_in, Holds}
 use Rattle.qp_table.specs.After.{newcomer}
-use Rattle.qp_table.specs.declared.view.Log.{Log}
+use Rattle.qp_table.specs.declared.view.SeatLog.{SeatLog}
 use Rattle.qp_table.specs.declared.view.Serve.{Serve}
 use Rattle.qp_table.specs.declared.view.Glance.{Glance}
 use Rattle.qp_table.specs.declared.view.View.{View}
@@ -149,7 +149,7 @@ opens sys words xs fitting shows cells serves zeros = record {
   shows = shows;
   logs = record {
     count = refl;
-    own = alone-view (λ z. Each (λ (g : Log). get_elem? (replicate 49 []) g.number ≡ some g.recs) z.logs) (newcomer later_lanes xs) (refl, tt);
+    own = alone-view (λ z. Each (λ (g : SeatLog). get_elem? (replicate 49 []) g.number ≡ some g.recs) z.logs) (newcomer later_lanes xs) (refl, tt);
     once = λ n l. let o = lane-once n l in omega arith;
     later = λ n l far. replicate-get 49 n l;
     rights = refl;

@@ -11,8 +11,8 @@ use Rattle.qp_model.specs.Sites.{ring_of}
 use Rattle.qp_model.specs.WordLaw.{is_pool, is_block, is_object}
 use Rattle.qp_table.specs.Counting.{many}
 use Rattle.qp_table.specs.Now.{Now, with_refs, with_line, with_given}
-use Rattle.qp_table.specs.Rule.{event_at, is_fill, is_value, HasEvent, Tells, Beside, Events, is_lifo, is_took, records, Served, pool_at, block_at, queue_at, cell_at, Fitting, pool_value, refs_value, line_value, Shows, InLine, Items, is_item, is_place, is_serve, Queue, Serves, Queues}
-use Rattle.qp_table.specs.declared.view.Log.{Log}
+use Rattle.qp_table.specs.Rule.{event_word_at, is_fill, is_value, HasEvent, Tells, Beside, Events, is_lifo, is_took, records, Served, pool_at, block_at, queue_at, cell_at, Fitting, pool_value, refs_value, line_value, Shows, InLine, Items, is_item, is_place, is_serve, Queue, Serves, Queues}
+use Rattle.qp_table.specs.declared.view.SeatLog.{SeatLog}
 use Rattle.qp_table.specs.declared.view.Serve.{Serve}
 use Rattle.qp_table.specs.declared.view.View.{View}
 use Rattle.qp_table.proofs.Counting.{each-map, total-set}
@@ -77,7 +77,7 @@ queue-same sys n words after a s items stay q = let c = q.some_cell in record {
 }
 
 -- what a lane serves, after a step that changes no line
-pub served-moved : (now next : Now) (old new : List Log) → ((a : ℕ) → next.line a ≡ now.line a) → ((a : ℕ) → records (is_lifo a) new ≡ records (is_lifo a) old) → ((a : ℕ) → records (is_took a) new ≡ records (is_took a) old)
+pub served-moved : (now next : Now) (old new : List SeatLog) → ((a : ℕ) → next.line a ≡ now.line a) → ((a : ℕ) → records (is_lifo a) new ≡ records (is_lifo a) old) → ((a : ℕ) → records (is_took a) new ≡ records (is_took a) old)
     → (x : Serve) → Served now old x → Served next new x
 served-moved now next old new same lifos takes x e = record {
   lifos = ap (λ (t : Line). t.l) (same x.object) ∙ e.lifos;
@@ -137,7 +137,7 @@ pub events-kept : (sys : System) (words after : List ℕ) (views : List View) (n
 events-kept sys words after views now next id v u at_id events stay same fills mine = record {
   few = λ p b h. rw same (events.few p b h);
   word = λ p b j h l none_left. let t = total-set (λ (z : View). many (is_fill p b j) z.fills) views id v u at_id in let e = ap (many (is_fill p b j)) fills in
-      stay (event_at p b j) (omega arith) ∙ (events.word p b j h (subst (λ (c : List ℕ). j < length c) (same p b) l) (omega arith) ∙ ap (λ (c : List ℕ). get_or c j 0) (sym (same p b)));
+      stay (event_word_at p b j) (omega arith) ∙ (events.word p b j h (subst (λ (c : List ℕ). j < length c) (same p b) l) (omega arith) ∙ ap (λ (c : List ℕ). get_or c j 0) (sym (same p b)));
   right = λ p b j n ne. let t = total-set (λ (z : View). many (is_value p b j n) z.fills) views id v u at_id in let e = ap (many (is_value p b j n)) fills in let r = events.right p b j n (λ q. ne (q ∙ ap (λ (c : List ℕ). get_or c j 0) (sym (same p b)))) in omega arith;
   beside = fits-set (Beside now) (Beside next) views id u (λ j z ne there o. beside-moved now next z same o) mine events.beside;
   event = λ p b h. subst (HasEvent sys) (sym (same p b)) (events.event p b h);

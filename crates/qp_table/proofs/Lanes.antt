@@ -13,8 +13,8 @@ use Rattle.qp_table.specs.Counting.{Each, total, many, without}
 use Rattle.qp_table.specs.Now.{Now}
 use Rattle.qp_table.specs.Rule.{Was, is_log, is_number, Logs, Idle, AllIdle, is_spot, is_spot_at, is_ref, is_fill, is_value, fills_of, gives_of, Tells, Beside, is_place, on_queue, is_serve, is_lifo, is_took, records, Served, Serves, IsKnown, AllKnown, Holds}
 use Rattle.qp_table.specs.Whole.{Unused}
-use Rattle.qp_table.specs.After.{passing, failing, nothing, onlooker, granting, granted, handing, handed, joined}
-use Rattle.qp_table.specs.declared.view.Log.{Log}
+use Rattle.qp_table.specs.After.{passing, failing, nothing, onlooker, granting, granted, handing, handed, views_joined}
+use Rattle.qp_table.specs.declared.view.SeatLog.{SeatLog}
 use Rattle.qp_table.specs.declared.view.Spot.{Spot}
 use Rattle.qp_table.specs.declared.view.Fill.{Fill}
 use Rattle.qp_table.specs.declared.view.CellPlace.{CellPlace}
@@ -32,7 +32,7 @@ many-append : {A : Type 0} (t : A → Bool) (xs ys : List A) → many t (xs ++ y
 many-append t xs ys = total-append (λ x. cond (t x) 1 0) xs ys
 
 abbrev Own : List (List Rec) → View → Type 0
-Own lanes v = Each (λ (g : Log). get_elem? lanes g.number ≡ some g.recs) v.logs
+Own lanes v = Each (λ (g : SeatLog). get_elem? lanes g.number ≡ some g.recs) v.logs
 
 -- other views, with the same tokens in all
 pub record SameTokens (other views : List View) : Type 0 where
@@ -206,8 +206,8 @@ each-both : {A : Type 0} (P Q R : A → Type 0) → ((x : A) → P x → Q x →
 each-both P Q R f [] p q = tt
 each-both P Q R f (x ∷ xs) p q = (f x p.0 q.0, each-both P Q R f xs p.1 q.1)
 
-records-append : (t : Rec → Bool) (xs ys : List Log) → records t (xs ++ ys) ≡ records t xs + records t ys
-records-append t xs ys = total-append (λ (g : Log). many t g.recs) xs ys
+records-append : (t : Rec → Bool) (xs ys : List SeatLog) → records t (xs ++ ys) ≡ records t xs + records t ys
+records-append t xs ys = total-append (λ (g : SeatLog). many t g.recs) xs ys
 
 -- One view takes over another
 module _ (sys : System) (words : List ℕ) (views : List View) (holds : Holds sys words views) (id : ℕ) (v : View) (at_id : get_elem? views id ≡ some v) (from : ℕ) (w : View) (apart : from ≢ id) (there : get_elem? views from ≡ some w) where
@@ -217,7 +217,7 @@ module _ (sys : System) (words : List ℕ) (views : List View) (holds : Holds sy
   right : Keeps sys holds.lanes words holds.now holds.was w
   right = keeps sys words views holds from w there
 
-  joined-home : Serves holds.now (joined v w)
+  joined-home : Serves holds.now (views_joined v w)
   joined-home = let p = left.home in let q = right.home in record {
     counts = each-append (Served holds.now (v.logs ++ w.logs)) v.serves w.serves
         (each-both (λ (x : Serve). 0 < many (is_serve x.object) v.serves) (Served holds.now v.logs) (Served holds.now (v.logs ++ w.logs))
@@ -236,14 +236,14 @@ module _ (sys : System) (words : List ℕ) (views : List View) (holds : Holds sy
           lifos_are = let r = records-append (is_lifo x.object) v.logs w.logs in let z = e.lifos_are in omega arith;
           takes_are = let r = records-append (is_took x.object) v.logs w.logs in let z = e.takes_are in omega arith;
         }) w.serves (own-each w.serves w.serves (λ a. omega arith)) q.counts);
-    within = let a = p.within in let b = q.within in let c = total-append (λ (x : Serve). x.lifos + x.takes) v.serves w.serves in let d = total-append (λ (g : Log). length g.recs) v.logs w.logs in omega arith;
+    within = let a = p.within in let b = q.within in let c = total-append (λ (x : Serve). x.lifos + x.takes) v.serves w.serves in let d = total-append (λ (g : SeatLog). length g.recs) v.logs w.logs in omega arith;
     others = λ a h. let s = many-append (is_serve a) v.serves w.serves in let x = p.others a (omega arith) in let y = q.others a (omega arith) in let x0 = x.0 in let x1 = x.1 in let y0 = y.0 in let y1 = y.1 in
         let l = records-append (is_lifo a) v.logs w.logs in let m = records-append (is_took a) v.logs w.logs in (omega arith, omega arith);
     taking = λ a. let x = p.taking a in let y = q.taking a in let c = many-append (on_queue a) v.takes w.takes in let d = many-append (is_serve a) v.serves w.serves in omega arith;
   }
 
-  pub joins : Holds sys words (set (set views id (joined v w)) from nothing)
-  joins = swaps sys words views holds id v at_id from w apart there (joined v w) nothing
+  pub joins : Holds sys words (set (set views id (views_joined v w)) from nothing)
+  joins = swaps sys words views holds id v at_id from w apart there (views_joined v w) nothing
       (record {
         fresh = λ t. let a = many-append t v.fresh w.fresh in omega arith;
         used = λ t. let a = many-append t v.used w.used in omega arith;
@@ -257,7 +257,7 @@ module _ (sys : System) (words : List ℕ) (views : List View) (holds : Holds sy
         rights = let a = length-append v.logs w.logs in let b = length-append v.lane_numbers w.lane_numbers in omega arith;
       })
       (record {
-        own = each-append (λ (g : Log). get_elem? holds.lanes g.number ≡ some g.recs) v.logs w.logs left.own right.own;
+        own = each-append (λ (g : SeatLog). get_elem? holds.lanes g.number ≡ some g.recs) v.logs w.logs left.own right.own;
         idle = λ h. let e = length-append v.logs w.logs in let f = length-append v.lane_numbers w.lane_numbers in let a = left.idle (omega arith) in let b = right.idle (omega arith) in record {
           fresh = λ i. a.fresh i ++ b.fresh i;
           used = λ i. a.used i ++ b.used i;
@@ -334,13 +334,13 @@ module _ (sys : System) (words : List ℕ) (views : List View) (holds : Holds sy
         contents = left.contents;
       })
       (record {
-        own = each-snoc (λ (g : Log). get_elem? holds.lanes g.number ≡ some g.recs) w.logs (record { number = n; recs = [] }) right.own
+        own = each-snoc (λ (g : SeatLog). get_elem? holds.lanes g.number ≡ some g.recs) w.logs (record { number = n; recs = [] }) right.own
             (holds.logs.later n few (let t = total-at (λ (z : View). many (is_number n) z.lane_numbers) views id v at_id in omega arith));
         idle = λ h. let a = length-append w.logs (record { number = n; recs = [] } ∷ []) in absurd (omega arith);
         home = record {
           counts = each-map (Served holds.now w.logs) (Served holds.now (w.logs ++ record { number = n; recs = [] } ∷ []))
               (λ x e. record { lifos = e.lifos; takes = e.takes; few = e.few; lifos_are = e.lifos_are ∙ sym (no-more (is_lifo x.object)); takes_are = e.takes_are ∙ sym (no-more (is_took x.object)) }) w.serves right.home.counts;
-          within = let a = right.home.within in let b = total-append (λ (g : Log). length g.recs) w.logs (record { number = n; recs = [] } ∷ []) in omega arith;
+          within = let a = right.home.within in let b = total-append (λ (g : SeatLog). length g.recs) w.logs (record { number = n; recs = [] } ∷ []) in omega arith;
           others = λ a h. let o = right.home.others a h in (no-more (is_lifo a) ∙ o.0, no-more (is_took a) ∙ o.1);
           taking = right.home.taking;
         };

@@ -23,8 +23,8 @@ use Rattle.qp_table.specs.Counting.{Each, total, many}
 use Rattle.qp_table.specs.Now.{Now, Leaves}
 use Rattle.qp_table.specs.Rule.{pool_at, block_at, queue_at, lifo_on, took_on, gives_of, is_ref, Tells, Tokens, event_in, IsKnown, Holds}
 use Rattle.qp_table.specs.After.{rec_of, ref, learned, glanced, noted, reading, read_by, read_from, HasRoom}
-use Rattle.qp_table.specs.declared.view.Log.{Log}
-use Rattle.qp_table.specs.declared.view.Give.{Give}
+use Rattle.qp_table.specs.declared.view.SeatLog.{SeatLog}
+use Rattle.qp_table.specs.declared.view.PendingGive.{PendingGive}
 use Rattle.qp_table.specs.declared.view.View.{View}
 use Rattle.qp_table.proofs.Records.{short-leaves, no_block-leaves, seen-leaves, nil-leaves, full-leaves, no_entry-leaves, no_lifo-leaves}
 use Rattle.qp_table.proofs.Views.{quiet-same, quiet-noted, seen-looked, seen-kept}
@@ -63,14 +63,14 @@ unfolding item_of body_of body_at
 no_lifo-says o a f l m = refl
 
 -- a read of a life's beginning changes no block and no event
-reading-cons : (q c : ℕ) (t : Bool) (g : Give) → cond {A = ℕ} (gives_of q c (read_by t g)) 1 0 ≡ cond (gives_of q c g) 1 0
+reading-cons : (q c : ℕ) (t : Bool) (g : PendingGive) → cond {A = ℕ} (gives_of q c (read_by t g)) 1 0 ≡ cond (gives_of q c g) 1 0
 reading-cons q c t g = refl
 
-reading-many : (p b q c : ℕ) (gs : List Give) → many (gives_of q c) (reading p b gs) ≡ many (gives_of q c) gs
+reading-many : (p b q c : ℕ) (gs : List PendingGive) → many (gives_of q c) (reading p b gs) ≡ many (gives_of q c) gs
 reading-many p b q c [] = refl
 reading-many p b q c (g ∷ gs) = let r = reading-many p b q c gs in let h = reading-cons q c (gives_of p b g) g in omega arith
 
-reading-told : (p b : ℕ) (now : Now) (gs : List Give) → Each (Tells now) gs → Each (Tells now) (reading p b gs)
+reading-told : (p b : ℕ) (now : Now) (gs : List PendingGive) → Each (Tells now) gs → Each (Tells now) (reading p b gs)
 reading-told p b now [] e = tt
 reading-told p b now (g ∷ gs) e = (e.0, reading-told p b now gs e.1)
 
@@ -133,7 +133,7 @@ module _ (sys : System) (words : List ℕ) (views : List View) (holds : Holds sy
 
   module _ (own : HasRoom v) where
     few : length own.own.recs ≤ 1000000
-    few = let r : total (λ (g : Log). length g.recs) (own.own ∷ own.others) < 1000001 = subst (λ (ls : List Log). total (λ (g : Log). length g.recs) ls < 1000001) own.is own.room in omega arith
+    few = let r : total (λ (g : SeatLog). length g.recs) (own.own ∷ own.others) < 1000001 = subst (λ (ls : List SeatLog). total (λ (g : SeatLog). length g.recs) ls < 1000001) own.is own.room in omega arith
 
     abbrev at_lane : Lane holds.lanes own.own
     at_lane = lane sys words views holds id v at_id own.own own.others own.is few

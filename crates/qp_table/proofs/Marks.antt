@@ -18,7 +18,7 @@ use Rattle.qp_model.proofs.WordLawLemmas.{free_blocks-counts, references-counts}
 use Rattle.qp_table.specs.Counting.{Each, total, many}
 use Rattle.qp_table.specs.Now.{Now}
 use Rattle.qp_table.specs.Rule.{pool_at, block_at, queue_at, mark_in, is_serve, Served, Queue, Holds}
-use Rattle.qp_table.specs.declared.view.Log.{Log}
+use Rattle.qp_table.specs.declared.view.SeatLog.{SeatLog}
 use Rattle.qp_table.specs.declared.view.Serve.{Serve}
 use Rattle.qp_table.specs.declared.view.View.{View}
 use Rattle.qp_table.proofs.Tokens.{b2n}
@@ -31,7 +31,7 @@ some-of f (x ∷ xs) h = dite (ℕ_discrete (f x) 0)
     (λ z. let r = some-of f xs (omega arith) in (suc r.0, r.1, r.2, r.3))
     (λ n. (0, x, refl, omega arith))
 
-served-count : (a : ℕ) (now : Now) (logs : List Log) (xs : List Serve) → 0 < many (is_serve a) xs → Each (Served now logs) xs → (now.line a).l + (now.line a).m ≤ 1000001
+served-count : (a : ℕ) (now : Now) (logs : List SeatLog) (xs : List Serve) → 0 < many (is_serve a) xs → Each (Served now logs) xs → (now.line a).l + (now.line a).m ≤ 1000001
 served-count a now logs [] h e = absurd (omega arith)
 served-count a now logs (x ∷ xs) h e = go (eqb x.object a) refl (served-count a now logs xs) h
   where

@@ -17,7 +17,7 @@ use Rattle.qp_table.specs.Counting.{Each, total, many, without}
 use Rattle.qp_table.specs.Now.{Now, at, with_line, Leaves}
 use Rattle.qp_table.specs.Rule.{queue_at, cell_at, mark_in, is_lifo, is_took, lifo_on, took_on, is_ref, is_entry, InLine, Codable, entries_of, OnlyFirst, is_item, is_place, on_queue, is_serve, Queue, Holds}
 use Rattle.qp_table.specs.After.{rec_of, logged, InHand, HasRoom, place, claimed, put_first, took}
-use Rattle.qp_table.specs.declared.view.Log.{Log}
+use Rattle.qp_table.specs.declared.view.SeatLog.{SeatLog}
 use Rattle.qp_table.specs.declared.view.CellPlace.{CellPlace}
 use Rattle.qp_table.specs.declared.view.View.{View}
 use Rattle.qp_table.proofs.Counting.{total-at, many-snoc, cond-le}
@@ -57,7 +57,7 @@ ends : (n l : ℕ) → 0 < n → n * l ≡ (n - 1) * l + l
 ends zero l h = absurd (omega arith)
 ends (suc n) l h = let e : suc n - 1 ≡ n = omega arith in rw (suc-mul n l, e) refl
 
-logs-more : (r : Rec) (v : View) (g : Log) (gs : List Log) → v.logs ≡ g ∷ gs → total (λ (g : Log). length g.recs) (logged r v.logs) ≡ total (λ (g : Log). length g.recs) v.logs + 1
+logs-more : (r : Rec) (v : View) (g : SeatLog) (gs : List SeatLog) → v.logs ≡ g ∷ gs → total (λ (g : SeatLog). length g.recs) (logged r v.logs) ≡ total (λ (g : SeatLog). length g.recs) v.logs + 1
 logs-more r v g gs e = rw e (omega (arith, length-append g.recs (r ∷ [])))
 
 -- only the first entry in line may be under way
@@ -158,7 +158,7 @@ module _ (sys : System) (words : List ℕ) (views : List View) (holds : Holds sy
 
   module _ (own : HasRoom v) where
     few : length own.own.recs ≤ 1000000
-    few = let r : total (λ (g : Log). length g.recs) (own.own ∷ own.others) < 1000001 = subst (λ (ls : List Log). total (λ (g : Log). length g.recs) ls < 1000001) own.is own.room in omega arith
+    few = let r : total (λ (g : SeatLog). length g.recs) (own.own ∷ own.others) < 1000001 = subst (λ (ls : List SeatLog). total (λ (g : SeatLog). length g.recs) ls < 1000001) own.is own.room in omega arith
 
     abbrev at_lane : Lane holds.lanes own.own
     at_lane = lane sys words views holds id v at_id own.own own.others own.is few

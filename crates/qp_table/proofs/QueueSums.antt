@@ -14,7 +14,7 @@ use Rattle.qp_table.specs.Counting.{Each, total, many, without, upto}
 use Rattle.qp_table.specs.Now.{Now, at, with_line}
 use Rattle.qp_table.specs.Rule.{cell_at, is_lifo, is_took, records, Served, is_ref, is_entry, Tokens, InLine, Items, is_item, is_place, on_queue, is_serve, Queue, Serves, Queues}
 use Rattle.qp_table.specs.After.{spent, gained, place, bump}
-use Rattle.qp_table.specs.declared.view.Log.{Log}
+use Rattle.qp_table.specs.declared.view.SeatLog.{SeatLog}
 use Rattle.qp_table.specs.declared.view.CellPlace.{CellPlace}
 use Rattle.qp_table.specs.declared.view.Serve.{Serve}
 use Rattle.qp_table.specs.declared.view.View.{View}
@@ -190,7 +190,7 @@ gain a b n = cond (eqb b a) n 0
 -- the lane that serves the changed queue
 pub serves-home : (now : Now) (a l m : ℕ) (s : Line) (v u : View) → s.l ≡ (now.line a).l + l → s.m ≡ (now.line a).m + m → l + m ≤ 1 → many (is_serve a) v.serves ≡ 1 → u.serves ≡ bump a l m v.serves → ((b : ℕ) → many (on_queue b) u.takes ≤ many (on_queue b) v.takes)
     → ((b : ℕ) → records (is_lifo b) u.logs ≡ records (is_lifo b) v.logs + gain a b l) → ((b : ℕ) → records (is_took b) u.logs ≡ records (is_took b) v.logs + gain a b m)
-    → total (λ (g : Log). length g.recs) v.logs + (l + m) ≤ total (λ (g : Log). length g.recs) u.logs → total (λ (g : Log). length g.recs) v.logs < 1000001 → Serves now v → Serves (with_line now a s) u
+    → total (λ (g : SeatLog). length g.recs) v.logs + (l + m) ≤ total (λ (g : SeatLog). length g.recs) u.logs → total (λ (g : SeatLog). length g.recs) v.logs < 1000001 → Serves now v → Serves (with_line now a s) u
 serves-home now a l m s v u ls ms one single serves takes lifo_records take_records more room o =
     let low = o.within in record {
       counts = rw serves (bumped v.serves (each-both (λ (x : Serve). x.lifos + x.takes ≤ 1000000) (Served now v.logs) (λ (x : Serve). (x.lifos + x.takes ≤ 1000000) × Served now v.logs x) (λ x p q. (p, q)) v.serves

@@ -19,7 +19,7 @@ use Rattle.qp_table.specs.Rule.{block_at, queue_at, cell_at, params_of, Fitting,
 use Rattle.qp_table.specs.declared.view.Serve.{Serve}
 use Rattle.qp_table.specs.Whole.{first_now}
 use Rattle.qp_table.proofs.Ends.{opens}
-use Rattle.qp_table.specs.First.{first_word, first_serves, IsFresh, SoundSystemsStart}
+use Rattle.qp_table.specs.First.{first_word, first_serves, IsFreshServe, SoundSystemsStart}
 use Rattle.qp_model.proofs.ListLemmas.{each-at}
 
 -- What a system has
@@ -164,12 +164,12 @@ module _ (sys : System) where
       go true there = let o = object-within sys sound a there in one-known 32 a o.1 o.0 there
       go false gone = none-unknown 32 a gone
 
-  pub serves-fresh : (n : ℕ) → Each IsFresh (first_serves sys n)
+  pub serves-fresh : (n : ℕ) → Each IsFreshServe (first_serves sys n)
   unfolding first_serves
   serves-fresh zero = tt
   serves-fresh (suc n) = go (is_object sys (suc n)) (serves-fresh n)
     where
-      go : (t : Bool) → Each IsFresh (first_serves sys n) → Each IsFresh (serves_now n t)
+      go : (t : Bool) → Each IsFreshServe (first_serves sys n) → Each IsFreshServe (serves_now n t)
       go true h = ((refl, refl), h)
       go false h = h
 

@@ -9,7 +9,7 @@ use Rattle.qp_table.specs.Counting.{Each}
 use Rattle.qp_table.specs.Now.{Now, at_two, Leaves}
 use Rattle.qp_table.specs.Rule.{Shows, Logs, Idle, AllIdle, Tokens, Events, Items, Queues, Seen, IsKnown, AllKnown, Holds, mark_in}
 use Rattle.qp_table.specs.After.{logged}
-use Rattle.qp_table.specs.declared.view.Log.{Log}
+use Rattle.qp_table.specs.declared.view.SeatLog.{SeatLog}
 use Rattle.qp_table.specs.declared.view.Content.{Content}
 use Rattle.qp_table.specs.declared.view.View.{View}
 use Rattle.qp_table.proofs.Views.{split-at, fits-set, logs-noted, logs-kept, idle-set, seen-drawn, seen-looked}
@@ -17,7 +17,7 @@ use Rattle.qp_table.proofs.Counting.{each-map}
 use Rattle.qp_table.proofs.Growth.{Grows, past-drawn, past-shown, known-kept}
 
 -- where the lane of a log stands among all lanes
-pub record Lane (lanes : List (List Rec)) (g : Log) : Type 0 where
+pub record Lane (lanes : List (List Rec)) (g : SeatLog) : Type 0 where
   pub before : List (List Rec)
   pub behind : List (List Rec)
   pub is : lanes ≡ before ++ g.recs ∷ behind
@@ -25,17 +25,17 @@ pub record Lane (lanes : List (List Rec)) (g : Log) : Type 0 where
   pub inside : length before < 49
 
 -- the lane of a view's own log
-pub own-lane : (lanes : List (List Rec)) (views : List View) (id : ℕ) (v : View) (g : Log) (gs : List Log) → Logs lanes views → get_elem? views id ≡ some v → v.logs ≡ g ∷ gs → Lane lanes g
+pub own-lane : (lanes : List (List Rec)) (views : List View) (id : ℕ) (v : View) (g : SeatLog) (gs : List SeatLog) → Logs lanes views → get_elem? views id ≡ some v → v.logs ≡ g ∷ gs → Lane lanes g
 own-lane lanes views id v g gs logs at_id head =
-    let mine = subst (λ (ls : List Log). Each (λ (g : Log). get_elem? lanes g.number ≡ some g.recs) ls) head (logs.own id v at_id) in
+    let mine = subst (λ (ls : List SeatLog). Each (λ (g : SeatLog). get_elem? lanes g.number ≡ some g.recs) ls) head (logs.own id v at_id) in
     let s = split-at lanes g.number g.recs mine.0 in
     let e = ap length s.2 in let c = logs.count in
     record { before = s.0; behind = s.1; is = s.2; place = s.3; inside = omega (arith, length-append s.0 (g.recs ∷ s.1)) }
 
-logged-some : (r : Rec) (v u : View) (g : Log) (gs : List Log) → v.logs ≡ g ∷ gs → u.logs ≡ logged r v.logs → 0 < length u.logs
+logged-some : (r : Rec) (v u : View) (g : SeatLog) (gs : List SeatLog) → v.logs ≡ g ∷ gs → u.logs ≡ logged r v.logs → 0 < length u.logs
 logged-some r v u g gs head e = rw (e, head) (omega arith)
 
-module _ (sys : System) (words : List ℕ) (views : List View) (holds : Holds sys words views) (id : ℕ) (v : View) (at_id : get_elem? views id ≡ some v) (g : Log) (gs : List Log) (head : v.logs ≡ g ∷ gs) (room : length g.recs ≤ 1000000) where
+module _ (sys : System) (words : List ℕ) (views : List View) (holds : Holds sys words views) (id : ℕ) (v : View) (at_id : get_elem? views id ≡ some v) (g : SeatLog) (gs : List SeatLog) (head : v.logs ≡ g ∷ gs) (room : length g.recs ≤ 1000000) where
   abbrev pub lane : Lane holds.lanes g
   lane = own-lane holds.lanes views id v g gs holds.logs at_id head
 

@@ -24,8 +24,8 @@ use Rattle.qp_table.specs.Counting.{Each, total, many, without}
 use Rattle.qp_table.specs.Now.{Now, with_refs, Leaves}
 use Rattle.qp_table.specs.Rule.{pool_at, block_at, cell_at, fills_of, gives_of, is_spot, is_spot_at, is_ref, lives, refs_value, bits_value, IsContent, Tells, Beside, Tokens, Holds}
 use Rattle.qp_table.specs.After.{rec_of, spot, ref, logged, began, doubled, dropped, gave, put_back, HasRoom}
-use Rattle.qp_table.specs.declared.view.Log.{Log}
-use Rattle.qp_table.specs.declared.view.Give.{Give}
+use Rattle.qp_table.specs.declared.view.SeatLog.{SeatLog}
+use Rattle.qp_table.specs.declared.view.PendingGive.{PendingGive}
 use Rattle.qp_table.specs.declared.view.View.{View}
 use Rattle.qp_table.proofs.Growing.{inc-leaves, dec-leaves, block-count}
 use Rattle.qp_table.proofs.Records.{alive-begun, alive-standing, new-leaves, back-leaves}
@@ -103,7 +103,7 @@ module _ {A : Type 0} where
   without-le p q (x ∷ xs) = without-cons p q (p x) x xs (without-le p q xs)
 
 -- the give is gone with its block
-fewer-gives : (p b : ℕ) (gs : List Give) → many (gives_of p b) (without (gives_of p b) gs) ≤ many (gives_of p b) gs - 1
+fewer-gives : (p b : ℕ) (gs : List PendingGive) → many (gives_of p b) (without (gives_of p b) gs) ≤ many (gives_of p b) gs - 1
 fewer-gives p b [] = omega arith
 fewer-gives p b (g ∷ gs) = go (gives_of p b g) refl (fewer-gives p b gs)
   where
@@ -116,7 +116,7 @@ module _ (sys : System) (words : List ℕ) (views : List View) (holds : Holds sy
   now = holds.now
 
   few : length own.own.recs ≤ 1000000
-  few = let r : total (λ (g : Log). length g.recs) (own.own ∷ own.others) < 1000001 = subst (λ (ls : List Log). total (λ (g : Log). length g.recs) ls < 1000001) own.is own.room in omega arith
+  few = let r : total (λ (g : SeatLog). length g.recs) (own.own ∷ own.others) < 1000001 = subst (λ (ls : List SeatLog). total (λ (g : SeatLog). length g.recs) ls < 1000001) own.is own.room in omega arith
 
   abbrev at_lane : Lane holds.lanes own.own
   at_lane = lane sys words views holds id v at_id own.own own.others own.is few

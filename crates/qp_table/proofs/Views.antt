@@ -11,7 +11,7 @@ use Rattle.qp_table.specs.Counting.{Each, total, many}
 use Rattle.qp_table.specs.Now.{at_two}
 use Rattle.qp_table.specs.Rule.{mark_in, is_log, is_number, is_lifo, is_took, lifo_on, took_on, records, Logs, Idle, AllIdle, Was, Seen}
 use Rattle.qp_table.specs.After.{logged}
-use Rattle.qp_table.specs.declared.view.Log.{Log}
+use Rattle.qp_table.specs.declared.view.SeatLog.{SeatLog}
 use Rattle.qp_table.specs.declared.view.Glance.{Glance}
 use Rattle.qp_table.specs.declared.view.View.{View}
 use Rattle.qp_table.proofs.Counting.{each-map, each-snoc, total-set, total-at, many-snoc}
@@ -61,44 +61,44 @@ cond-zero n m true e z = absurd (omega arith)
 cond-zero n m false e z = λ s. let c : eqb n m ≡ true = eq-eqb n m s in let d : cond {A = ℕ} (eqb n m) 1 0 ≡ 1 = ap (λ (b : Bool). cond {A = ℕ} b 1 0) c in let f : cond {A = ℕ} (eqb n m) 1 0 ≡ 0 = ap (λ (b : Bool). cond {A = ℕ} b 1 0) e in omega arith
 
 -- where no log has the number
-pub none-logged : (n : ℕ) (gs : List Log) → many (is_log n) gs ≡ 0 → Each (λ (g : Log). g.number ≢ n) gs
+pub none-logged : (n : ℕ) (gs : List SeatLog) → many (is_log n) gs ≡ 0 → Each (λ (g : SeatLog). g.number ≢ n) gs
 none-logged n [] e = tt
 none-logged n (g ∷ gs) e = (cond-zero g.number n (eqb g.number n) refl (omega arith), none-logged n gs (omega arith))
 
-logged-many : (n : ℕ) (r : Rec) (gs : List Log) → many (is_log n) (logged r gs) ≡ many (is_log n) gs
+logged-many : (n : ℕ) (r : Rec) (gs : List SeatLog) → many (is_log n) (logged r gs) ≡ many (is_log n) gs
 logged-many n r [] = refl
 logged-many n r (g ∷ gs) = refl
 
-logged-length : (r : Rec) (gs : List Log) → length (logged r gs) ≡ length gs
+logged-length : (r : Rec) (gs : List SeatLog) → length (logged r gs) ≡ length gs
 logged-length r [] = refl
 logged-length r (g ∷ gs) = refl
 
 module _ (before : List (List Rec)) (lane : List Rec) (behind : List (List Rec)) where
   abbrev Own : List (List Rec) → View → Type 0
-  Own lanes v = Each (λ (g : Log). get_elem? lanes g.number ≡ some g.recs) v.logs
+  Own lanes v = Each (λ (g : SeatLog). get_elem? lanes g.number ≡ some g.recs) v.logs
 
-  still-there : (new : List Rec) (gs : List Log) → Each (λ (g : Log). g.number ≢ length before) gs → Each (λ (g : Log). get_elem? (before ++ lane ∷ behind) g.number ≡ some g.recs) gs
-      → Each (λ (g : Log). get_elem? (before ++ new ∷ behind) g.number ≡ some g.recs) gs
+  still-there : (new : List Rec) (gs : List SeatLog) → Each (λ (g : SeatLog). g.number ≢ length before) gs → Each (λ (g : SeatLog). get_elem? (before ++ lane ∷ behind) g.number ≡ some g.recs) gs
+      → Each (λ (g : SeatLog). get_elem? (before ++ new ∷ behind) g.number ≡ some g.recs) gs
   still-there new [] n e = tt
   still-there new (g ∷ gs) n e = (mid-else before lane new behind g.number n.0 ∙ e.0, still-there new gs n.1 e.1)
 
   -- a record more in the lane whose log stands first in the view
-  pub logs-noted : (views : List View) (id : ℕ) (v u : View) (g : Log) (gs : List Log) (r : Rec) → Logs (before ++ lane ∷ behind) views → get_elem? views id ≡ some v → v.logs ≡ g ∷ gs → g.number ≡ length before
+  pub logs-noted : (views : List View) (id : ℕ) (v u : View) (g : SeatLog) (gs : List SeatLog) (r : Rec) → Logs (before ++ lane ∷ behind) views → get_elem? views id ≡ some v → v.logs ≡ g ∷ gs → g.number ≡ length before
       → length before < 49 → length lane ≤ 1000000 → u.logs ≡ logged r v.logs → u.lane_numbers ≡ v.lane_numbers → Logs (before ++ (lane ++ r ∷ []) ∷ behind) (set views id u)
   logs-noted views id v u g gs r old at head number inside room logs rest =
       let n : ℕ = length before in
       let here : many (is_log (length before)) v.logs ≡ 1 + many (is_log (length before)) gs = ap (many (is_log (length before))) head ∙ (let e : cond {A = ℕ} (eqb g.number (length before)) 1 0 ≡ 1 = ap (λ (b : Bool). cond {A = ℕ} b 1 0) (eq-eqb g.number (length before) number) in omega arith) in
       let one = old.once (length before) inside in
       let top = total-at (λ (z : View). many (is_log (length before)) z.logs) views id v at in
-      let mine : some g.recs ≡ some lane = sym (subst (λ (ls : List Log). Each (λ (g : Log). get_elem? (before ++ lane ∷ behind) g.number ≡ some g.recs) ls) head (old.own id v at)).0 ∙ (ap (get_elem? (before ++ lane ∷ behind)) number ∙ mid-here before lane behind) in
+      let mine : some g.recs ≡ some lane = sym (subst (λ (ls : List SeatLog). Each (λ (g : SeatLog). get_elem? (before ++ lane ∷ behind) g.number ≡ some g.recs) ls) head (old.own id v at)).0 ∙ (ap (get_elem? (before ++ lane ∷ behind)) number ∙ mid-here before lane behind) in
       let is_lane : g.recs ≡ lane = some-injective g.recs lane mine in
       let rests : (k : ℕ) → total (λ (z : View). many (is_number k) z.lane_numbers) (set views id u) ≡ total (λ (z : View). many (is_number k) z.lane_numbers) views = (λ k. same-total (λ (z : View). many (is_number k) z.lane_numbers) views id v u at (ap (many (is_number k)) rest)) in record {
         count = mid-length before lane (lane ++ r ∷ []) behind ∙ old.count;
         own = fits-set (Own (before ++ lane ∷ behind)) (Own (before ++ (lane ++ r ∷ []) ∷ behind)) views id u
             (λ j w ne there o. still-there (lane ++ r ∷ []) w.logs (none-logged (length before) w.logs (let t = total-two (λ (z : View). many (is_log (length before)) z.logs) views id j v w at there (λ e. ne (sym e)) in omega arith)) o)
-            (subst (λ (ls : List Log). Each (λ (g : Log). get_elem? (before ++ (lane ++ r ∷ []) ∷ behind) g.number ≡ some g.recs) ls) (sym (logs ∙ ap (logged r) head)) (
+            (subst (λ (ls : List SeatLog). Each (λ (g : SeatLog). get_elem? (before ++ (lane ++ r ∷ []) ∷ behind) g.number ≡ some g.recs) ls) (sym (logs ∙ ap (logged r) head)) (
               ap (get_elem? (before ++ (lane ++ r ∷ []) ∷ behind)) number ∙ (mid-here before (lane ++ r ∷ []) behind ∙ (λ i. some (sym is_lane i ++ r ∷ []))),
-              still-there (lane ++ r ∷ []) gs (none-logged (length before) gs (omega arith)) (subst (λ (ls : List Log). Each (λ (g : Log). get_elem? (before ++ lane ∷ behind) g.number ≡ some g.recs) ls) head (old.own id v at)).1,
+              still-there (lane ++ r ∷ []) gs (none-logged (length before) gs (omega arith)) (subst (λ (ls : List SeatLog). Each (λ (g : SeatLog). get_elem? (before ++ lane ∷ behind) g.number ≡ some g.recs) ls) head (old.own id v at)).1,
             ))
             old.own;
         once = λ k l. let o = old.once k l in let s = same-total (λ (z : View). many (is_log k) z.logs) views id v u at (ap (many (is_log k)) logs ∙ logged-many k r v.logs) in rw (s, rests k) o;
@@ -113,7 +113,7 @@ pub logs-kept : (lanes : List (List Rec)) (views : List View) (id : ℕ) (v u : 
 logs-kept lanes views id v u old at logs rest =
     let rests : (k : ℕ) → total (λ (z : View). many (is_number k) z.lane_numbers) (set views id u) ≡ total (λ (z : View). many (is_number k) z.lane_numbers) views = (λ k. same-total (λ (z : View). many (is_number k) z.lane_numbers) views id v u at (ap (many (is_number k)) rest)) in record {
       count = old.count;
-      own = fits-set (λ z. Each (λ (g : Log). get_elem? lanes g.number ≡ some g.recs) z.logs) (λ z. Each (λ (g : Log). get_elem? lanes g.number ≡ some g.recs) z.logs) views id u (λ j w ne there o. o) (rw logs (old.own id v at)) old.own;
+      own = fits-set (λ z. Each (λ (g : SeatLog). get_elem? lanes g.number ≡ some g.recs) z.logs) (λ z. Each (λ (g : SeatLog). get_elem? lanes g.number ≡ some g.recs) z.logs) views id u (λ j w ne there o. o) (rw logs (old.own id v at)) old.own;
       once = λ k l. let o = old.once k l in let s = same-total (λ (z : View). many (is_log k) z.logs) views id v u at (ap (many (is_log k)) logs) in rw (s, rests k) o;
       later = λ k l far. old.later k l (rw (sym (rests k)) far);
       rights = same-total (λ (z : View). length z.logs + length z.lane_numbers) views id v u at (λ i. length (logs i) + length (rest i)) ∙ old.rights;
@@ -124,18 +124,18 @@ logs-kept lanes views id v u old at logs rest =
 pub record Quiet (v u : View) : Type 0 where
   pub lifos : (a : ℕ) → records (is_lifo a) u.logs ≡ records (is_lifo a) v.logs
   pub takes : (a : ℕ) → records (is_took a) u.logs ≡ records (is_took a) v.logs
-  pub longer : total (λ (g : Log). length g.recs) v.logs ≤ total (λ (g : Log). length g.recs) u.logs
+  pub longer : total (λ (g : SeatLog). length g.recs) v.logs ≤ total (λ (g : SeatLog). length g.recs) u.logs
 
-logs-longer : (r : Rec) (gs : List Log) → total (λ (g : Log). length g.recs) gs ≤ total (λ (g : Log). length g.recs) (logged r gs)
+logs-longer : (r : Rec) (gs : List SeatLog) → total (λ (g : SeatLog). length g.recs) gs ≤ total (λ (g : SeatLog). length g.recs) (logged r gs)
 logs-longer r [] = omega arith
 logs-longer r (g ∷ gs) = omega (arith, length-append g.recs (r ∷ []))
 
 -- what a record adds to a count of records
-pub records-logged : (t : Rec → Bool) (r : Rec) (gs : List Log) → 0 < length gs → records t (logged r gs) ≡ records t gs + cond (t r) 1 0
+pub records-logged : (t : Rec → Bool) (r : Rec) (gs : List SeatLog) → 0 < length gs → records t (logged r gs) ≡ records t gs + cond (t r) 1 0
 records-logged t r [] pos = absurd (omega arith)
 records-logged t r (g ∷ gs) pos = let m = many-snoc t g.recs r in omega arith
 
-records-quiet : (t : Rec → Bool) (r : Rec) (gs : List Log) → t r ≡ false → records t (logged r gs) ≡ records t gs
+records-quiet : (t : Rec → Bool) (r : Rec) (gs : List SeatLog) → t r ≡ false → records t (logged r gs) ≡ records t gs
 records-quiet t r [] off = refl
 records-quiet t r (g ∷ gs) off = let m = many-snoc t g.recs r in let z = ap (λ (b : Bool). cond {A = ℕ} b 1 0) off in omega arith
 

@@ -8,9 +8,9 @@ use Rattle.qp_model.specs.declared.systems.System.{System}
 use Rattle.qp_model.specs.Parts.{is_static}
 use Rattle.qp_table.specs.Counting.{total, many, without}
 use Rattle.qp_table.specs.Rule.{queue_at, Holds, is_spot, is_ref, is_entry, is_place, is_value, gives_of}
-use Rattle.qp_table.specs.declared.view.Log.{Log}
+use Rattle.qp_table.specs.declared.view.SeatLog.{SeatLog}
 use Rattle.qp_table.specs.declared.view.Fill.{Fill}
-use Rattle.qp_table.specs.declared.view.Give.{Give}
+use Rattle.qp_table.specs.declared.view.PendingGive.{PendingGive}
 use Rattle.qp_table.specs.declared.view.Spot.{Spot}
 use Rattle.qp_table.specs.declared.view.CellPlace.{CellPlace}
 use Rattle.qp_table.specs.declared.view.Serve.{Serve}
@@ -21,7 +21,7 @@ abbrev pub rec_of : ℕ → ℕ → List ℕ → Rec
 rec_of kind o nums = record { kind = kind; of = o; nums = record { items = nums } }
 
 -- a record more in the lane's own list
-abbrev pub logged : Rec → List Log → List Log
+abbrev pub logged : Rec → List SeatLog → List SeatLog
 logged r [] = []
 logged r (g ∷ gs) = record g { recs = g.recs ++ r ∷ [] } ∷ gs
 
@@ -57,13 +57,13 @@ fills_for p b j [] = []
 fills_for p b j (n ∷ ns) = record { pool = p; block = b; place = j; value = n } ∷ fills_for p b (suc j) ns
 
 -- a give that is begun, and one of which the beginning of the life was read
-abbrev pub begun_give : ℕ → ℕ → List ℕ → Give
+abbrev pub begun_give : ℕ → ℕ → List ℕ → PendingGive
 begun_give p b event = record { pool = p; block = b; event = event; read = false }
 
-abbrev pub read_by : Bool → Give → Give
+abbrev pub read_by : Bool → PendingGive → PendingGive
 read_by t g = record g { read = cond t true g.read }
 
-abbrev pub reading : ℕ → ℕ → List Give → List Give
+abbrev pub reading : ℕ → ℕ → List PendingGive → List PendingGive
 reading p b [] = []
 reading p b (g ∷ gs) = read_by (gives_of p b g) g ∷ reading p b gs
 
@@ -100,10 +100,10 @@ HoldsWith sys words w n views id u = Holds sys (slice_set words w n) (slice_set 
 
 -- the lane has its own log, with room for a record
 pub record HasRoom (v : View) : Type 0 where
-  pub own : Log
-  pub others : List Log
+  pub own : SeatLog
+  pub others : List SeatLog
   pub is : v.logs ≡ own ∷ others
-  pub room : total (λ (g : Log). length g.recs) v.logs < 1000001
+  pub room : total (λ (g : SeatLog). length g.recs) v.logs < 1000001
 
 -- The entry is static, or its reference is in hand
 pub record InHand (sys : System) (e : Entry) (v : View) : Type 0 where
@@ -172,8 +172,8 @@ abbrev pub handed : (Serve → Bool) → View → View → View
 handed t v w = record w { serves = w.serves ++ passing t v.serves }
 
 -- one view takes over another
-abbrev pub joined : View → View → View
-joined v w = record {
+abbrev pub views_joined : View → View → View
+views_joined v w = record {
   logs = v.logs ++ w.logs;
   lane_numbers = v.lane_numbers ++ w.lane_numbers;
   fresh = v.fresh ++ w.fresh;

@@ -6,7 +6,7 @@ use Rattle.qp_model.specs.Record.{item_of}
 use Rattle.qp_model.specs.Lists.{is_first}
 use Rattle.qp_model.specs.WordLaw.{is_block}
 use Rattle.qp_table.specs.Counting.{many}
-use Rattle.qp_table.specs.Rule.{pool_at, block_at, event_at, is_spot, is_ref, fills_of, IsContent}
+use Rattle.qp_table.specs.Rule.{pool_at, block_at, event_word_at, is_spot, is_ref, fills_of, IsContent}
 use Rattle.qp_table.specs.After.{FromAnyState, HoldsWith, HasRoom, began, doubled, dropped, gave, filled, put_back}
 
 -- the lowest free block is given out for an event of the system; its words are still to be written
@@ -20,7 +20,7 @@ GivesKeepTheRule = FromAnyState
 abbrev pub FillsKeepTheRule : Type 0
 FillsKeepTheRule = FromAnyState
     (λ sys words views holds id v. (p b j : ℕ) (event : List ℕ) → IsTrue (is_block sys p b) → 0 < many (is_spot p b) v.fresh → event ≡ holds.now.content p b → j < length event
-    → HoldsWith sys words (event_at p b j) (slice_index event j) views id (filled v p b j (slice_index event j)))
+    → HoldsWith sys words (event_word_at p b j) (slice_index event j) views id (filled v p b j (slice_index event j)))
 
 -- the first reference to a fresh block whose words are all written
 abbrev pub FirstReferencesKeepTheRule : Type 0
@@ -50,4 +50,4 @@ BacksKeepTheRule = FromAnyState
 -- who holds a reference reads what the block was given last
 abbrev pub HoldersReadTheEvent : Type 0
 HoldersReadTheEvent = FromAnyState
-    (λ sys words views holds id v. (p b k j : ℕ) → IsTrue (is_block sys p b) → 0 < many (is_ref p b k) v.hands → j < length (holds.now.content p b) → slice_index words (event_at p b j) ≡ slice_index (holds.now.content p b) j)
+    (λ sys words views holds id v. (p b k j : ℕ) → IsTrue (is_block sys p b) → 0 < many (is_ref p b k) v.hands → j < length (holds.now.content p b) → slice_index words (event_word_at p b j) ≡ slice_index (holds.now.content p b) j)

@@ -26,8 +26,8 @@ unfoldable pub first_serves : System → ℕ → List Serve
 first_serves sys zero = []
 first_serves sys (suc n) = first_serve sys (suc n) ++ first_serves sys n
 
-abbrev pub IsFresh : Serve → Type 0
-IsFresh x = (x.lifos ≡ 0) × (x.takes ≡ 0)
+abbrev pub IsFreshServe : Serve → Type 0
+IsFreshServe x = (x.lifos ≡ 0) × (x.takes ≡ 0)
 
 -- the first words of a sound system, and a view that has lane 0 and serves every object, meet the rule
 abbrev pub SoundSystemsStart : Type 0

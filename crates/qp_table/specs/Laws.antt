@@ -9,7 +9,7 @@ use Rattle.qp_model.specs.Record.{item_of}
 use Rattle.qp_model.specs.WordLaw.{Words, is_pool, is_block, is_object}
 use Rattle.qp_table.specs.Counting.{Each, many}
 use Rattle.qp_table.specs.Rule.{pool_at, block_at, queue_at, cell_at, Fitting, Shows, Idle, is_number, is_ref, is_serve, Holds}
-use Rattle.qp_table.specs.After.{FromAnyState, HasRoom, ref, glanced, noted, read_from, learned, nothing, onlooker, granting, granted, passing, handing, handed, joined, newcomer}
+use Rattle.qp_table.specs.After.{FromAnyState, HasRoom, ref, glanced, noted, read_from, learned, nothing, onlooker, granting, granted, passing, handing, handed, views_joined, newcomer}
 use Rattle.qp_table.specs.declared.view.Serve.{Serve}
 use Rattle.qp_table.specs.declared.view.View.{View}
 use Rattle.qp_table.specs.QueueLaws.{f_in, l_in, m_in, queue_word, cells_of}
@@ -90,7 +90,7 @@ HandOversKeepTheRule = FromTwoViews
 
 -- all goes to one of them
 abbrev pub JoinsKeepTheRule : Type 0
-JoinsKeepTheRule = FromTwoViews (λ sys words views holds id v other w. Holds sys words (slice_set (slice_set views id (joined v w)) other nothing))
+JoinsKeepTheRule = FromTwoViews (λ sys words views holds id v other w. Holds sys words (slice_set (slice_set views id (views_joined v w)) other nothing))
 
 -- the first words, and a view that has lane 0 and all objects, meet the rule
 abbrev pub StartMeetsTheRule : Type 0

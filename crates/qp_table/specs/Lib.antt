@@ -9,3 +9,10 @@ pub mod After
 pub mod WordLaws
 pub mod BlockLaws
 pub mod QueueLaws
+pub mod Words
+pub mod Lane
+pub mod Telling
+pub mod ViewLaws
+pub mod Told
+pub mod Asked
+pub mod StepLaws

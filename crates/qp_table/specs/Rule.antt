@@ -29,10 +29,10 @@ use Rattle.qp_model.specs.Line.{line}
 use Rattle.qp_model.specs.Told.{Event}
 use Rattle.qp_model.specs.Knowing.{last_given}
 use Rattle.qp_table.specs.declared.view.Content.{Content}
-use Rattle.qp_table.specs.declared.view.Log.{Log}
+use Rattle.qp_table.specs.declared.view.SeatLog.{SeatLog}
 use Rattle.qp_table.specs.declared.view.Spot.{Spot}
 use Rattle.qp_table.specs.declared.view.Fill.{Fill}
-use Rattle.qp_table.specs.declared.view.Give.{Give}
+use Rattle.qp_table.specs.declared.view.PendingGive.{PendingGive}
 use Rattle.qp_table.specs.declared.view.CellPlace.{CellPlace}
 use Rattle.qp_table.specs.declared.view.Serve.{Serve}
 use Rattle.qp_table.specs.declared.view.Glance.{Glance}
@@ -51,8 +51,8 @@ queue_at a = 4224 + 8 * a
 abbrev pub cell_at : ℕ → ℕ → ℕ
 cell_at a j = 4488 + 256 * a + j
 
-abbrev pub event_at : ℕ → ℕ → ℕ → ℕ
-event_at p b j = 12936 + 16 * (32 * p + b) + j
+abbrev pub event_word_at : ℕ → ℕ → ℕ → ℕ
+event_word_at p b j = 12936 + 16 * (32 * p + b) + j
 
 -- how many parameters an event of the signal has
 abbrev pub params_of : System → ℕ → ℕ
@@ -92,7 +92,7 @@ pub record Shows (sys : System) (words : List ℕ) (now : Now) : Type 0 where
   pub blocks : (p b : ℕ) → IsTrue (is_block sys p b) → slice_index words (block_at p b) ≡ refs_value (now.refs p b)
   pub queues : (a : ℕ) → IsTrue (is_object sys a) → slice_index words (queue_at a) ≡ line_value (now.line a)
 
-abbrev pub is_log : ℕ → Log → Bool
+abbrev pub is_log : ℕ → SeatLog → Bool
 is_log n g = eqb g.number n
 
 abbrev pub is_number : ℕ → ℕ → Bool
@@ -101,7 +101,7 @@ is_number n k = eqb k n
 -- The lanes' records stand in the views. Each lane number is in one view: as that of a log, or as one that was never handed out.
 pub record Logs (lanes : List (List Rec)) (views : List View) : Type 0 where
   pub count : length lanes ≡ 49
-  pub own : (id : ℕ) (v : View) → get_elem? views id ≡ some v → Each (λ (g : Log). get_elem? lanes g.number ≡ some g.recs) v.logs
+  pub own : (id : ℕ) (v : View) → get_elem? views id ≡ some v → Each (λ (g : SeatLog). get_elem? lanes g.number ≡ some g.recs) v.logs
   pub once : (n : ℕ) → n < 49 → total (λ (v : View). many (is_log n) v.logs) views + total (λ (v : View). many (is_number n) v.lane_numbers) views ≡ 1
   pub later : (n : ℕ) → n < 49 → 0 < total (λ (v : View). many (is_number n) v.lane_numbers) views → get_elem? lanes n ≡ some []
   pub rights : total (λ (v : View). length v.logs + length v.lane_numbers) views ≡ 49
@@ -167,7 +167,7 @@ fills_of p b x = eqb x.pool p && eqb x.block b
 abbrev pub is_value : ℕ → ℕ → ℕ → ℕ → Fill → Bool
 is_value p b j n x = is_fill p b j x && eqb x.value n
 
-abbrev pub gives_of : ℕ → ℕ → Give → Bool
+abbrev pub gives_of : ℕ → ℕ → PendingGive → Bool
 gives_of p b g = eqb g.pool p && eqb g.block b
 
 -- a signal of the system, and as many parameters as its events have
@@ -182,7 +182,7 @@ HasEvent sys [] = Unit {0}
 HasEvent sys (sig ∷ pars) = IsContent sys sig pars
 
 -- a give under way knows the block's content
-abbrev pub Tells : Now → Give → Type 0
+abbrev pub Tells : Now → PendingGive → Type 0
 Tells now g = g.event ≡ now.content g.pool g.block
 
 -- what a view has of blocks that it was given stands beside these blocks
@@ -194,7 +194,7 @@ pub record Beside (now : Now) (v : View) : Type 0 where
 -- the event words of a block are its content, but for those still to be written, which the view has that has the block fresh
 pub record Events (sys : System) (words : List ℕ) (views : List View) (now : Now) : Type 0 where
   pub few : (p b : ℕ) → IsTrue (is_block sys p b) → length (now.content p b) ≤ 9
-  pub word : (p b j : ℕ) → IsTrue (is_block sys p b) → j < length (now.content p b) → total (λ (v : View). many (is_fill p b j) v.fills) views ≡ 0 → slice_index words (event_at p b j) ≡ slice_index (now.content p b) j
+  pub word : (p b j : ℕ) → IsTrue (is_block sys p b) → j < length (now.content p b) → total (λ (v : View). many (is_fill p b j) v.fills) views ≡ 0 → slice_index words (event_word_at p b j) ≡ slice_index (now.content p b) j
   pub right : (p b j n : ℕ) → n ≢ slice_index (now.content p b) j → total (λ (v : View). many (is_value p b j n) v.fills) views ≡ 0
   pub beside : (id : ℕ) (v : View) → get_elem? views id ≡ some v → Beside now v
   pub event : (p b : ℕ) → IsTrue (is_block sys p b) → HasEvent sys (now.content p b)
@@ -279,11 +279,11 @@ abbrev pub is_took : ℕ → Rec → Bool
 is_took a r = took_on a (item_of r).of (item_of r).body
 
 -- how many of these records the logs have
-abbrev pub records : (Rec → Bool) → List Log → ℕ
-records t logs = total (λ (g : Log). many t g.recs) logs
+abbrev pub records : (Rec → Bool) → List SeatLog → ℕ
+records t logs = total (λ (g : SeatLog). many t g.recs) logs
 
 -- the last-in posts and takes of a queue are those of the lane that serves it
-pub record Served (now : Now) (logs : List Log) (x : Serve) : Type 0 where
+pub record Served (now : Now) (logs : List SeatLog) (x : Serve) : Type 0 where
   pub lifos : (now.line x.object).l ≡ x.lifos
   pub takes : (now.line x.object).m ≡ x.takes
   pub few : x.lifos + x.takes ≤ 1000001
@@ -293,7 +293,7 @@ pub record Served (now : Now) (logs : List Log) (x : Serve) : Type 0 where
 -- what a view serves, and that it has no last-in post and no take of another queue
 pub record Serves (now : Now) (v : View) : Type 0 where
   pub counts : Each (Served now v.logs) v.serves
-  pub within : total (λ (x : Serve). x.lifos + x.takes) v.serves ≤ total (λ (g : Log). length g.recs) v.logs
+  pub within : total (λ (x : Serve). x.lifos + x.takes) v.serves ≤ total (λ (g : SeatLog). length g.recs) v.logs
   pub others : (a : ℕ) → many (is_serve a) v.serves ≡ 0 → (records (is_lifo a) v.logs ≡ 0) × (records (is_took a) v.logs ≡ 0)
   pub taking : (a : ℕ) → many (on_queue a) v.takes ≤ many (is_serve a) v.serves
 

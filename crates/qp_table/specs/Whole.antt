@@ -17,7 +17,7 @@ use Rattle.qp_table.specs.Counting.{Each, many}
 use Rattle.qp_table.specs.Now.{Now, Leaves}
 use Rattle.qp_table.specs.Rule.{is_log, is_number, is_spot, is_ref, free_bit, lives, in_lines, on_queue, mark_in, pool_at, block_at, queue_at, pool_value, refs_value, line_value, Was, IsKnown, Shows, HasEvent}
 use Rattle.qp_model.specs.Lists.{count_up}
-use Rattle.qp_table.specs.declared.view.Log.{Log}
+use Rattle.qp_table.specs.declared.view.SeatLog.{SeatLog}
 use Rattle.qp_table.specs.declared.view.CellPlace.{CellPlace}
 use Rattle.qp_table.specs.declared.view.Serve.{Serve}
 use Rattle.qp_table.specs.declared.view.Glance.{Glance}
@@ -42,7 +42,7 @@ pub record IsWhole (sys : System) (v : View) : Type 0 where
   pub was : Was
   pub lanes : List (List Rec)
   pub count : length lanes ≡ 49
-  pub own : Each (λ (g : Log). get_elem? lanes g.number ≡ some g.recs) v.logs
+  pub own : Each (λ (g : SeatLog). get_elem? lanes g.number ≡ some g.recs) v.logs
   pub once : (n : ℕ) → n < 49 → many (is_log n) v.logs + many (is_number n) v.lane_numbers ≡ 1
   pub rest : (n : ℕ) → n < 49 → 0 < many (is_number n) v.lane_numbers → get_elem? lanes n ≡ some []
   pub leaves : Leaves sys lanes now

@@ -5,7 +5,7 @@ use Rattle.qp_model.specs.declared.words.Word.TheVariants as word
 use Rattle.qp_model.specs.History.{hist, all_items}
 use Rattle.qp_model.specs.WordLaw.{is_pool, is_block, is_object}
 use Rattle.qp_table.specs.Counting.{many}
-use Rattle.qp_table.specs.Rule.{pool_at, block_at, queue_at, cell_at, event_at, bits_value, mark_in, Holds}
+use Rattle.qp_table.specs.Rule.{pool_at, block_at, queue_at, cell_at, event_word_at, bits_value, mark_in, Holds}
 use Rattle.qp_table.specs.declared.view.View.{View}
 
 -- each word has its place below 21128, apart from all others: pools, blocks, queues, cells and event words, each behind the last of the kind before
@@ -15,7 +15,7 @@ WordsStandApart = (p q b c a d i j : ℕ) → p < 16 → q < 16 → b < 32 → c
     × (queue_at a ≡ queue_at d → a ≡ d) × (cell_at a i ≡ cell_at d j → (a ≡ d) × (i ≡ j))
 
 abbrev pub EventWordsStandApart : Type 0
-EventWordsStandApart = (p q b c i j : ℕ) → p < 16 → q < 16 → b < 32 → c < 32 → i < 9 → j < 9 → (12936 ≤ event_at p b i) × (event_at p b i < 21128) × (event_at p b i ≡ event_at q c j → (p ≡ q) × (b ≡ c) × (i ≡ j))
+EventWordsStandApart = (p q b c i j : ℕ) → p < 16 → q < 16 → b < 32 → c < 32 → i < 9 → j < 9 → (12936 ≤ event_word_at p b i) × (event_word_at p b i < 21128) × (event_word_at p b i ≡ event_word_at q c j → (p ≡ q) × (b ≡ c) × (i ≡ j))
 
 -- a pool's word has its operations and the map of its free blocks, a block's its operations and its references, a queue's its three counts
 abbrev pub WordsAreReadBack : Type 0

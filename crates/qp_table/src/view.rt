@@ -4,7 +4,7 @@ use qp_model::{Entry, Rec};
 use std::collections::LinkedList;
 
 /// The records of one lane, by its number.
-pub struct Log {
+pub struct SeatLog {
     pub number: u64,
     pub recs: LinkedList<Rec>,
 }
@@ -18,7 +18,7 @@ pub struct Spot {
 }
 
 /// A fresh block whose give is under way: its event's signal and parameters, and whether the beginning of its life was read.
-pub struct Give {
+pub struct PendingGive {
     pub pool: u64,
     pub block: u64,
     pub event: LinkedList<u64>,
@@ -68,13 +68,13 @@ pub struct Content {
 /// What a lane knows. It stands in proofs alone: no value of it is made.
 pub struct View {
     /// Its own records first, then those of the lanes that it took over.
-    pub logs: LinkedList<Log>,
+    pub logs: LinkedList<SeatLog>,
     /// The lane numbers that it may still hand out.
     pub lane_numbers: LinkedList<u64>,
     pub fresh: LinkedList<Spot>,
     pub used: LinkedList<Spot>,
     pub hands: LinkedList<Entry>,
-    pub gives: LinkedList<Give>,
+    pub gives: LinkedList<PendingGive>,
     pub fills: LinkedList<Fill>,
     pub claims: LinkedList<CellPlace>,
     pub takes: LinkedList<CellPlace>,

@@ -10,8 +10,8 @@ use Rattle.qp_model.specs.Kinds.{SAY}
 use Rattle.qp_model.specs.Vocabulary.{word_text, has_count}
 use Rattle.qp_model.specs.Output.{JournalItem, item, last_id}
 use Rattle.qp_model.specs.OutputText.{after_spaces, number_texts, say_texts, line_text}
-use Rattle.qp_text.specs.Numbers.{number_at, number_of, numbers_at, signed_of}
-use Rattle.qp_text.specs.LineItem.{counted, has_signs, id_of, item_of_line, numbered}
+use Rattle.qp_text.specs.Numbers.{number_at, number_of_decimal, numbers_at, signed_of}
+use Rattle.qp_text.specs.LineItem.{item_of_numbers, has_signs, id_of, item_of_line, numbered}
 use Rattle.qp_text.specs.TextLaw.{has_64_bits}
 use Rattle.qp_text.proofs.OptionLemmas.{and_then-some}
 use Rattle.qp_text.proofs.NumberLaw.{number_of-is, signed_of-is}
@@ -52,7 +52,7 @@ pub texts_at-are : (form id : ℕ) (nums : List ℕ) → texts_at (has_signs for
 texts_at-are form id nums = texts_at-by ((form == 2) && (id == SAY)) nums
 
 -- a text that is read as a number is the number's
-number-is : (is_signed : Bool) (t : List ℕ) (n : ℕ) → cond is_signed (signed_of t) (number_of t) ≡ Some n → text_of is_signed n ≡ t
+number-is : (is_signed : Bool) (t : List ℕ) (n : ℕ) → cond is_signed (signed_of t) (number_of_decimal t) ≡ Some n → text_of is_signed n ≡ t
 number-is true t n is = (signed_of-is t n is).0
 number-is false t n is = (number_of-is t n is).0
 
@@ -66,7 +66,7 @@ numbers_at-are signs place (t ∷ texts) nums is =
     rw (← rest.2, number-is (signs && (place == 1)) t first.0 first.1, numbers_at-are signs (place + 1) texts rest.0 rest.1) refl
 
 -- numbers that are read have 64 bits
-number-fits : (is_signed : Bool) (t : List ℕ) (n : ℕ) → cond is_signed (signed_of t) (number_of t) ≡ Some n → n < 2 ^ 64
+number-fits : (is_signed : Bool) (t : List ℕ) (n : ℕ) → cond is_signed (signed_of t) (number_of_decimal t) ≡ Some n → n < 2 ^ 64
 number-fits true t n is = (signed_of-is t n is).1
 number-fits false t n is = (number_of-is t n is).1
 
@@ -95,7 +95,7 @@ pub record IsLine (form : ℕ) (line : List ℕ) (i : JournalItem) : Type 0 wher
 
 counted-is : (form : ℕ) (line word : List ℕ) (texts : List (List ℕ)) (id : ℕ) (i : JournalItem) (nums : Option (List ℕ))
     → line ≡ word ++ after_spaces texts → (word_text id ≡ word) × (1 ≤ id) × (id < 1 + last_id form)
-    → numbers_at (has_signs form id) 0 texts ≡ nums → counted id nums ≡ Ok i → IsLine form line i
+    → numbers_at (has_signs form id) 0 texts ≡ nums → item_of_numbers id nums ≡ Ok i → IsLine form line i
 counted-is form line word texts id i None whole known read is = absurd cc
 counted-is form line word texts id i (Some nums) whole known read is = go (has_count id nums) refl is where
   go : (has : Bool) → has_count id nums ≡ has → cond {A = Result JournalItem ℕ} has (Ok (item id nums)) (Err 3) ≡ Ok i → IsLine form line i

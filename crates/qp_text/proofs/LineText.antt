@@ -13,7 +13,7 @@ use Rattle.std.proofs.lemmas.List.Folds.{list_all-append}
 use Rattle.qp_model.specs.Vocabulary.{word_text, has_count}
 use Rattle.qp_model.specs.Output.{JournalItem, last_id}
 use Rattle.qp_model.specs.OutputText.{after_spaces, number_texts}
-use Rattle.qp_text.specs.Numbers.{and_then, bits_of_negative, bits_of_positive, number_at, number_of, numbers_at, signed_of}
+use Rattle.qp_text.specs.Numbers.{and_then, bits_of_negative, bits_of_positive, number_at, number_of_decimal, numbers_at, signed_of}
 use Rattle.qp_text.specs.Parts.{split}
 use Rattle.qp_text.specs.TextLaw.{has_64_bits}
 use Rattle.qp_text.specs.LineItem.{has_signs, item_of_line}
@@ -35,7 +35,7 @@ pub decimal-free : (sep n : ℕ) → sep < 48 → n < 2 ^ 64 → is_free sep (de
 decimal-free sep n low small = digits-free sep (decimal n) low (decimal_is_IsNumeral n small).0.1
 
 -- digits without a minus are read as a number without one
-signed-plain : (digits : List ℕ) (n : ℕ) → is_free 45 digits ≡ true → number_of digits ≡ Some n → n < 2 ^ 63 → signed_of digits ≡ Some n
+signed-plain : (digits : List ℕ) (n : ℕ) → is_free 45 digits ≡ true → number_of_decimal digits ≡ Some n → n < 2 ^ 63 → signed_of digits ≡ Some n
 signed-plain [] n free read low =
     let shown = number_of-is [] n read in
     absurd (omega (arith, decimal_nonempty n shown.1, ap length shown.0))
@@ -44,7 +44,7 @@ signed-plain (b ∷ digits) n free read low =
     let fits : nat_lt n (2 ^ 63) ≡ true = grind (arith, nat_tests) in
     go (b == 45) refl first fits where
       go : (minus : Bool) → (b == 45) ≡ minus → not (b == 45) ≡ true → nat_lt n (2 ^ 63) ≡ true
-          → cond minus (and_then (number_of digits) bits_of_negative) (and_then (number_of (b ∷ digits)) bits_of_positive) ≡ Some n
+          → cond minus (and_then (number_of_decimal digits) bits_of_negative) (and_then (number_of_decimal (b ∷ digits)) bits_of_positive) ≡ Some n
       go true minus first fits = let no = rw minus at first in absurd cc
       go false minus first fits = rw (read, fits) refl
 
@@ -90,7 +90,7 @@ texts-free sep signs place (n ∷ nums) before fits =
     (text_of-free sep (signs && (place == 1)) n before (ltb-true n (2 ^ 64) both.0)) (texts-free sep signs (place + 1) nums before both.1)
 
 -- the text of a number is read as the number
-number-read : (is_signed : Bool) (n : ℕ) → n < 2 ^ 64 → cond is_signed (signed_of (text_of is_signed n)) (number_of (text_of is_signed n)) ≡ Some n
+number-read : (is_signed : Bool) (n : ℕ) → n < 2 ^ 64 → cond is_signed (signed_of (text_of is_signed n)) (number_of_decimal (text_of is_signed n)) ≡ Some n
 number-read true n small = signed-read n small
 number-read false n small = number_of-decimal n small
 

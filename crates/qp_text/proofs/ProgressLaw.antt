@@ -5,7 +5,7 @@ use Rattle.std.specs.Prelude.{◌==◌, ◌&&◌, ◌⊎◌, nat_le, nat_lt, opt
 use Rattle.std.specs.List.{list_all}
 use Rattle.std.specs.Option.{is_some}
 use Rattle.std.proofs.lemmas.Bool.{eqb-true, le-leb, leb-true, ltb-true, and_from, and_parts}
-use Rattle.qp_model.specs.Kinds.{QP, LANE, END, BEGIN}
+use Rattle.qp_model.specs.Kinds.{QP, LANE, END_LINE, BEGIN}
 use Rattle.qp_model.specs.declared.record.Rec.{Rec}
 use Rattle.qp_model.specs.Vocabulary.{has_count}
 use Rattle.qp_model.specs.Output.{JournalItem, item, record_item, items_of_lanes, last_id, is_record_in_range, is_lane_in_range, is_end_status}
@@ -68,13 +68,13 @@ module _ (p : Reading) (begun : p.begun ≡ true) (unended : p.end ≡ None) (ra
               ∙ ap (λ t. t ++ item LANE (number ∷ []) ∷ []) (sym before);
         }
 
-  pub close-is : (nums : List ℕ) (q : Reading) → close p nums ≡ Ok q → Takes p q p.form (item END nums)
+  pub close-is : (nums : List ℕ) (q : Reading) → close p nums ≡ Ok q → Takes p q p.form (item END_LINE nums)
   close-is [] q is = absurd cc
   close-is (a ∷ b ∷ nums) q is = absurd cc
   close-is (status ∷ []) q is = go (is_end_status status) refl is where
     go : (fits : Bool) → is_end_status status ≡ fits
         → cond {A = Result Reading ℕ} fits (Ok (record p { lanes = all_lanes p; lane = None; end = Some status })) (Err 6) ≡ Ok q
-        → Takes p q p.form (item END (status ∷ []))
+        → Takes p q p.form (item END_LINE (status ∷ []))
     go false fits is = absurd cc
     go true fits is =
         let this : record p { lanes = all_lanes p; lane = None; end = Some status } ≡ q = cc in
@@ -92,7 +92,7 @@ module _ (p : Reading) (begun : p.begun ≡ true) (unended : p.end ≡ None) (ra
             ended = λ other end. (let same : status ≡ other = cc in rw (← same) fits, refl);
           };
           items =
-              rw (begun, append-nil (all_lanes p)) refl ∙ ap (λ t. t ++ item END (status ∷ []) ∷ []) (sym before);
+              rw (begun, append-nil (all_lanes p)) refl ∙ ap (λ t. t ++ item END_LINE (status ∷ []) ∷ []) (sym before);
         }
 
   pub add_record-is : (id : ℕ) (nums : List ℕ) (q : Reading) → BEGIN ≤ id → id ≤ last_id p.form → has_count id nums ≡ true → has_64_bits nums ≡ true
@@ -135,7 +135,7 @@ module _ (p : Reading) (begun : p.begun ≡ true) (unended : p.end ≡ None) (ra
 module _ (p q : Reading) (i : JournalItem) (begun : p.begun ≡ true) (ranged : Ranged p) (first : 1 ≤ i.id) (past : i.id ≤ last_id p.form)
     (count : has_count i.id i.nums ≡ true) (bits : has_64_bits i.nums ≡ true) where
   -- by the last line, and by what the item is
-  go_on-by : (ended : Option ℕ) → p.end ≡ ended → (is_qp is_lane is_end : Bool) → (i.id == QP) ≡ is_qp → (i.id == LANE) ≡ is_lane → (i.id == END) ≡ is_end
+  go_on-by : (ended : Option ℕ) → p.end ≡ ended → (is_qp is_lane is_end : Bool) → (i.id == QP) ≡ is_qp → (i.id == LANE) ≡ is_lane → (i.id == END_LINE) ≡ is_end
       → cond {A = Result Reading ℕ} (is_some ended) (Err 4) (cond {A = Result Reading ℕ} is_qp (Err 4)
       (cond {A = Result Reading ℕ} is_lane (open_lane p i.nums) (cond {A = Result Reading ℕ} is_end (close p i.nums) (add_record p i.id i.nums p.lane)))) ≡ Ok q
       → Takes p q p.form i
@@ -145,7 +145,7 @@ module _ (p q : Reading) (i : JournalItem) (begun : p.begun ≡ true) (ranged : 
       let this : item LANE i.nums ≡ i = ap (λ id. item id i.nums) (sym (eqb-true i.id LANE lane)) in
       rw (← this) (open_lane-is p begun end ranged i.nums q is)
   go_on-by None end false false true qp lane last is =
-      let this : item END i.nums ≡ i = ap (λ id. item id i.nums) (sym (eqb-true i.id END last)) in
+      let this : item END_LINE i.nums ≡ i = ap (λ id. item id i.nums) (sym (eqb-true i.id END_LINE last)) in
       rw (← this) (close-is p begun end ranged i.nums q is)
   go_on-by None end false false false qp lane last is =
       let record_kind : BEGIN ≤ i.id = grind (arith, nat_tests) in
@@ -153,7 +153,7 @@ module _ (p q : Reading) (i : JournalItem) (begun : p.begun ≡ true) (ranged : 
 
   -- an item after the first
   pub go_on-is : go_on p i ≡ Ok q → Takes p q p.form i
-  go_on-is is = go_on-by p.end refl (i.id == QP) (i.id == LANE) (i.id == END) refl refl refl is
+  go_on-is is = go_on-by p.end refl (i.id == QP) (i.id == LANE) (i.id == END_LINE) refl refl refl is
 
 -- a reading has begun, or nothing has been read
 abbrev pub Good : Reading → Type 0

@@ -3,7 +3,7 @@ use Rattle.std.proofs.Common.{◌≡◌, ◌∙◌, ℕ, suc, ◌+◌, ◌≤◌
 use Rattle.std.specs.Prelude.{◌==◌, ◌&&◌, ◌⊎◌, nat_le}
 use Rattle.std.specs.List.{list_all}
 use Rattle.std.proofs.lemmas.Bool.{eqb-true, and_from, and_parts}
-use Rattle.qp_model.specs.Kinds.{QP, LANE, END}
+use Rattle.qp_model.specs.Kinds.{QP, LANE, END_LINE}
 use Rattle.qp_model.specs.declared.record.Rec.{Rec}
 use Rattle.qp_model.specs.Output.{JournalItem, item, record_item, items_of_lane, items_of_lanes, last_kernel, is_lane_in_range, is_end_status}
 use Rattle.qp_text.specs.declared.progress.Reading.{Reading}
@@ -13,7 +13,7 @@ use Rattle.qp_text.specs.TextLaw.{records_have_64_bits}
 -- the items of the last line, if it was read
 abbrev pub end_items : Option ℕ → List JournalItem
 end_items None = []
-end_items (Some status) = item END (status ∷ []) ∷ []
+end_items (Some status) = item END_LINE (status ∷ []) ∷ []
 
 -- the items that have been read
 abbrev pub taken : Reading → List JournalItem

@@ -13,7 +13,7 @@ use Rattle.qp_model.specs.Vocabulary.{has_count}
 use Rattle.qp_model.specs.Output.{JournalItem, has_form, has_no_rest, is_end_status, is_in_range, is_lane_in_range, is_record_in_range, last_kernel}
 use Rattle.qp_model.specs.OutputText.{line_text, lines_text, text}
 use Rattle.std.specs.Result.{IfOk}
-use Rattle.qp_text.specs.Found.{Reads}
+use Rattle.qp_text.specs.Found.{ReadsJournal}
 use Rattle.qp_text.specs.declared.found.Found.{Found}
 use Rattle.qp_text.specs.declared.found.TextFault.{TextFault}
 use Rattle.qp_text.specs.declared.progress.Reading.{Reading}
@@ -173,7 +173,7 @@ read_text-is v j bytes is =
     rw (← whole) (read_parts-is 1 v at_start j parts.0 parts.1 (inr refl) read)
 
 -- what a reader answers
-pub Reads-is : (result : Result Found TextFault) (bytes : List ℕ) → Reads result (read_text bytes)
+pub Reads-is : (result : Result Found TextFault) (bytes : List ℕ) → ReadsJournal result (read_text bytes)
     → IfOk result (λ found. IsText found.form found.journal bytes)
 Reads-is (Ok found) bytes reads = read_text-is found.form found.journal bytes reads
 Reads-is (Err fault) bytes reads = tt

@@ -6,7 +6,7 @@ use Rattle.std.proofs.lemmas.Bool.{eqb-true, eq-eqb, le-leb, leb-true, and_from,
 use Rattle.std.proofs.lemmas.Bool.Decides.{nat_tests}
 use Rattle.std.proofs.lemmas.Fmt.{decimal_digit}
 use Rattle.std.proofs.lemmas.Grind.{flat_map-append}
-use Rattle.qp_model.specs.Kinds.{QP, LANE, END, BEGIN}
+use Rattle.qp_model.specs.Kinds.{QP, LANE, END_LINE, BEGIN}
 use Rattle.qp_model.specs.declared.record.Rec.{Rec}
 use Rattle.qp_model.specs.declared.journals.Journal.{Journal}
 use Rattle.qp_model.specs.Vocabulary.{has_count}
@@ -15,7 +15,7 @@ use Rattle.qp_model.specs.OutputText.{line_text, lines_text, text}
 use Rattle.qp_text.specs.declared.progress.Reading.{Reading}
 use Rattle.qp_text.specs.declared.found.Found.{Found}
 use Rattle.qp_text.specs.declared.found.TextFault.{TextFault}
-use Rattle.qp_text.specs.Found.{Reads}
+use Rattle.qp_text.specs.Found.{ReadsJournal}
 use Rattle.qp_text.specs.Parts.{split}
 use Rattle.qp_text.specs.LineItem.{form_of_line, form_of_parts, item_of_line}
 use Rattle.qp_text.specs.Progress.{at_start, go_on, take_item}
@@ -107,7 +107,7 @@ module _ (form kernel budget : ℕ) where
   record-taken lanes lane r first small room =
       let not_qp : (r.kind == QP) ≡ false = grind (arith, nat_tests) in
       let not_lane : (r.kind == LANE) ≡ false = grind (arith, nat_tests) in
-      let not_end : (r.kind == END) ≡ false = grind (arith, nat_tests) in
+      let not_end : (r.kind == END_LINE) ≡ false = grind (arith, nat_tests) in
       let more : nat_lt (length lane) 1000001 ≡ true = grind (arith, nat_tests) in
       rw (not_qp, not_lane, not_end, small, more) refl
 
@@ -148,14 +148,14 @@ module _ (form kernel budget : ℕ) where
 
   module _ (status : ℕ) (good : is_end_status status ≡ true) where
     abbrev last : JournalItem
-    last = item END (status ∷ [])
+    last = item END_LINE (status ∷ [])
 
     -- over the last line
     reads-end : (lanes : List (List Rec)) (before : Option (List Rec)) → ReadsOn (under lanes before) (ended (lanes ++ option_to_list before) status) (line_text form last)
     reads-end lanes before =
         let is : IsItem form last = record {
           first = omega arith;
-          past = low-id form END (omega arith);
+          past = low-id form END_LINE (omega arith);
           count = refl;
           fits = and_from (nat_lt status (2 ^ 64)) true (bits-small status (omega (arith, status-small status good))) refl;
         } in
@@ -268,6 +268,6 @@ texts_are_one_to_one v w i j first second same =
     ok-pair v w i j (sym (read_text-back v i first.shape first.range first.bits) ∙ ap read_text same ∙ read_text-back w j second.shape second.range second.bits)
 
 -- what a reader of texts answers
-pub reads_texts : (result : Result Found TextFault) (bytes : List ℕ) → Reads result (read_text bytes) → ReadsTexts result bytes
+pub reads_texts : (result : Result Found TextFault) (bytes : List ℕ) → ReadsJournal result (read_text bytes) → ReadsTexts result bytes
 reads_texts result bytes reads form j is same =
-    subst (Reads result) (ap read_text (sym same) ∙ read_text-back form j is.shape is.range is.bits) reads
+    subst (ReadsJournal result) (ap read_text (sym same) ∙ read_text-back form j is.shape is.range is.bits) reads

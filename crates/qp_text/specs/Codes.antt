@@ -22,9 +22,9 @@ abbrev pub NO_END : ℕ
 NO_END = 5
 
 -- a number is out of range
-abbrev pub RANGE : ℕ
-RANGE = 6
+abbrev pub OUT_OF_RANGE : ℕ
+OUT_OF_RANGE = 6
 
 -- all codes, in their order
 abbrev pub codes : List ℕ
-codes = WORD ∷ NUMBER ∷ COUNT ∷ PLACE ∷ NO_END ∷ RANGE ∷ []
+codes = WORD ∷ NUMBER ∷ COUNT ∷ PLACE ∷ NO_END ∷ OUT_OF_RANGE ∷ []

@@ -4,10 +4,10 @@ use Rattle.qp_text.specs.declared.faults.LineFault.{LineFault}
 use Rattle.qp_text.specs.declared.faults.LineFault.TheVariants.{Memory, Code}
 
 -- the answer is the one that is wanted
-abbrev pub Answers : {T : Type 0} → Result T LineFault → Result T ℕ → Type 0
-Answers (Ok x) wanted = wanted ≡ Ok x
-Answers (Err Memory) wanted = ⊤
-Answers (Err (Code code)) wanted = wanted ≡ Err code
+abbrev pub LineAnswers : {T : Type 0} → Result T LineFault → Result T ℕ → Type 0
+LineAnswers (Ok x) wanted = wanted ≡ Ok x
+LineAnswers (Err Memory) wanted = ⊤
+LineAnswers (Err (Code code)) wanted = wanted ≡ Err code
 
 -- a value that a call changes became the one that is wanted
 abbrev pub Becomes : {U T : Type 0} → Result U LineFault → T → Result T ℕ → Type 0

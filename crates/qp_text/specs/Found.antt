@@ -6,7 +6,7 @@ use Rattle.qp_text.specs.declared.found.TextFault.{TextFault}
 use Rattle.qp_text.specs.declared.found.TextFault.TheVariants.{Memory, Line}
 
 -- the answer is the journal in its form, or the line with its code
-abbrev pub Reads : Result Found TextFault → Result (ℕ × Journal) (ℕ × ℕ) → Type 0
-Reads (Ok found) wanted = wanted ≡ Ok (found.form, found.journal)
-Reads (Err Memory) wanted = ⊤
-Reads (Err (Line number code)) wanted = wanted ≡ Err (number, code)
+abbrev pub ReadsJournal : Result Found TextFault → Result (ℕ × Journal) (ℕ × ℕ) → Type 0
+ReadsJournal (Ok found) wanted = wanted ≡ Ok (found.form, found.journal)
+ReadsJournal (Err Memory) wanted = ⊤
+ReadsJournal (Err (Line number code)) wanted = wanted ≡ Err (number, code)

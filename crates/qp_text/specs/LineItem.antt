@@ -22,14 +22,14 @@ abbrev pub has_signs : ℕ → ℕ → Bool
 has_signs form id = (form == 2) && (id == SAY)
 
 -- with these numbers
-abbrev pub counted : ℕ → Option (List ℕ) → Result JournalItem ℕ
-counted id None = Err NUMBER
-counted id (Some nums) = if has_count id nums then Ok (item id nums) else Err COUNT
+abbrev pub item_of_numbers : ℕ → Option (List ℕ) → Result JournalItem ℕ
+item_of_numbers id None = Err NUMBER
+item_of_numbers id (Some nums) = if has_count id nums then Ok (item id nums) else Err COUNT
 
 -- with the word of this id
 abbrev pub numbered : ℕ → List (List ℕ) → Option ℕ → Result JournalItem ℕ
 numbered form texts None = Err WORD
-numbered form texts (Some id) = counted id (numbers_at (has_signs form id) 0 texts)
+numbered form texts (Some id) = item_of_numbers id (numbers_at (has_signs form id) 0 texts)
 
 -- by the parts of a line
 abbrev pub item_of_parts : ℕ → List (List ℕ) → Result JournalItem ℕ

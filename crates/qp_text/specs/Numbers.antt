@@ -22,8 +22,8 @@ and_then None f = None
 and_then (Some a) f = f a
 
 -- a number of 64 bits whose decimal is this very text
-abbrev pub number_of : List ℕ → Option ℕ
-number_of text = and_then (fitting (value_after 0 text)) (if_canonical text)
+abbrev pub number_of_decimal : List ℕ → Option ℕ
+number_of_decimal text = and_then (fitting (value_after 0 text)) (if_canonical text)
 
 -- the bits of a signed number by its size
 abbrev pub bits_of_positive : ℕ → Option ℕ
@@ -36,11 +36,11 @@ bits_of_negative n = if nat_le 1 n && nat_le n (2 ^ 63) then Some (2 ^ 64 - n) e
 abbrev pub signed_of : List ℕ → Option ℕ
 signed_of [] = None
 signed_of (b ∷ digits) =
-    if b == 45 then and_then (number_of digits) bits_of_negative else and_then (number_of (b ∷ digits)) bits_of_positive
+    if b == 45 then and_then (number_of_decimal digits) bits_of_negative else and_then (number_of_decimal (b ∷ digits)) bits_of_positive
 
 -- the number at this place after the word; where values have signs, the second is one
 abbrev pub number_at : Bool → ℕ → List ℕ → Option ℕ
-number_at has_signs place text = if has_signs && (place == 1) then signed_of text else number_of text
+number_at has_signs place text = if has_signs && (place == 1) then signed_of text else number_of_decimal text
 
 -- the numbers from this place on, if each text is one
 abbrev pub numbers_at : Bool → ℕ → List (List ℕ) → Option (List ℕ)

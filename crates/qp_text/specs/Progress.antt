@@ -1,11 +1,11 @@
 -- How far a journal has been read, item by item.
 use Rattle.std.specs.Prelude.{ℕ, ◌==◌, nat_lt, nat_le, true, false, ◌&&◌, List, [], ◌∷◌, ◌++◌, length, if◌then◌else◌, Option, Some, None, Result, Ok, Err, option_to_list}
 use Rattle.std.specs.Option.{is_some}
-use Rattle.qp_model.specs.Kinds.{QP, LANE, END}
+use Rattle.qp_model.specs.Kinds.{QP, LANE, END_LINE}
 use Rattle.qp_model.specs.declared.record.Rec.{Rec}
 use Rattle.qp_model.specs.declared.journals.Journal.{Journal}
 use Rattle.qp_model.specs.Output.{JournalItem, last_kernel, is_end_status}
-use Rattle.qp_text.specs.Codes.{COUNT, PLACE, RANGE}
+use Rattle.qp_text.specs.Codes.{COUNT, PLACE, OUT_OF_RANGE}
 use Rattle.qp_text.specs.declared.progress.Reading.{Reading}
 
 -- nothing has been read
@@ -25,20 +25,20 @@ abbrev pub begin : Reading → ℕ → List ℕ → Result Reading ℕ
 begin p form (stated ∷ kernel ∷ budget ∷ []) =
     if (stated == form) && nat_le kernel (last_kernel form) && nat_le 1 budget && nat_le budget 1000000
     then Ok (record p { begun = true; form = form; kernel = kernel; budget = budget })
-    else Err RANGE
+    else Err OUT_OF_RANGE
 begin p form _ = Err COUNT
 
 -- the head of a lane, whose number must be the next
 abbrev pub open_lane : Reading → List ℕ → Result Reading ℕ
 open_lane p (number ∷ []) =
     if number == length (all_lanes p)
-    then (if nat_le number 48 then Ok (record p { lanes = all_lanes p; lane = Some [] }) else Err RANGE)
+    then (if nat_le number 48 then Ok (record p { lanes = all_lanes p; lane = Some [] }) else Err OUT_OF_RANGE)
     else Err PLACE
 open_lane p _ = Err COUNT
 
 -- the last line
 abbrev pub close : Reading → List ℕ → Result Reading ℕ
-close p (status ∷ []) = if is_end_status status then Ok (record p { lanes = all_lanes p; lane = None; end = Some status }) else Err RANGE
+close p (status ∷ []) = if is_end_status status then Ok (record p { lanes = all_lanes p; lane = None; end = Some status }) else Err OUT_OF_RANGE
 close p _ = Err COUNT
 
 -- a record, in the lane that is being read
@@ -48,7 +48,7 @@ add_record p id [] (Some lane) = Err COUNT
 add_record p id (o ∷ nums) (Some lane) =
     if nat_le o 32 && nat_lt (length lane) 1000001
     then Ok (record p { lane = Some (lane ++ record { kind = id; of = o; nums = record { items = nums } } ∷ []) })
-    else Err RANGE
+    else Err OUT_OF_RANGE
 
 -- an item after the first
 abbrev pub go_on : Reading → JournalItem → Result Reading ℕ
@@ -56,7 +56,7 @@ go_on p i =
     if is_some p.end then Err PLACE
     else (if i.id == QP then Err PLACE
     else (if i.id == LANE then open_lane p i.nums
-    else (if i.id == END then close p i.nums else add_record p i.id i.nums p.lane)))
+    else (if i.id == END_LINE then close p i.nums else add_record p i.id i.nums p.lane)))
 
 -- one more item, in this form
 abbrev pub take_item : ℕ → Reading → JournalItem → Result Reading ℕ

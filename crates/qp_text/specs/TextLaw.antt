@@ -7,7 +7,7 @@ use Rattle.qp_model.specs.Output.{has_form, is_in_range}
 use Rattle.qp_model.specs.OutputText.{text}
 use Rattle.qp_text.specs.declared.found.Found.{Found}
 use Rattle.qp_text.specs.declared.found.TextFault.{TextFault}
-use Rattle.qp_text.specs.Found.{Reads}
+use Rattle.qp_text.specs.Found.{ReadsJournal}
 use Rattle.qp_text.specs.ReadText.{read_text}
 
 -- each number has 64 bits
@@ -39,4 +39,4 @@ TextsAreOneToOne = (v w : ℕ) (i j : Journal) → IsWritable v i → IsWritable
 
 -- where the bytes are the text of a journal in range, the answer is this journal in its form. Want of memory is free
 abbrev pub ReadsTexts : Result Found TextFault → List ℕ → Type 0
-ReadsTexts result bytes = (form : ℕ) (j : Journal) → IsWritable form j → text form j ≡ bytes → Reads result (Ok (form, j))
+ReadsTexts result bytes = (form : ℕ) (j : Journal) → IsWritable form j → text form j ≡ bytes → ReadsJournal result (Ok (form, j))

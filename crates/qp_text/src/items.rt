@@ -3,8 +3,8 @@
 ghost use Rattle.std.specs.Prelude.{◌≡◌, ◌≤◌, ◌==◌, IfOk, IfSome, length, Some, None, if◌then◌else◌};
 ghost use Rattle.qp_model.specs.Output.{last_id};
 ghost use Rattle.qp_text.specs.Codes.{NUMBER};
-ghost use Rattle.qp_text.specs.Faults.{Answers, or_code};
-ghost use Rattle.qp_text.specs.LineItem.{counted, form_of_line, has_signs, id_of, item_of_line};
+ghost use Rattle.qp_text.specs.Faults.{LineAnswers, or_code};
+ghost use Rattle.qp_text.specs.LineItem.{item_of_numbers, form_of_line, has_signs, id_of, item_of_line};
 ghost use Rattle.qp_text.specs.Numbers.{numbers_at};
 ghost use Rattle.qp_text.specs.Parts.{parts_behind};
 
@@ -47,7 +47,7 @@ impl Model for LineItem {
 
 /// Reads the item of a line, in this form.
 pub(crate) fn read_line(alloc: Global, form: u8, line: &[u8]) -> Result<LineItem, LineFault>
-    ensures exact { Answers result (item_of_line form line.now) }
+    ensures exact { LineAnswers result (item_of_line form line.now) }
     ensures count { IfOk result (λ i. length i.nums ≤ 14) }
 {
     let (word, texts) = cut(line, b' ');
@@ -60,7 +60,7 @@ pub(crate) fn read_line(alloc: Global, form: u8, line: &[u8]) -> Result<LineItem
 /// The item of this id with these numbers, if they are as many as it has.
 fn counted(id: u8, nums: Numbers) -> Result<LineItem, LineFault>
     requires { id ≤ 46 }
-    ensures exact { Answers result (counted id (Some nums)) }
+    ensures exact { LineAnswers result (item_of_numbers id (Some nums)) }
     ensures count { IfOk result (λ i. length i.nums ≤ 14) }
 {
     if vocabulary::has_count(id, nums.items.as_slice()) {
@@ -112,7 +112,7 @@ fn id_of(form: u8, word: &[u8]) -> Option<u8>
 
 /// The numbers that stand behind the word.
 fn read_numbers(alloc: Global, has_signs: bool, texts: Option<&[u8]>) -> Result<Numbers, LineFault>
-    ensures { Answers result (or_code NUMBER (numbers_at has_signs 0 (parts_behind 32 texts.entry))) }
+    ensures { LineAnswers result (or_code NUMBER (numbers_at has_signs 0 (parts_behind 32 texts.entry))) }
 {
     let mut nums = Vec::new(alloc);
     let mut more = texts;

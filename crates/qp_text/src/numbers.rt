@@ -1,7 +1,7 @@
 //! Numbers in a journal's text.
 
 ghost use Rattle.std.specs.Prelude.{◌≡◌, ◌<◌, ◌^◌, nat_lt, if◌then◌else◌, Some, None};
-ghost use Rattle.qp_text.specs.Numbers.{fitting, number_at, number_of, signed_of, value_after};
+ghost use Rattle.qp_text.specs.Numbers.{fitting, number_at, number_of_decimal, signed_of, value_after};
 
 use itoa::Buffer;
 
@@ -39,7 +39,7 @@ fn signed(text: &[u8]) -> Option<u64>
 
 /// A number in canonical decimal.
 fn number(text: &[u8]) -> Option<u64>
-    ensures { result ≡ number_of text.now }
+    ensures { result ≡ number_of_decimal text.now }
 {
     let n = value(text)?;
     if Buffer::new().format(n).as_bytes() == text {

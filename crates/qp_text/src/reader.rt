@@ -3,7 +3,7 @@
 ghost use Rattle.std.specs.Prelude.{◌≡◌, IfOk, IsTrue};
 ghost use Rattle.qp_model.specs.Output.{has_form, is_in_range};
 ghost use Rattle.qp_model.specs.OutputText.{text};
-ghost use Rattle.qp_text.specs.Found.{Reads};
+ghost use Rattle.qp_text.specs.Found.{ReadsJournal};
 ghost use Rattle.qp_text.specs.ReadText.{finish, last_part, read_text};
 ghost use Rattle.qp_text.specs.TextLaw.{ReadsTexts};
 
@@ -20,7 +20,7 @@ use std::alloc::Global;
 /// Lines count from 1. The codes are: 1 no known word or no newline, 2 no number, 3 a wrong count of numbers, 4 an item
 /// that isn't allowed there, 5 the text ends without `end`, 6 a number out of range.
 pub fn read_journal(alloc: Global, bytes: &[u8]) -> Result<Found, TextFault>
-    ensures exact { Reads result (read_text bytes.now) }
+    ensures exact { ReadsJournal result (read_text bytes.now) }
 
     // What is read is the text of a journal in range.
     ensures text { IfOk result (λ found. text found.form found.journal ≡ bytes.now) }
@@ -35,7 +35,7 @@ pub fn read_journal(alloc: Global, bytes: &[u8]) -> Result<Found, TextFault>
 
 /// Reads a text line by line.
 fn read(alloc: Global, bytes: &[u8]) -> Result<Found, TextFault>
-    ensures { Reads result (read_text bytes.now) }
+    ensures { ReadsJournal result (read_text bytes.now) }
 {
     let mut reading = Reading::new(alloc);
     let mut number = 1u64;
@@ -57,7 +57,7 @@ fn read(alloc: Global, bytes: &[u8]) -> Result<Found, TextFault>
 
 /// What stands behind the last newline.
 fn last_part(number: u64, reading: Reading, part: &[u8]) -> Result<Found, TextFault>
-    ensures { Reads result (last_part number reading part.now) }
+    ensures { ReadsJournal result (last_part number reading part.now) }
 {
     if part.is_empty() {
         finish(number, reading)
@@ -71,7 +71,7 @@ fn last_part(number: u64, reading: Reading, part: &[u8]) -> Result<Found, TextFa
 
 /// The text ends here.
 fn finish(number: u64, reading: Reading) -> Result<Found, TextFault>
-    ensures { Reads result (finish number reading reading.end) }
+    ensures { ReadsJournal result (finish number reading reading.end) }
 {
     let Some(end) = reading.end else {
         return Err(TextFault::Line {

@@ -8,7 +8,7 @@ use Rattle.qp_model.specs.declared.bodies.Body.{Body}
 use Rattle.qp_model.specs.declared.bodies.Body.TheVariants as body
 use Rattle.qp_model.specs.declared.systems.System.{System}
 use Rattle.qp_model.specs.Ends.{is_spill}
-use Rattle.qp_model.specs.HomeLane.{are_at_home, is_at_home, seen_counts, taken_by}
+use Rattle.qp_model.specs.HomeLane.{are_at_home, is_at_home, seen_counts, count_taken}
 use Rattle.qp_model.specs.Told.{ToldItem}
 use Rattle.qp_model.proofs.AbleLemmas.{some-same}
 use Rattle.qp_model_order.specs.SourceRun.{untold_all}
@@ -16,10 +16,10 @@ use Rattle.qp_calls.specs.Clauses.{last_nil, nil_by}
 use Rattle.qp_calls.specs.LaneLaws.{IsWithinLimit}
 use Rattle.qp_calls.specs.LaneView.{Counts, LaneView, NotShown, Shown}
 use Rattle.qp_calls.specs.Notes.{spills_told}
-use Rattle.qp_port_home_law.specs.HomeLanes.{LooksOnce, looks_in}
-use Rattle.qp_port_home.specs.declared.home.Home.{Home}
-use Rattle.qp_port_home.specs.Turning.{HomeIdles}
-use Rattle.qp_wait_lane.specs.Parked.{is_empty_look}
+use Rattle.qp_port_law.specs.HomeLanes.{LooksOnce, looks_in}
+use Rattle.qp_port_lanes.specs.declared.home.Home.{Home}
+use Rattle.qp_port_lanes.specs.Turning.{HomeIdles}
+use Rattle.qp_wait.specs.Parked.{is_empty_look}
 use Rattle.qp_wait.specs.Pausing.{HasLook}
 
 same-test : (n m : ℕ) → n ≡ m → (n == m) ≡ true
@@ -72,8 +72,8 @@ pub seen-there : (o budget n : ℕ) (told : List ToldItem) (f l m : ℕ) → are
 unfolding are_at_home
 seen-there o budget n [] f l m home h empty = absurd (cc)
 seen-there o budget n (t ∷ told) f l m home h empty =
-    let parts = and_parts (is_at_home o (n == budget) (false && (length (untold_all told) == 0)) t.of t.told.body) (are_at_home o budget false (taken_by n t.told.body) (untold_all told)) home in
-    by (seen_counts t.told.body) refl h parts.0 (seen-there o budget (taken_by n t.told.body) told f l m parts.1)
+    let parts = and_parts (is_at_home o (n == budget) (false && (length (untold_all told) == 0)) t.of t.told.body) (are_at_home o budget false (count_taken n t.told.body) (untold_all told)) home in
+    by (seen_counts t.told.body) refl h parts.0 (seen-there o budget (count_taken n t.told.body) told f l m parts.1)
   where
     by : (x : Option (ℕ × ℕ × ℕ)) → seen_counts t.told.body ≡ x → cons_option x (filter_map (λ i. seen_counts i.body) (untold_all told)) ≡ (f, l, m) ∷ []
         → is_at_home o (n == budget) (false && (length (untold_all told) == 0)) t.of t.told.body ≡ true

@@ -5,7 +5,7 @@ use Rattle.qp_model.specs.History.{lane_items}
 use Rattle.qp_model.specs.Record.{item_of}
 use Rattle.qp_model.specs.Told.{ToldItem}
 use Rattle.qp_model_order.specs.SourceRun.{untold_all}
-use Rattle.qp_wait_lane.specs.Parked.{is_empty_look, is_park_place}
+use Rattle.qp_wait.specs.Parked.{is_empty_look, is_park_place}
 use Rattle.qp_wait.specs.Looking.{IsLastLook, is_look_at}
 
 module _ (me : ℕ) where

@@ -5,3 +5,7 @@ pub mod Nils
 pub mod Parts
 pub mod Waiting
 pub mod Handed
+pub mod Saying
+pub mod Parking
+pub mod CrossingLemmas
+pub mod Wrapped

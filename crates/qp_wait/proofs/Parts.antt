@@ -9,16 +9,16 @@ use Rattle.qp_kernel_turns.specs.declared.halting.Halt.{Halt}
 use Rattle.qp_kernel_turns.specs.declared.halting.Halt.TheVariants as halt
 use Rattle.qp_kernel_turns.specs.Lanes.{LaneGoes, LaneHalts}
 use Rattle.qp_kernel_turns.proofs.Lanes.{finds-stop, stops-memory}
-use Rattle.qp_port_home.specs.declared.home.Home.{Home}
-use Rattle.qp_port_home.specs.At.{IsHome}
-use Rattle.qp_port_home.specs.Turning.{HomeHalts}
-use Rattle.qp_port_home.proofs.Resting.{stops-found}
+use Rattle.qp_port_lanes.specs.declared.home.Home.{Home}
+use Rattle.qp_port_lanes.specs.At.{IsHome}
+use Rattle.qp_port_lanes.specs.Turning.{HomeHalts}
+use Rattle.qp_port_lanes.proofs.Resting.{stops-found}
 use Rattle.qp_wait_bells.specs.Tallies.{one_where}
-use Rattle.qp_wait_lane.specs.Handed.{lane_view, ringing_view}
-use Rattle.qp_wait_lane.specs.declared.lane.BellLane.{BellLane}
-use Rattle.qp_wait_lane.specs.Lane.{KeepsPerch, LooksAtCount, bell_view}
-use Rattle.qp_wait_lane.specs.Parked.{is_park_place, parks_of}
-use Rattle.qp_wait.specs.Pausing.{HasNotParked, HasParkedAt, IsStopped, Parks, Pauses, Rests}
+use Rattle.qp_wait.specs.Wrapped.{lane_view, ringing_view}
+use Rattle.qp_wait.specs.declared.lane.BellLane.{BellLane}
+use Rattle.qp_wait.specs.Lane.{KeepsPerch, LooksAtCount, bell_view}
+use Rattle.qp_wait.specs.Parked.{is_park_place, parks_of}
+use Rattle.qp_wait.specs.Pausing.{HasNotParked, HasParkedAt, IsStopFound, Parks, Pauses, LaneRests}
 use Rattle.qp_wait.specs.Steps.{ClosesStep, FinishesOne, KeepsCounts}
 
 -- One is taken off behind a step.
@@ -37,7 +37,7 @@ finishes-one was is x y z keeps c = record {
 
 -- A park, and where none was made.
 
-pub rests-same : (x w : BellLane) → w.closings ≡ x.closings → w.farewells ≡ x.farewells → Rests false x w
+pub rests-same : (x w : BellLane) → w.closings ≡ x.closings → w.farewells ≡ x.farewells → LaneRests false x w
 rests-same x w closings farewells = record {
   ended = ap (λ c. c.ended) closings;
   looks = let same = ap (λ c. c.seat.me.0.empty_looks) closings in omega (arith, same);
@@ -46,7 +46,7 @@ rests-same x w closings farewells = record {
 }
 
 module _ (x w : BellLane) (keeps : KeepsPerch x w) where
-  kept : Rests false x w
+  kept : LaneRests false x w
   kept = rests-same x w keeps.closings keeps.farewells
 
   pub parks-by : (me place : ℕ) (r : Result (Unit {0}) Memory) → (is_park_place me (bell_view x).told place ≡ true) × ((k : ℕ) → place < k → is_park_place me (bell_view x).told k ≡ false)
@@ -61,7 +61,7 @@ looked over x y looks = record {
   parks = ap parks_of looks.perch;
 }
 
-rests-then : (x y w : BellLane) → Rests false x y → Rests false y w → Rests false x w
+rests-then : (x y w : BellLane) → LaneRests false x y → LaneRests false y w → LaneRests false x w
 rests-then x y w one two = record {
   ended = two.ended ∙ one.ended;
   looks = let first = one.looks in let second = two.looks in omega (arith, first, second);
@@ -85,13 +85,13 @@ parked-then me x y w one two = record {
 
 -- The run stops where the queue was found empty.
 module _ (sys : System) (sound : IsSound sys) (budget : ℕ) (y : Home) (z w : BellLane) (home : IsHome sys budget y (bell_view z)) where
-  pub pause-stops : IsStopped z w → HomeHalts sys budget y.me y (bell_view w) halt.Stopped
+  pub pause-stops : IsStopFound z w → HomeHalts sys budget y.me y (bell_view w) halt.Stopped
   pause-stops s = stops-found sys sound budget y (bell_view z) home (bell_view w) (ap (λ v. v.told) s.found.0)
 
   pub pause-halts : (u : LaneView) (h : Halt) → LaneGoes false u (bell_view z) → Pauses y.me z w (Err h) → (HomeHalts sys budget y.me y (bell_view w) h) × (LaneHalts false u (bell_view w) h)
   pause-halts u halt.Stopped goes s = (pause-stops s, finds-stop false s.code u (bell_view z) (bell_view w) goes s.found.0)
   pause-halts u halt.Memory goes s = (tt, stops-memory false u (bell_view z) (bell_view w) goes s.stops)
 
-pub pause-rests : (me : ℕ) (z w : BellLane) (h : Halt) → Pauses me z w (Err h) → ((bell_view w).told ≡ (bell_view z).told) × Rests false z w × (parks_of w.perch ≡ parks_of z.perch)
+pub pause-rests : (me : ℕ) (z w : BellLane) (h : Halt) → Pauses me z w (Err h) → ((bell_view w).told ≡ (bell_view z).told) × LaneRests false z w × (parks_of w.perch ≡ parks_of z.perch)
 pause-rests me z w halt.Stopped s = (ap (λ v. v.told) s.found.0, s.rests, s.parks)
 pause-rests me z w halt.Memory s = (ap (λ v. v.told) s.stops, s.rests, s.parks)

@@ -1,13 +1,13 @@
 -- Parts of a turn, one behind another.
 use Rattle.std.proofs.Common.{◌≡◌, ◌⊎◌, ℕ, ◌+◌, ◌<◌, ◌%◌, ◌^◌, min, Bool, true, false, ◌||◌, List, [], ◌∷◌, ◌++◌, refl, sym, ◌∙◌, ap, subst, inl, inr, arith, append_assoc, append-nil}
 use Rattle.qp_model.specs.Told.{ToldItem}
-use Rattle.qp_port_home.specs.Takes.{AddsEmpty, AddsNoTake, AddsTook}
+use Rattle.qp_port_lanes.specs.Takes.{AddsEmpty, AddsNoTake, AddsTook}
 use Rattle.qp_wait_bells.specs.Tallies.{one_where}
-use Rattle.qp_wait_lane.specs.Handed.{ringing_view}
-use Rattle.qp_wait_lane.specs.declared.lane.BellLane.{BellLane}
-use Rattle.qp_wait_lane.specs.Lane.{SaysOne, bell_view}
-use Rattle.qp_wait_lane.specs.Parked.{parks_of}
-use Rattle.qp_wait.specs.Pausing.{HasParkedAt, Rests}
+use Rattle.qp_wait.specs.Wrapped.{ringing_view}
+use Rattle.qp_wait.specs.declared.lane.BellLane.{BellLane}
+use Rattle.qp_wait.specs.Lane.{SaysOne, bell_view}
+use Rattle.qp_wait.specs.Parked.{parks_of}
+use Rattle.qp_wait.specs.Pausing.{HasParkedAt, LaneRests}
 use Rattle.qp_wait.specs.Steps.{FinishesNone, FinishesOne, KeepsCounts}
 use Rattle.qp_wait.specs.Waiting.{IsWaiting, Waits, holds_place, is_nil_at, steps_in}
 use Rattle.qp_wait.proofs.Nils.{AreParked, Begins, begins-empty, begins-none, begins-then, begins-took, empty-last, empty-parked, nil-inside, parked-none, parked-took, steps-append}
@@ -187,7 +187,7 @@ module _ (x y : BellLane) (said : Bool) (h : IsWaiting said x y) where
         }
 
     -- or the turn is over, or stops
-    pub waits-behind : (over : Bool) → (bell_view w).told ≡ (bell_view z).told → Rests over z w → parks_of w.perch ≡ parks_of z.perch → Waits over false 0 x w
+    pub waits-behind : (over : Bool) → (bell_view w).told ≡ (bell_view z).told → LaneRests over z w → parks_of w.perch ≡ parks_of z.perch → Waits over false 0 x w
     waits-behind over told rests parks =
         let all = steps-all 0 (bell_view z).told more in
         record {

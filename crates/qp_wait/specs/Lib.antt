@@ -3,3 +3,9 @@ pub mod Pausing
 pub mod Steps
 pub mod Waiting
 pub mod Handed
+pub mod Parked
+pub mod Ropes
+pub mod Rooted
+pub mod Lane
+pub mod LaneLaws
+pub mod Wrapped

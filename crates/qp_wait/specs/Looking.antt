@@ -3,7 +3,7 @@ use Rattle.std.specs.Prelude.{◌≡◌, ℕ, ◌<◌, Bool, true, false, List, 
 use Rattle.std.specs.declared.option.Option.{Option}
 use Rattle.std.specs.Option.{option_map_or}
 use Rattle.qp_model.specs.Record.{Item}
-use Rattle.qp_wait_lane.specs.Parked.{is_empty_look}
+use Rattle.qp_wait.specs.Parked.{is_empty_look}
 
 -- such a look stands at this place
 abbrev pub is_look_at : ℕ → List Item → ℕ → Bool

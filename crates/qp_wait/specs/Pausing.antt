@@ -7,16 +7,16 @@ use Rattle.qp_calls.specs.Clauses.{Stopped, Stops}
 use Rattle.qp_kernel_turns.specs.declared.halting.Halt.{Halt}
 use Rattle.qp_kernel_turns.specs.declared.halting.Halt.TheVariants as halt
 use Rattle.qp_wait_bells.specs.Tallies.{one_where}
-use Rattle.qp_wait_lane.specs.declared.lane.BellLane.{BellLane}
-use Rattle.qp_wait_lane.specs.Lane.{bell_view, empty_looks, last_takes}
-use Rattle.qp_wait_lane.specs.Parked.{is_park_place, parks_of}
+use Rattle.qp_wait.specs.declared.lane.BellLane.{BellLane}
+use Rattle.qp_wait.specs.Lane.{bell_view, empty_looks, last_takes}
+use Rattle.qp_wait.specs.Parked.{is_park_place, parks_of}
 
 -- a look that found the queue of object `me` empty stands among the records
 abbrev pub HasLook : ℕ → List ToldItem → Type 0
 HasLook me told = (n : ℕ) × (is_park_place me told n ≡ true)
 
 -- nothing was taken off the count, and no farewell was said; `over` tells whether a look found nothing on it
-pub record Rests (over : Bool) (old new : BellLane) : Type 0 where
+pub record LaneRests (over : Bool) (old new : BellLane) : Type 0 where
   pub ended : new.closings.ended ≡ old.closings.ended
   pub looks : empty_looks new ≡ empty_looks old + one_where over
   pub lasts : last_takes new ≡ last_takes old
@@ -24,7 +24,7 @@ pub record Rests (over : Bool) (old new : BellLane) : Type 0 where
 
 -- it parked behind the last look that found the queue of object `me` empty
 pub record HasParkedAt (me : ℕ) (old new : BellLane) : Type 0 where
-  pub rests : Rests false old new
+  pub rests : LaneRests false old new
   pub lane : bell_view new ≡ bell_view old
   pub place : ℕ
   pub look : is_park_place me (bell_view old).told place ≡ true
@@ -34,7 +34,7 @@ pub record HasParkedAt (me : ℕ) (old new : BellLane) : Type 0 where
 
 -- it didn't
 pub record HasNotParked (over : Bool) (old new : BellLane) : Type 0 where
-  pub rests : Rests over old new
+  pub rests : LaneRests over old new
   pub lane : bell_view new ≡ bell_view old
   pub parks : parks_of new.perch ≡ parks_of old.perch
 
@@ -43,15 +43,15 @@ Parks me old new (Ok u) = HasParkedAt me old new
 Parks me old new (Err e) = HasNotParked false old new
 
 -- the stop word was found set
-pub record IsStopped (old new : BellLane) : Type 0 where
-  pub rests : Rests false old new
+pub record IsStopFound (old new : BellLane) : Type 0 where
+  pub rests : LaneRests false old new
   pub code : ℕ
   pub found : Stopped (bell_view old) (bell_view new) (Some code)
   pub parks : parks_of new.perch ≡ parks_of old.perch
 
 -- it couldn't park
 pub record IsShort (old new : BellLane) : Type 0 where
-  pub rests : Rests false old new
+  pub rests : LaneRests false old new
   pub stops : Stops 7 (bell_view old) (bell_view new)
   pub parks : parks_of new.perch ≡ parks_of old.perch
 
@@ -59,5 +59,5 @@ pub record IsShort (old new : BellLane) : Type 0 where
 abbrev pub Pauses : ℕ → BellLane → BellLane → Result Bool Halt → Type 0
 Pauses me old new (Ok true) = HasParkedAt me old new
 Pauses me old new (Ok false) = HasNotParked true old new
-Pauses me old new (Err halt.Stopped) = IsStopped old new
+Pauses me old new (Err halt.Stopped) = IsStopFound old new
 Pauses me old new (Err halt.Memory) = IsShort old new

@@ -3,8 +3,8 @@ use Rattle.std.specs.Prelude.{◌≡◌, ℕ, ◌+◌, ◌%◌, ◌^◌, Bool, �
 use Rattle.std.specs.declared.result.Result.{Result}
 use Rattle.qp_kernel_turns.specs.declared.halting.Halt.{Halt}
 use Rattle.qp_wait_bells.specs.Tallies.{one_where}
-use Rattle.qp_wait_lane.specs.declared.lane.BellLane.{BellLane}
-use Rattle.qp_wait_lane.specs.Lane.{empty_looks, last_takes}
+use Rattle.qp_wait.specs.declared.lane.BellLane.{BellLane}
+use Rattle.qp_wait.specs.Lane.{empty_looks, last_takes}
 
 -- it took nothing off beside refused claims, didn't look at the count, said no farewell, and didn't park
 pub record KeepsCounts (old new : BellLane) : Type 0 where

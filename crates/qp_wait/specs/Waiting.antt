@@ -8,11 +8,11 @@ use Rattle.qp_model.specs.Told.{ToldItem}
 use Rattle.qp_dispatch.specs.declared.objects.Turn.{Turn}
 use Rattle.qp_dispatch.specs.declared.objects.Turn.TheVariants as turn
 use Rattle.qp_kernel_turns.specs.declared.halting.Halt.{Halt}
-use Rattle.qp_port_home.specs.Takes.{is_took}
+use Rattle.qp_port_lanes.specs.Takes.{is_took}
 use Rattle.qp_wait_bells.specs.Tallies.{one_where}
-use Rattle.qp_wait_lane.specs.declared.lane.BellLane.{BellLane}
-use Rattle.qp_wait_lane.specs.Lane.{bell_view, empty_looks, last_takes}
-use Rattle.qp_wait_lane.specs.Parked.{parks_of}
+use Rattle.qp_wait.specs.declared.lane.BellLane.{BellLane}
+use Rattle.qp_wait.specs.Lane.{bell_view, empty_looks, last_takes}
+use Rattle.qp_wait.specs.Parked.{parks_of}
 
 abbrev pub is_nil_at : List ToldItem → ℕ → Bool
 is_nil_at told n = option_map_or (λ t. is_nil t.told.body) (slice_get told n) false

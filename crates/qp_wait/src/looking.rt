@@ -3,7 +3,7 @@
 ghost use Rattle.std.specs.Prelude.{◌≡◌, ◌+◌, ◌==◌};
 ghost use Rattle.qp_model.specs.History.{lane_items};
 ghost use Rattle.qp_model.specs.Record.{item_of};
-ghost use Rattle.qp_wait_lane.specs.Parked.{is_empty_look};
+ghost use Rattle.qp_wait.specs.Parked.{is_empty_look};
 ghost use Rattle.qp_wait.specs.Looking.{IsLastLook};
 
 use qp_model::{Body, Rec};

@@ -1,14 +1,14 @@
 //! Where a turn found its queue empty.
 
 ghost use Rattle.std.specs.Prelude.{◌≡◌, ◌≤◌, Some, length};
-ghost use Rattle.qp_wait_lane.specs.Lane.{bell_view};
+ghost use Rattle.qp_wait.specs.Lane.{bell_view};
 ghost use Rattle.qp_wait.specs.Pausing.{HasLook, IsShort, Parks, Pauses};
 
+use crate::lane::BellLane;
 use crate::looking::last_look;
 use qp_base::Memory;
 use qp_calls::Ops;
 use qp_kernel_turns::Halt;
-use qp_wait_lane::BellLane;
 use std::sync::Wait;
 
 /// Parks behind the last look that found the queue of object `me` empty. A lane that hasn't the object's parker gets the answer of a

@@ -3,17 +3,17 @@
 ghost use Rattle.std.specs.Prelude.{◌≡◌, ◌≤◌, false};
 ghost use Rattle.qp_model.specs.Sound.{IsSound};
 ghost use Rattle.qp_kernel_turns.specs.Lanes.{LaneTo};
-ghost use Rattle.qp_port_home.specs.At.{IsBusyHome, IsHome};
-ghost use Rattle.qp_port_home.specs.Takes.{BeginTakes, FinishTakes};
-ghost use Rattle.qp_port_home.specs.Turning.{NextTo, StepsTo};
-ghost use Rattle.qp_wait_lane.specs.Lane.{bell_view};
+ghost use Rattle.qp_port_lanes.specs.At.{IsBusyHome, IsHome};
+ghost use Rattle.qp_port_lanes.specs.Takes.{BeginTakes, FinishTakes};
+ghost use Rattle.qp_port_lanes.specs.Turning.{NextTo, StepsTo};
+ghost use Rattle.qp_wait.specs.Lane.{bell_view};
 ghost use Rattle.qp_wait.specs.Steps.{ClosesStep, FinishesStep, KeepsCounts};
 
+use crate::lane::BellLane;
+use qp_base::Tells;
 use qp_kernel_turns::Halt;
 use qp_model::System;
-use qp_port_home::{Home, begin_step, finish_step};
-use qp_tells::Tells;
-use qp_wait_lane::BellLane;
+use qp_port_lanes::{Home, begin_step, finish_step};
 use std::sync::Wait;
 
 /// Takes the next entry, and begins its step. False where the queue was found empty.

@@ -3,19 +3,19 @@
 ghost use Rattle.std.specs.Prelude.{◌≡◌, ◌≤◌, false};
 ghost use Rattle.qp_model.specs.Sound.{IsSound};
 ghost use Rattle.qp_kernel_turns.specs.Lanes.{LaneTo, LaneTurns};
-ghost use Rattle.qp_port_home.specs.At.{IsHome};
-ghost use Rattle.qp_port_home.specs.Turning.{HomeTurns, LooksTo};
-ghost use Rattle.qp_wait_lane.specs.Lane.{bell_view};
+ghost use Rattle.qp_port_lanes.specs.At.{IsHome};
+ghost use Rattle.qp_port_lanes.specs.Turning.{HomeTurns, LooksTo};
+ghost use Rattle.qp_wait.specs.Lane.{bell_view};
 ghost use Rattle.qp_wait.specs.Waiting.{RoundWaits, TurnWaits};
 
+use crate::lane::BellLane;
 use crate::pausing::{give_up, pause};
 use crate::steps::{begin, finish};
+use qp_base::Tells;
 use qp_dispatch::Turn;
 use qp_kernel_turns::Halt;
 use qp_model::System;
-use qp_port_home::Home;
-use qp_tells::Tells;
-use qp_wait_lane::BellLane;
+use qp_port_lanes::Home;
 use std::sync::Wait;
 
 /// Goes on, with parks between, until the queue is found empty and nothing is on the count.

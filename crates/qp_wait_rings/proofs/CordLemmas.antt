@@ -16,11 +16,11 @@ use Rattle.qp_model.specs.Sites.{object_at}
 use Rattle.qp_model.specs.Sources.{priorities}
 use Rattle.qp_model.specs.Told.{Told, ToldItem, for_object, plain}
 use Rattle.qp_model.specs.WordLaw.{is_object}
-use Rattle.qp_calls.specs.declared.tokens.Entry.{Entry}
+use Rattle.qp_calls.specs.declared.tokens.HeldEntry.{HeldEntry}
 use Rattle.qp_calls.specs.declared.answers.Claim.{Claim}
 use Rattle.qp_calls.specs.declared.answers.Claim.TheVariants as claim
 use Rattle.qp_wait_bells.specs.declared.tally.Tally.{Tally}
-use Rattle.qp_calls.specs.Clauses.{Claims, ClaimsFront, PostsIt, PostsNot, PutsFront, PutsNot, entry_of}
+use Rattle.qp_calls.specs.Clauses.{ClaimsEntry, ClaimsFront, PostsIt, PostsNot, PutsFront, PutsNot, entry_of}
 use Rattle.qp_calls.specs.LaneLaws.{IsWithinLimit}
 use Rattle.qp_calls.specs.LaneView.{AddsOf, LaneView}
 use Rattle.qp_model.proofs.NumberLemmas.{count-append}
@@ -138,30 +138,30 @@ module _ (opened refused : ℕ) (cords : List Cord) (v w : LaneView) (h : HasRun
     few : count_by (posts_on a) v.told < 1000000
     few = let most = few-posts a v within in omega (arith, most, room)
 
-    pub claimed : (e : Entry) (margin : Option ℕ) → PostsIt a e margin v w → HasRung (opened + 1) refused more w
+    pub claimed : (e : HeldEntry) (margin : Option ℕ) → PostsIt a e margin v w → HasRung (opened + 1) refused more w
     claimed e margin p = rung-posted a v.by (plain (Post a p.f p.l p.m (entry_of e))) p.adds refl more refl (self-test a) (λ b other. other) rings.objects rings.its rings.others few
 
-    pub put-front : (e : Entry) → a ≡ v.by → PutsFront e v w → HasRung (opened + 1) refused more w
+    pub put-front : (e : HeldEntry) → a ≡ v.by → PutsFront e v w → HasRung (opened + 1) refused more w
     put-front e mine p =
         let here : (v.by == a) ≡ true = subst (λ n. (n == a) ≡ true) mine (self-test a) in
         rung-posted a v.by (plain (Lifo p.f p.l p.m (entry_of e))) p.adds refl more refl here (λ b other. subst (λ n. (n == b) ≡ false) mine other) rings.objects rings.its rings.others few
 
-  pub claim-refused : (to : ℕ) (e same : Entry) (margin : Option ℕ) (f l m : ℕ) → PostsNot to e same margin f l m v w → HasRung (opened + 1) (refused + 1) cords w
+  pub claim-refused : (to : ℕ) (e same : HeldEntry) (margin : Option ℕ) (f l m : ℕ) → PostsNot to e same margin f l m v w → HasRung (opened + 1) (refused + 1) cords w
   claim-refused to e same (Some k) f l m p = rung-refused to v.by (plain (Full to f l m k)) p.adds refl refl (λ b. refl)
   claim-refused to e same None f l m p = rung-refused to v.by (plain (NoEntry to f l m)) p.adds refl refl (λ b. refl)
 
-  pub front-refused : (e same : Entry) (f l m : ℕ) → PutsNot e same f l m v w → HasRung (opened + 1) (refused + 1) cords w
+  pub front-refused : (e same : HeldEntry) (f l m : ℕ) → PutsNot e same f l m v w → HasRung (opened + 1) (refused + 1) cords w
   front-refused e same f l m p = rung-refused v.by v.by (plain (NoLifo v.by f l m)) p.adds refl refl (λ b. refl)
 
   -- a claim that was settled
   module _ (within : IsWithinLimit v) (room : 0 < v.spare) (later : ℕ) (one : later ≡ opened + 1) (more : List Cord) (refused_now : ℕ) (was is : Tally) where
-    pub claim-settled : (to : ℕ) (e : Entry) (margin : Option ℕ) (r : Claim) → Claims to e margin v w r → Settles to cords more refused refused_now was is r → HasRung later refused_now more w
+    pub claim-settled : (to : ℕ) (e : HeldEntry) (margin : Option ℕ) (r : Claim) → ClaimsEntry to e margin v w r → Settles to cords more refused refused_now was is r → HasRung later refused_now more w
     claim-settled to e margin claim.Done p s = subst (λ n. HasRung n refused_now more w) (sym one) (subst (λ n. HasRung (opened + 1) n more w) (sym s.refused_is) (claimed to more s.cords within room e margin p))
     claim-settled to e margin (claim.Short same f l m) p s =
         subst (λ n. HasRung n refused_now more w) (sym one)
         (subst (λ n. HasRung (opened + 1) n more w) (sym s.refused_is) (subst (λ cs. HasRung (opened + 1) (refused + 1) cs w) (sym s.cords) (claim-refused to e same margin f l m p)))
 
-    pub front-settled : (a : ℕ) (e : Entry) (r : Claim) → a ≡ v.by → ClaimsFront e v w r → Settles a cords more refused refused_now was is r → HasRung later refused_now more w
+    pub front-settled : (a : ℕ) (e : HeldEntry) (r : Claim) → a ≡ v.by → ClaimsFront e v w r → Settles a cords more refused refused_now was is r → HasRung later refused_now more w
     front-settled a e claim.Done mine p s = subst (λ n. HasRung n refused_now more w) (sym one) (subst (λ n. HasRung (opened + 1) n more w) (sym s.refused_is) (put-front a more s.cords within room e mine p))
     front-settled a e (claim.Short same f l m) mine p s =
         subst (λ n. HasRung n refused_now more w) (sym one)

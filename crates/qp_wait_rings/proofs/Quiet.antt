@@ -11,7 +11,7 @@ use Rattle.qp_model.specs.Record.{body_of}
 use Rattle.qp_model.specs.Told.{Event, Told, ToldItem, for_object, plain}
 use Rattle.qp_calls.specs.Tokens.{Hold}
 use Rattle.qp_calls.specs.declared.tokens.Fresh.{Fresh}
-use Rattle.qp_calls.specs.declared.tokens.Entry.{Entry}
+use Rattle.qp_calls.specs.declared.tokens.HeldEntry.{HeldEntry}
 use Rattle.qp_calls.specs.declared.answers.Counts as counts
 use Rattle.qp_calls.specs.declared.answers.Give.{Give}
 use Rattle.qp_calls.specs.declared.answers.Give.TheVariants as give
@@ -25,7 +25,7 @@ use Rattle.qp_calls.specs.declared.answers.Arm as arming
 use Rattle.qp_calls.specs.declared.answers.Arm.TheVariants as armed
 use Rattle.qp_calls.specs.declared.answers.Tick as ticking
 use Rattle.qp_calls.specs.declared.answers.Tick.TheVariants as ticked
-use Rattle.qp_calls.specs.Clauses.{Arms, Claims, ClaimsFront, Counted, Disarms, Does, Gives, GoesBack, LetsGo, Makes, MakesMore, Reads, Rearms, Sees, Stopped, Stops, Subscribing, Takes, TicksOne, Unsubscribing, entry_of, last_nil, refusal_of, same_counts}
+use Rattle.qp_calls.specs.Clauses.{Arms, ClaimsEntry, ClaimsFront, Counted, Disarms, Does, GivesBlock, GoesBack, LetsGo, Makes, MakesMore, ReadsSubscribers, Rearms, Sees, Stopped, Stops, Subscribing, Takes, TicksOne, Unsubscribing, entry_of, last_nil, refusal_of, same_counts}
 use Rattle.qp_calls.specs.LaneView.{AddsOf, Counts, GrowsOf, LaneView, Looks, NotShown, Roomier, Sets, Shown, ceiling_in}
 use Rattle.qp_calls.specs.Notes.{IsNote, MayNote, told_as, told_note}
 use Rattle.qp_wait_rings.specs.Records.{has_posted, is_refused, is_silent}
@@ -84,7 +84,7 @@ pub note-quiet : (r : Rec) (v w : LaneView) → MayNote r v → GrowsOf r.of (to
 unfolding MayNote told_note
 note-quiet r v w may grown = gains-quiet r.of (told_as (ceiling_in 0 v.told) (body_of r)) v w grown (rw (told-body (ceiling_in 0 v.told) (body_of r)) (note-body (body_of r) v may))
 
-pub give-quiet : (pool : ℕ) (reserve : Option ℕ) (ev : Event) (v w : LaneView) (r : Give) → Gives pool reserve ev v w r → Quietly v w
+pub give-quiet : (pool : ℕ) (reserve : Option ℕ) (ev : Event) (v w : LaneView) (r : Give) → GivesBlock pool reserve ev v w r → Quietly v w
 give-quiet pool reserve ev v w (give.Given f) h = adds-quiet v.by _ v w h.adds refl
 give-quiet pool (Some k) ev v w (give.Short n free) h = adds-quiet v.by _ v w h.adds refl
 give-quiet pool None ev v w (give.Short n free) h = adds-quiet v.by _ v w h.adds refl
@@ -127,7 +127,7 @@ pub unsubscribe-quiet : (sig : ℕ) (v w : LaneView) (r : Bool) → Unsubscribin
 unsubscribe-quiet sig v w true h = does-quiet _ _ v w (λ n. refl) h
 unsubscribe-quiet sig v w false h = adds-quiet v.by _ v w h.1 refl
 
-pub reads-quiet : (sig : ℕ) (v w : LaneView) (set : ℕ) → Reads sig v w set → Quietly v w
+pub reads-quiet : (sig : ℕ) (v w : LaneView) (set : ℕ) → ReadsSubscribers sig v w set → Quietly v w
 reads-quiet sig v w set h = adds-quiet v.by _ v w h.1 refl
 
 pub arm-quiet : (t ticks interval : ℕ) (v w : LaneView) (r : arming.Arm) → Arms t ticks interval v w r → Quietly v w
@@ -155,10 +155,10 @@ stopped-quiet v w (Some code) h = still-quiet v w (ap (λ u. u.sys) h.0) (ap (λ
 
 -- The two calls that post.
 
-pub claim-grown : (to : ℕ) (e : Entry) (margin : Option ℕ) (v w : LaneView) (r : Claim) → Claims to e margin v w r → Grown v w
+pub claim-grown : (to : ℕ) (e : HeldEntry) (margin : Option ℕ) (v w : LaneView) (r : Claim) → ClaimsEntry to e margin v w r → Grown v w
 claim-grown to e margin v w claim.Done h = record { sys = h.adds.grows.sys; ts = for_object v.by (plain (Post to h.f h.l h.m (entry_of e))) ∷ []; told = h.adds.grows.told }
 claim-grown to e margin v w (claim.Short same f l m) h = record { sys = h.adds.grows.sys; ts = for_object v.by (plain (refusal_of margin to f l m)) ∷ []; told = h.adds.grows.told }
 
-pub lifo-grown : (e : Entry) (v w : LaneView) (r : Claim) → ClaimsFront e v w r → Grown v w
+pub lifo-grown : (e : HeldEntry) (v w : LaneView) (r : Claim) → ClaimsFront e v w r → Grown v w
 lifo-grown e v w claim.Done h = record { sys = h.adds.grows.sys; ts = for_object v.by (plain (Lifo h.f h.l h.m (entry_of e))) ∷ []; told = h.adds.grows.told }
 lifo-grown e v w (claim.Short same f l m) h = record { sys = h.adds.grows.sys; ts = for_object v.by (plain (NoLifo v.by f l m)) ∷ []; told = h.adds.grows.told }

@@ -1,7 +1,7 @@
 //! A ringing lane meets others.
 
 use crate::ringing::RingingLane;
-use qp_calls_meet::Meets;
+use qp_calls_log::Meets;
 
 impl Meets for RingingLane<'_> {
     fn meet(&mut self, other: &mut Self) {

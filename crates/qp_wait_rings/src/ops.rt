@@ -4,7 +4,7 @@ use crate::lane::{empty_at, object_of};
 use crate::posts::{open_one, settle};
 use crate::ringing::RingingLane;
 use qp_base::{Ev, Steps};
-use qp_calls::{Arm, Claim, Counts, Dec, Entry, Fresh, Give, Hold, Ops, RoomFault, Take, Tick};
+use qp_calls::{Arm, Claim, Counts, Dec, Fresh, Give, HeldEntry, Hold, Ops, RoomFault, Take, Tick};
 use qp_model::Rec;
 use std::sync::Wait;
 use std::sync::ledger::Ledger;
@@ -67,7 +67,7 @@ impl Ops for RingingLane<'_> {
     fn claim<L: Ledger>(
         &mut self,
         to: u8,
-        e: Entry,
+        e: HeldEntry,
         margin: Option<u8>,
         steps: &mut Steps<L>,
     ) -> Claim {
@@ -84,7 +84,7 @@ impl Ops for RingingLane<'_> {
         claim
     }
 
-    fn lifo<L: Ledger>(&mut self, e: Entry, steps: &mut Steps<L>) -> Claim {
+    fn lifo<L: Ledger>(&mut self, e: HeldEntry, steps: &mut Steps<L>) -> Claim {
         let me = object_of(&mut self.lane);
         open_one(self.count, &mut self.seat, &mut self.opened);
         let claim = self.lane.lifo(e, steps);
@@ -174,7 +174,7 @@ impl Ops for RingingLane<'_> {
         self.lane.stopped()
     }
 
-    fn leave(&mut self, e: Entry) {
+    fn leave(&mut self, e: HeldEntry) {
         self.lane.leave(e);
     }
 

@@ -5,7 +5,7 @@ ghost use Rattle.std.specs.List.{AllByRecursion};
 ghost use Rattle.qp_model.specs.Kernels.{port};
 ghost use Rattle.qp_model.specs.Sound.{IsSound};
 ghost use Rattle.qp_stim.specs.Rules.{StimuliFit};
-ghost use Rattle.qp_port_cursor.specs.Answers.{IsFed};
+ghost use Rattle.qp_port_lanes.specs.Answers.{IsFed};
 ghost use Rattle.qp_port_phases.specs.Stopping.{AnyStopped};
 ghost use Rattle.qp_port_runs.specs.Handed.{AreRestsIn};
 ghost use Rattle.qp_port_runs.specs.Handed.{HasRun};

@@ -6,13 +6,12 @@ ghost use Rattle.qp_kernel_turns.specs.Lanes.{LaneHalts};
 ghost use Rattle.qp_wait.specs.Handed.{bell_view};
 
 use crate::rendezvous::Rendezvous;
+use qp_base::Tells;
 use qp_calls::Ops;
 use qp_dispatch::Turn;
 use qp_model::System;
-use qp_port_cursor::is_idle;
-use qp_port_home::Home;
+use qp_port_lanes::{Home, is_idle};
 use qp_port_runs::Turns;
-use qp_tells::Tells;
 use qp_wait::{BellLane, wait_turn};
 use std::sync::Wait;
 

@@ -2,7 +2,7 @@ use Rattle.std.proofs.Common.{◌≡◌, ◌∙◌, [], ◌∷◌, length, nat_l
 use Rattle.qp_model.specs.declared.bodies.Entry as model
 use Rattle.qp_model.specs.declared.bodies.Body.TheVariants.{Defer, NoDefer}
 use Rattle.qp_model.specs.Told.{plain}
-use Rattle.qp_calls.specs.LaneView.{Adds}
+use Rattle.qp_calls.specs.LaneView.{AddsTold}
 use Rattle.qp_calls.specs.Clauses.{entry_of}
 use Rattle.qp_calls.proofs.Noting.{adds-note, may-note, still-by, still-room}
 use Rattle.qp_calls.proofs.Keeping.{defer-done, defer-full, is_full, is_open, pushed}
@@ -36,5 +36,5 @@ returns g c =
     let noted = adds-note c.object-o.result (Defer c.stated.result) c.defer.result _ _ c.defer.ensures refl (by ∙ sym c.again-e.ensures.grows.by) (omega (arith, room, c.again-e.ensures.spare)) c.note-2.ensures.grows c.note-2.ensures.spare in
     defer-done (entry_of c.args.now.now) c.again-e.result c.args.list.now _ _ (lane c.room.new.self) (lane c.object-o.new.ops) (lane c.again-e.new.ops) (lane c.note-2.new.self)
     c.room.ensures.stays c.object-o.ensures.stays c.again-e.ensures
-    (subst (λ (e : model.Entry). Adds (plain (Defer e) ∷ []) (lane c.again-e.new.ops) (lane c.note-2.new.self)) c.stated.ensures noted)
+    (subst (λ (e : model.Entry). AddsTold (plain (Defer e) ∷ []) (lane c.again-e.new.ops) (lane c.note-2.new.self)) c.stated.ensures noted)
     space (rw (pushed c.args.list.now.entries.items c.again-e.result c.args.list.now.entries.capacity space) at c.push_back.ensures.items) c.requires.kept

@@ -1,5 +1,5 @@
 use Rattle.std.proofs.Common.{[], None, refl, sym, true}
-use Rattle.qp_calls.specs.declared.tokens.Entry.TheVariants as token
+use Rattle.qp_calls.specs.declared.tokens.HeldEntry.TheVariants as token
 use Rattle.qp_calls.proofs.Answering.{answers-room, post-answers, static-here}
 use Rattle.qp_calls.proofs.Posting.{made-static}
 use Rattle.qp_calls.proofs.posts.post_static.Goals as goal

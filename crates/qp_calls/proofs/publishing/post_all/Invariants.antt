@@ -1,4 +1,4 @@
-use Rattle.qp_calls.specs.Clauses.{Stands, entry_of}
+use Rattle.qp_calls.specs.Clauses.{EntryStands, entry_of}
 use Rattle.qp_calls.specs.Publishing.{PostsSome}
 use Rattle.qp_calls.proofs.publishing.post_all.Given as goal
 
@@ -6,7 +6,7 @@ use Rattle.qp_calls.proofs.publishing.post_all.Given as goal
 abbrev pub invariant-loop-left : goal.invariant-loop-left
 invariant-loop-left g l =
     record {
-      stands : Stands l.entry (g.O.Ops.lane l.ops);
+      stands : EntryStands l.entry (g.O.Ops.lane l.ops);
       some : PostsSome (entry_of l.entry) l.all l.left (g.O.Ops.lane l.fn.ops) (g.O.Ops.lane l.ops);
     }
 

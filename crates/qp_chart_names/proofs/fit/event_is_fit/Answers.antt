@@ -1,14 +1,14 @@
 use Rattle.std.proofs.Common.{◌≡◌, sym, ap, ◌∙◌, length, map, eq-eqb}
 use Rattle.std.proofs.lemmas.List.Folds.{list_all-map}
 use Rattle.std.proofs.lemmas.List.{length-map}
-use Rattle.qp_chart_text.specs.Terms.{event_of, term_of}
+use Rattle.qp_chart_text.specs.Terms.{event_of_tree, term_of}
 use Rattle.qp_chart_names.specs.Known.{reaches}
 use Rattle.qp_chart_names.specs.ActionFaults.{params_of}
 use Rattle.qp_chart_names.proofs.TestLemmas.{and-both}
 use Rattle.qp_chart_names.proofs.fit.event_is_fit.Goals as goal
 
 pub returns-then-as_slice-count_of : goal.returns-then-as_slice-count_of
-unfolding event_of
+unfolding event_of_tree
 returns-then-as_slice-count_of c =
     let s = c.args.scope.now in
     let e = c.args.event.now in

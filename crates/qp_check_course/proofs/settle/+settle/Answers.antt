@@ -12,7 +12,7 @@ use Rattle.qp_check_calls.specs.CallStateNext.{call_state_begin}
 use Rattle.qp_check_calls.specs.AsCall.{as_call}
 use Rattle.qp_chart.specs.Task as task
 use Rattle.qp_model.specs.Acts.{Actor, Config}
-use Rattle.qp_check_course.specs.declared.tasks.Task.{Task}
+use Rattle.qp_check_course.specs.declared.tasks.CourseTask.{CourseTask}
 use Rattle.qp_check_course.specs.Goes.{Way, moment_of}
 use Rattle.qp_check_course.specs.Machine.{State, done, resume, deed_state, task_state, settle}
 use Rattle.qp_check_course.specs.AsTask.{as_task, as_tasks}
@@ -21,9 +21,9 @@ use Rattle.qp_check_course.proofs.FewLemmas.{makes-few}
 use Rattle.qp_check_course.proofs.settle.+settle.Goals as goal
 
 -- the state of a task that is known
-of-task : (a : Actor) (way : Way) (leaf : ℕ) (ts : List task.Task) (go : Config → State) (c : Config) (s : State) (t u : Task) → t ≡ u
+of-task : (a : Actor) (way : Way) (leaf : ℕ) (ts : List task.Task) (go : Config → State) (c : Config) (s : State) (t u : CourseTask) → t ≡ u
     → s ≡ task_state a way leaf ts go c (as_task u) → s ≡ task_state a way leaf ts go c (as_task t)
-of-task a way leaf ts go c s t u is e = e ∙ ap (λ (x : Task). task_state a way leaf ts go c (as_task x)) (sym is)
+of-task a way leaf ts go c s t u is e = e ∙ ap (λ (x : CourseTask). task_state a way leaf ts go c (as_task x)) (sym is)
 
 pub act-returns-in-Says : goal.act-returns-in-Says
 unfolding deed_state

@@ -2,7 +2,7 @@ use Rattle.std.proofs.Common.{◌∙◌, ◌++◌, ◌∷◌, [], ap, sym, take,
 use Rattle.qp_model.specs.Record.{item_of}
 use Rattle.qp_check_lanes.specs.GivenBlocks.{block_key}
 use Rattle.qp_check_lanes.specs.Groups.{has_key, of_key}
-use Rattle.qp_check_lanes.specs.Rows.{row_at}
+use Rattle.qp_check_lanes.specs.Rows.{records_of_key}
 use Rattle.qp_check_lanes.proofs.KeyLemmas.{row-put}
 use Rattle.qp_check_lanes.proofs.WalkLemmas.{filter_front}
 use Rattle.qp_check_lanes.proofs.given_blocks.rows_of.Goals as goal
@@ -22,8 +22,8 @@ loop-r-preserved c = λ b.
       | in-Some+in_ok-put-in-Some w ↦
           let n = w.in-Some.b in
           let is = sym c.given_block.ensures ∙ w.in-Some.is in
-          ap (λ x. row_at x (b, 0, 0)) w.rows-is ∙ w.in_ok-put-in-Some.ensures (b, 0, 0) ∙ row-put n b _ before i (c.loop-r.invariant b) ∙ sym (next ∙ ap (λ k. before ++ cond (has_key b k) (i ∷ []) []) is)
+          ap (λ x. records_of_key x (b, 0, 0)) w.rows-is ∙ w.in_ok-put-in-Some.ensures (b, 0, 0) ∙ row-put n b _ before i (c.loop-r.invariant b) ∙ sym (next ∙ ap (λ k. before ++ cond (has_key b k) (i ∷ []) []) is)
       | in-None w ↦
           let is = sym c.given_block.ensures ∙ w.in-None.is in
-          ap (λ x. row_at x (b, 0, 0)) w.rows-is ∙ c.loop-r.invariant b ∙ sym (next ∙ ap (λ k. before ++ cond (has_key b k) (i ∷ []) []) is ∙ append-nil before)
+          ap (λ x. records_of_key x (b, 0, 0)) w.rows-is ∙ c.loop-r.invariant b ∙ sym (next ∙ ap (λ k. before ++ cond (has_key b k) (i ∷ []) []) is ∙ append-nil before)
     ]

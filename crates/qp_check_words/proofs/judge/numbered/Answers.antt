@@ -1,7 +1,7 @@
 use Rattle.std.proofs.Common.{◌≡◌, ◌∙◌, ◌≤◌, ◌^◌, ap, arith}
 use Rattle.qp_model.specs.History.{all_items, total}
-use Rattle.qp_check_histories.specs.Marks.{draw_count, numbers_hold, touched}
-use Rattle.qp_check_histories.proofs.NumberLemmas.{numbers-touched, total-touched}
+use Rattle.qp_check_words.specs.Marks.{draw_count, numbers_hold, touched}
+use Rattle.qp_check_words.proofs.NumberLemmas.{numbers-touched, total-touched}
 use Rattle.qp_check_words.proofs.judge.numbered.Goals as goal
 
 pub returns : goal.returns

@@ -1,7 +1,7 @@
 use Rattle.std.proofs.Common.{◌≡◌, ◌∙◌, ◌&&◌, ◌<◌, ◌^◌, ap, sym, refl, length, arith}
 use Rattle.qp_model.specs.Record.{item_of}
 use Rattle.qp_model.specs.History.{all_items, hist, marks_rise}
-use Rattle.qp_check_histories.specs.Marks.{touched}
+use Rattle.qp_check_words.specs.Marks.{touched}
 use Rattle.qp_check_words.specs.Judging.{shown_at}
 use Rattle.qp_check_words.specs.WordRules.{shown_right}
 use Rattle.qp_check_lanes.proofs.WalkLemmas.{length_seen}

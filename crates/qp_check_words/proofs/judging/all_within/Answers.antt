@@ -2,7 +2,7 @@ use Rattle.std.proofs.Common.{◌∙◌, ap, sym, ◌&&◌, ◌+◌, drop, Bool}
 use Rattle.std.specs.List.{list_all}
 use Rattle.qp_model.specs.Record.{item_of, Item}
 use Rattle.qp_model.specs.History.{touch}
-use Rattle.qp_check_histories.specs.Marks.{shows_within}
+use Rattle.qp_check_words.specs.Marks.{shows_within}
 use Rattle.qp_check_lanes.proofs.WalkLemmas.{rest_none, test_rest}
 use Rattle.qp_check_words.proofs.judging.all_within.Goals as goal
 

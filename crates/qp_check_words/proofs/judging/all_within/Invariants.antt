@@ -1,7 +1,7 @@
 use Rattle.std.proofs.Common.{◌≡◌, drop}
 use Rattle.std.specs.List.{list_all}
 use Rattle.qp_model.specs.History.{touch}
-use Rattle.qp_check_histories.specs.Marks.{shows_within}
+use Rattle.qp_check_words.specs.Marks.{shows_within}
 use Rattle.qp_check_words.proofs.judging.all_within.Given as goal
 
 abbrev pub invariant-loop-r : goal.invariant-loop-r

@@ -6,9 +6,9 @@ use Rattle.qp_model.specs.References.{references}
 use Rattle.qp_model.specs.Lives.{has_lives}
 use Rattle.qp_check_lanes.specs.GivenBlocks.{block_key}
 use Rattle.qp_check_lanes.specs.Groups.{of_key}
-use Rattle.qp_check_word_states.specs.Standing.{empties}
+use Rattle.qp_check_lanes.specs.Standing.{empties}
 use Rattle.qp_check_words.specs.Judging.{lives_of}
-use Rattle.qp_check_word_states.proofs.BlockLifeLemmas.{own-lives}
+use Rattle.qp_check_lanes.proofs.BlockLifeLemmas.{own-lives}
 use Rattle.qp_check_words.proofs.judging.lives_of.Goals as goal
 
 pub returns-in-Some : goal.returns-in-Some

@@ -3,7 +3,7 @@ use Rattle.std.specs.List.{list_all}
 use Rattle.std.proofs.lemmas.Result.{IfOk-weaker}
 use Rattle.qp_model.specs.Record.{item_of}
 use Rattle.qp_model.specs.History.{touch}
-use Rattle.qp_check_histories.specs.Marks.{shown_key, shows_within}
+use Rattle.qp_check_words.specs.Marks.{shown_key, shows_within}
 use Rattle.qp_check_lanes.specs.Groups.{grouped}
 use Rattle.qp_check_lanes.proofs.WalkLemmas.{length_seen}
 use Rattle.qp_check_lanes.proofs.GroupLemmas.{length-grouped}

@@ -1,4 +1,4 @@
-use Rattle.qp_core_seats.proofs.ListLemmas.{without_position}
+use Rattle.qp_core_steps.proofs.ListLemmas.{without_position}
 use Rattle.qp_table.specs.Rule.{is_place}
 use Rattle.qp_core_steps.proofs.queues.drop_place.Goals as goal
 

@@ -1,5 +1,5 @@
 use Rattle.std.proofs.Common.{ne_eqb}
-use Rattle.qp_core_seats.proofs.ListLemmas.{without_position}
+use Rattle.qp_core_steps.proofs.ListLemmas.{without_position}
 use Rattle.qp_table.specs.Rule.{is_entry}
 use Rattle.qp_core_steps.proofs.queues.spend.Goals as goal
 

@@ -1,5 +1,5 @@
 use Rattle.std.proofs.Common.{None, inl, refl}
-use Rattle.qp_model.specs.Pieces.{bare}
+use Rattle.qp_model.specs.Pieces.{records_in}
 use Rattle.qp_model.proofs.AbleLemmas.{start-able}
 use Rattle.qp_chart_compiled.specs.Compiled.{left_in}
 use Rattle.qp_dispatch.specs.declared.work.Work.{Work}
@@ -39,7 +39,7 @@ returns-in-Cut g c =
     let work : Work = record { ev = record { sig = 0; pars = c.new-pars.result }; entry = None } in
     let ts = left_in c.args.home.now.chart.now c.args.home.now.compiled.now c.start-leaf.result.0 in
     let r = c.in-Cut.ensures in
-    start-halted (setting_of c.args.home.now) c.run.new.ceiling c.args.lasting.now c.run.new.lasting (bare r.0.ps) (lane c.args.ops.now) (lane c.run.new.ops) (lane c.give_up.new.ops) c.give_up.result
+    start-halted (setting_of c.args.home.now) c.run.new.ceiling c.args.lasting.now c.run.new.lasting (records_in r.0.ps) (lane c.args.ops.now) (lane c.run.new.ops) (lane c.give_up.new.ops) c.give_up.result
     r.0.grows
     (start-begins (setting_of c.args.home.now) c.args.ceiling.now c.run.new.ceiling c.args.lasting.now c.run.new.lasting work ts c.start-leaf.result.1 (lane c.args.ops.now) (lane c.run.new.ops)
     (start-moment work c.new-pars.result.items c.new-pars.ensures refl refl) c.start-leaf.ensures.tasks c.requires.lane c.requires.stand

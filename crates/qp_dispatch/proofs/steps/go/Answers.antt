@@ -1,5 +1,5 @@
 use Rattle.std.proofs.Common.{None, [], inl, subst, sym}
-use Rattle.qp_model.specs.Pieces.{bare}
+use Rattle.qp_model.specs.Pieces.{records_in}
 use Rattle.qp_calls.specs.LaneView.{Grows}
 use Rattle.qp_calls.specs.Deferring.{StandAll}
 use Rattle.qp_dispatch.specs.declared.steps.Position.TheVariants as standing
@@ -38,8 +38,8 @@ returns-in-Err g c =
     let home = setting_of c.args.home.now in
     let refused = c.in-Err.ensures in
     rw c.requires.between
-    (halted home c.args.ceiling.now c.run.new.ceiling c.args.lasting.now c.run.new.lasting (standing.Within c.args.going) standing.Between (bare r.ps) (lane c.args.ops.now) (lane c.finish.new.ops)
-    (lane c.give_up.new.ops) c.give_up.result (subst (λ x. Grows (bare r.ps) (lane c.args.ops.now) x) (sym refused.0) r.grows)
+    (halted home c.args.ceiling.now c.run.new.ceiling c.args.lasting.now c.run.new.lasting (standing.Within c.args.going) standing.Between (records_in r.ps) (lane c.args.ops.now) (lane c.finish.new.ops)
+    (lane c.give_up.new.ops) c.give_up.result (subst (λ x. Grows (records_in r.ps) (lane c.args.ops.now) x) (sym refused.0) r.grows)
     (over-begins home c.args.ceiling.now c.run.new.ceiling c.args.lasting.now c.run.new.lasting c.args.going (lane c.args.ops.now) (lane c.run.new.ops) c.requires.lane c.requires.going r)
     (subst (λ x. StandAll (held_in c.run.new.lasting standing.Between) x) (sym refused.0)
     (over-stand home c.args.ceiling.now c.run.new.ceiling c.args.lasting.now c.run.new.lasting c.args.going (lane c.args.ops.now) (lane c.run.new.ops) c.requires.lane c.requires.going r))
@@ -58,7 +58,7 @@ returns-in-Cut g c =
     let home = setting_of c.args.home.now in
     let r = c.in-Cut.ensures in
     halted home c.args.ceiling.now c.run.new.ceiling c.args.lasting.now c.run.new.lasting (standing.Within c.args.going)
-    (standing.Within (record { work = c.args.going.work; left = c.run.new.left; leaf = c.args.going.leaf })) (bare r.0.ps) (lane c.args.ops.now) (lane c.run.new.ops) (lane c.give_up-in-Cut.new.ops)
+    (standing.Within (record { work = c.args.going.work; left = c.run.new.left; leaf = c.args.going.leaf })) (records_in r.0.ps) (lane c.args.ops.now) (lane c.run.new.ops) (lane c.give_up-in-Cut.new.ops)
     c.give_up-in-Cut.result r.0.grows
     (cut-begins home c.args.ceiling.now c.run.new.ceiling c.args.lasting.now c.run.new.lasting c.args.going (lane c.args.ops.now) (lane c.run.new.ops) c.requires.lane c.requires.going c.run.new.left.under r.0)
     (cut-stand home c.args.ceiling.now c.run.new.ceiling c.args.lasting.now c.run.new.lasting c.args.going (lane c.args.ops.now) (lane c.run.new.ops) c.requires.lane c.requires.going c.run.new.left r.0)

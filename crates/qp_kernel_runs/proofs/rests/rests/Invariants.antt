@@ -1,5 +1,5 @@
-use Rattle.qp_kernel_runs.specs.Resting.{AreShown}
+use Rattle.qp_kernel_runs.specs.Resting.{ObjectsShow}
 use Rattle.qp_kernel_runs.proofs.rests.rests.Given as goal
 
 abbrev pub invariant-loop-d : goal.invariant-loop-d
-invariant-loop-d l = AreShown l.objects l.under_way l.rests.items
+invariant-loop-d l = ObjectsShow l.objects l.under_way l.rests.items

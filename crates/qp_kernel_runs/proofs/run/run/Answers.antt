@@ -1,10 +1,10 @@
 use Rattle.std.proofs.Common.{true, false, refl, sym, subst}
 use Rattle.qp_kernel.specs.Happenings.{IsInOrder}
 use Rattle.qp_kernel.specs.Turning.{under}
-use Rattle.qp_kernel_sim.specs.SimView.{sim_view}
+use Rattle.qp_kernel_runs.specs.SimView.{sim_view}
 use Rattle.qp_dispatch.specs.declared.objects.Turn.TheVariants as turn
 use Rattle.qp_kernel.specs.ZeroEnds.{own_told}
-use Rattle.qp_kernel_runs.specs.Resting.{AreShown, RestsAfter}
+use Rattle.qp_kernel_runs.specs.Resting.{ObjectsShow, RestsAfter}
 use Rattle.qp_kernel_runs.specs.Running.{RunsTo}
 use Rattle.qp_kernel_runs.proofs.RestLemmas.{no-rests, rests-after}
 use Rattle.qp_kernel_runs.proofs.Ran.{start-stop_is, start-stop_on, turned}
@@ -32,7 +32,7 @@ returns-then-cooperative g c =
       rests =
           subst (λ t. RestsAfter sys w.told t c.end_of_turn.result.rests.items) (sym end.turn)
           (rests-after sys c.requires.sound terms _ _ c.vanilla_turn-turn.result c.end_of_turn.result.rests.items c.vanilla_turn-turn.ensures.goes c.vanilla_turn-turn.ensures.rests
-          (subst (λ stack. AreShown c.vanilla_turn-turn.new.objects stack c.end_of_turn.result.rests.items) c.under_way.ensures end.rests));
+          (subst (λ stack. ObjectsShow c.vanilla_turn-turn.new.objects stack c.end_of_turn.result.rests.items) c.under_way.ensures end.rests));
     }
 
 pub returns-else-cooperative : goal.returns-else-cooperative
@@ -51,7 +51,7 @@ returns-else-cooperative g c =
       rests =
           subst (λ t. RestsAfter sys w.told t c.end_of_turn-else-cooperative.result.rests.items) (sym end.turn)
           (rests-after sys c.requires.sound terms _ _ c.kernel_turn-turn.result c.end_of_turn-else-cooperative.result.rests.items c.kernel_turn-turn.ensures.goes c.kernel_turn-turn.ensures.rests
-          (subst (λ stack. AreShown c.kernel_turn-turn.new.objects stack c.end_of_turn-else-cooperative.result.rests.items) c.as_slice.ensures.value end.rests));
+          (subst (λ stack. ObjectsShow c.kernel_turn-turn.new.objects stack c.end_of_turn-else-cooperative.result.rests.items) c.as_slice.ensures.value end.rests));
     }
 
 pub returns-in-Stopped : goal.returns-in-Stopped

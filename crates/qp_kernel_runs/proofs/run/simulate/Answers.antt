@@ -2,7 +2,7 @@ use Rattle.std.proofs.Common.{refl, subst, ◌∙◌}
 use Rattle.qp_model.specs.History.{all_items}
 use Rattle.qp_kernel_turns.proofs.SoundObjects.{able}
 use Rattle.qp_kernel.specs.Turning.{under}
-use Rattle.qp_kernel_sim.specs.SimView.{sim_view}
+use Rattle.qp_kernel_runs.specs.SimView.{sim_view}
 use Rattle.qp_kernel_runs.specs.Resting.{RestsAfter}
 use Rattle.qp_kernel_runs.specs.Running.{RunsTo}
 use Rattle.qp_kernel_runs.proofs.EndedWorlds.{left-of}

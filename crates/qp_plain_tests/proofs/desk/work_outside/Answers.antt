@@ -1,5 +1,5 @@
 use Rattle.std.proofs.Common.{rules}
-use Rattle.qp_calls.specs.declared.tokens.Entry.TheVariants as token
+use Rattle.qp_calls.specs.declared.tokens.HeldEntry.TheVariants as token
 use Rattle.qp_plain_tests.proofs.DeskLemmas.{by-goes, others-go, static-goes}
 use Rattle.qp_plain_tests.proofs.desk.work_outside.Goals as goal
 

@@ -1,5 +1,5 @@
 use Rattle.std.proofs.Common.{◌≡◌}
-use Rattle.qp_calls.specs.Clauses.{Stands, entry_of}
+use Rattle.qp_calls.specs.Clauses.{EntryStands, entry_of}
 use Rattle.qp_calls.specs.Publishing.{AreObjects}
 use Rattle.qp_plain_tests.specs.Desk.{Steady}
 use Rattle.qp_plain_tests.proofs.handlers.go_on.Given as goal
@@ -10,6 +10,6 @@ invariant-loop-member g l =
     record {
       same : entry_of l.going.entry ≡ entry_of l.fn.p.entry;
       objects : AreObjects (g.O.Ops.lane l.ops).sys l.going.left;
-      stands : Stands l.going.entry (g.O.Ops.lane l.ops);
+      stands : EntryStands l.going.entry (g.O.Ops.lane l.ops);
       steady : Steady (g.O.Ops.lane l.fn.ops) (g.O.Ops.lane l.ops);
     }

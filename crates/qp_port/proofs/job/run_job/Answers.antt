@@ -1,5 +1,5 @@
 use Rattle.std.proofs.Common.{false}
-use Rattle.qp_port_cursor.proofs.Feeding.{lane-feeds, source-feeds}
+use Rattle.qp_port_lanes.proofs.Feeding.{lane-feeds, source-feeds}
 use Rattle.qp_port.proofs.Standing.{source-turned}
 use Rattle.qp_port.proofs.job.run_job.Goals as goal
 

@@ -1,6 +1,6 @@
 use Rattle.std.proofs.Common.{false}
 use Rattle.qp_dispatch.specs.declared.objects.Turn.TheVariants as turn
-use Rattle.qp_port_cursor.proofs.Feeding.{lane-feeds}
+use Rattle.qp_port_lanes.proofs.Feeding.{lane-feeds}
 use Rattle.qp_port.proofs.job.start_home.Goals as goal
 
 pub returns-in-Done-clause-feeds : goal.returns-in-Done-clause-feeds

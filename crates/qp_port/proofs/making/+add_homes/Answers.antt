@@ -1,6 +1,6 @@
 use Rattle.std.proofs.Common.{◌∷◌, sym, subst}
 use Rattle.qp_port.specs.declared.job.Job.TheVariants as job
-use Rattle.qp_port.specs.Making.{AddsAll, HomesMade, IsFresh, IsThis, MadesHome}
+use Rattle.qp_port.specs.Making.{AddsAll, HomesMade, IsFreshWorker, IsThis, MadesHome}
 use Rattle.qp_port.proofs.Coming.{adds-more, adds-none, made-home, no-homes, on-ok}
 use Rattle.qp_port.proofs.making.+add_homes.Goals as goal
 
@@ -22,7 +22,7 @@ returns g t c =
     (λ more.
     subst (λ ds. AddsAll (λ w. w.lane) (HomesMade (λ d w. MadesHome at.sys.now at.budget d w.sys.now w.budget w.turn w.job) ds) c.args.lanes.now.items c.args.workers.now.items c.add_homes.new.lanes.items c.add_homes.new.workers.items)
     (sym parts.0)
-    (adds-more (λ w. w.lane) (λ w. IsFresh at.sys.now at.budget w.sys.now w.budget w.turn × IsThis (job.Home home) w.job)
+    (adds-more (λ w. w.lane) (λ w. IsFreshWorker at.sys.now at.budget w.sys.now w.budget w.turn × IsThis (job.Home home) w.job)
     (HomesMade (λ d w. MadesHome at.sys.now at.budget d w.sys.now w.budget w.turn w.job) rest)
     (HomesMade (λ d w. MadesHome at.sys.now at.budget d w.sys.now w.budget w.turn w.job) (one ∷ rest))
     (λ w us made others. (made-home at.sys.now at.budget one home w.sys.now w.budget w.turn w.job c.in_ok-home.ensures made.0 made.1, others))

@@ -4,12 +4,12 @@ use Rattle.qp_port_phases.proofs.phases.+pass_all.Goals as goal
 
 pub pass_all-more-requires-clause-together : goal.pass_all-more-requires-clause-together
 pass_all-more-requires-clause-together g t c κs within =
-    let laws = (g.met.T.Lane g.world.𝓛 g.world.𝓜 g.world.𝓡 ((λ s x. x), (λ x. x), (λ x. x), λ x. x)) in
+    let laws = (g.met.T.PhaseLane g.world.𝓛 g.world.𝓜 g.world.𝓡 ((λ s x. x), (λ x. x), (λ x. x), λ x. x)) in
     let parts = c.in-Some.ensures.cases in
     let all = rw parts.0 at c.requires.together in
-    together-first g.T.Lane.view (g.T.Lane.view c.args.first.now) (g.T.Lane.view c.pass_one-passed.new.first) (laws.same_table _ _ c.pass_one-passed.ensures.first.same) c.in-Some.rest.now all.1
+    together-first g.T.PhaseLane.view (g.T.PhaseLane.view c.args.first.now) (g.T.PhaseLane.view c.pass_one-passed.new.first) (laws.same_table _ _ c.pass_one-passed.ensures.first.same) c.in-Some.rest.now all.1
 
 pub returns-clause-settles : goal.returns-clause-settles
 returns-clause-settles g t c =
     let parts = c.in-Some.ensures.cases in
-    rw (parts.0, c.is_either.ensures) (tries-more g.T.Lane.numbers c.pass_one-passed.result c.pass_all-more.result _ _ _ _ c.pass_one-passed.ensures.settles c.pass_all-more.ensures.settles)
+    rw (parts.0, c.is_either.ensures) (tries-more g.T.PhaseLane.numbers c.pass_one-passed.result c.pass_all-more.result _ _ _ _ c.pass_one-passed.ensures.settles c.pass_all-more.ensures.settles)

@@ -5,13 +5,13 @@ use Rattle.qp_port_phases.proofs.phases.look.Goals as goal
 
 pub are_empty-requires-clause-objects : goal.are_empty-requires-clause-objects
 are_empty-requires-clause-objects g c κs within =
-    let laws = (g.met.T.Lane g.world.𝓛 g.world.𝓜 g.world.𝓡 ((λ s x. x), (λ x. x), (λ x. x), λ x. x)) in
+    let laws = (g.met.T.PhaseLane g.world.𝓛 g.world.𝓜 g.world.𝓡 ((λ s x. x), (λ x. x), (λ x. x), λ x. x)) in
     let same = laws.same_still _ _ _ c.meet_all.ensures.first.same c.stopped.ensures.kept.same in
-    objects-still (g.T.Lane.view c.args.first.now) (g.T.Lane.view c.stopped.new.self) c.args.objects.now (laws.same_table _ _ same) c.requires.objects
+    objects-still (g.T.PhaseLane.view c.args.first.now) (g.T.PhaseLane.view c.stopped.new.self) c.args.objects.now (laws.same_table _ _ same) c.requires.objects
 
 pub returns-then-not-any_left-clause-idle : goal.returns-then-not-any_left-clause-idle
 returns-then-not-any_left-clause-idle g c said =
-    let view = g.T.Lane.view in
+    let view = g.T.PhaseLane.view in
     let met : AllBelow view (view c.stopped.new.self) c.meet_all.new.others = rw c.in-None.ensures.stopped.0 c.meet_all.ensures.met in
     record {
       below = below-rises view (view c.stopped.new.self) (view c.are_empty.new.lane) c.are_empty.ensures.rises c.meet_all.new.others met;

@@ -6,44 +6,44 @@ use Rattle.qp_port_phases.proofs.phases.run_phases.Goals as goal
 
 pub loop-init : goal.loop-init
 loop-init g c =
-    let laws = (g.met.T.Lane g.world.𝓛 g.world.𝓜 g.world.𝓡 ((λ s x. x), (λ x. x), (λ x. x), λ x. x)) in
-    (tt, tt, c.requires.ready, same-each g.T.Lane.same laws.same_itself c.args.workers.now, c.requires.table, c.requires.begins)
+    let laws = (g.met.T.PhaseLane g.world.𝓛 g.world.𝓜 g.world.𝓡 ((λ s x. x), (λ x. x), (λ x. x), λ x. x)) in
+    (tt, tt, c.requires.ready, same-each g.T.PhaseLane.same laws.same_itself c.args.workers.now, c.requires.table, c.requires.begins)
 
 pub returns-in-Over-clause-same : goal.returns-in-Over-clause-same
 returns-in-Over-clause-same g c =
-    let laws = (g.met.T.Lane g.world.𝓛 g.world.𝓜 g.world.𝓡 ((λ s x. x), (λ x. x), (λ x. x), λ x. x)) in
-    same-then g.T.Lane.same laws.same_still _ _ _ c.loop.invariant.3 c.between.ensures.same
+    let laws = (g.met.T.PhaseLane g.world.𝓛 g.world.𝓜 g.world.𝓡 ((λ s x. x), (λ x. x), (λ x. x), λ x. x)) in
+    same-then g.T.PhaseLane.same laws.same_still _ _ _ c.loop.invariant.3 c.between.ensures.same
 
 pub returns-in-Over-clause-rows : goal.returns-in-Over-clause-rows
-returns-in-Over-clause-rows g c = few-more g.T.Lane.numbers c.loop.begun c.between.new.workers c.between.ensures.few
+returns-in-Over-clause-rows g c = few-more g.T.PhaseLane.numbers c.loop.begun c.between.new.workers c.between.ensures.few
 
 pub loop-preserved : goal.loop-preserved
 loop-preserved g c =
-    let laws = (g.met.T.Lane g.world.𝓛 g.world.𝓜 g.world.𝓡 ((λ s x. x), (λ x. x), (λ x. x), λ x. x)) in
-    let so_far = same-then g.T.Lane.same laws.same_still _ _ _ c.loop.invariant.3 c.between.ensures.same in
-    (tt, tt, c.between.ensures.ready, so_far, table-still g.T.Lane.view g.T.Lane.same laws.same_table c.args.objects.now _ _ c.between.ensures.same c.loop.invariant.4, c.between.ensures.few)
+    let laws = (g.met.T.PhaseLane g.world.𝓛 g.world.𝓜 g.world.𝓡 ((λ s x. x), (λ x. x), (λ x. x), λ x. x)) in
+    let so_far = same-then g.T.PhaseLane.same laws.same_still _ _ _ c.loop.invariant.3 c.between.ensures.same in
+    (tt, tt, c.between.ensures.ready, so_far, table-still g.T.PhaseLane.view g.T.PhaseLane.same laws.same_table c.args.objects.now _ _ c.between.ensures.same c.loop.invariant.4, c.between.ensures.few)
 
 pub loop-preserved-in-Phase : goal.loop-preserved-in-Phase
 loop-preserved-in-Phase g c =
-    let laws = (g.met.T.Lane g.world.𝓛 g.world.𝓜 g.world.𝓡 ((λ s x. x), (λ x. x), (λ x. x), λ x. x)) in
+    let laws = (g.met.T.PhaseLane g.world.𝓛 g.world.𝓜 g.world.𝓡 ((λ s x. x), (λ x. x), (λ x. x), λ x. x)) in
     let turned = c.run_lanes.ensures in
-    let went = went-same g.T.Worker.ready g.T.Lane.same g.T.Worker.turned laws.went _ _ turned in
-    let so_far = same-then g.T.Lane.same laws.same_still _ _ _ c.loop.invariant.3 c.between.ensures.same in
-    let table = table-still g.T.Lane.view g.T.Lane.same laws.same_table c.args.objects.now _ _ c.between.ensures.same c.loop.invariant.4 in (
+    let went = went-same g.T.Worker.ready g.T.PhaseLane.same g.T.Worker.turned laws.went _ _ turned in
+    let so_far = same-then g.T.PhaseLane.same laws.same_still _ _ _ c.loop.invariant.3 c.between.ensures.same in
+    let table = table-still g.T.PhaseLane.view g.T.PhaseLane.same laws.same_table c.args.objects.now _ _ c.between.ensures.same c.loop.invariant.4 in (
       tt,
       tt,
-      went-ready g.T.Worker.ready g.T.Lane.same g.T.Worker.turned laws.went _ _ turned,
-      same-then g.T.Lane.same laws.same_still _ _ _ so_far went,
-      table-still g.T.Lane.view g.T.Lane.same laws.same_table c.args.objects.now _ _ went table,
-      went-few g.T.Lane.numbers g.T.Lane.view g.T.Worker.turned laws.went_on c.args.objects.now _ _ turned (c.between.ensures.cause c.in-Phase.is),
+      went-ready g.T.Worker.ready g.T.PhaseLane.same g.T.Worker.turned laws.went _ _ turned,
+      same-then g.T.PhaseLane.same laws.same_still _ _ _ so_far went,
+      table-still g.T.PhaseLane.view g.T.PhaseLane.same laws.same_table c.args.objects.now _ _ went table,
+      went-few g.T.PhaseLane.numbers g.T.PhaseLane.view g.T.Worker.turned laws.went_on c.args.objects.now _ _ turned (c.between.ensures.cause c.in-Phase.is),
     )
 
 pub returns-in-Over-clause-stopped : goal.returns-in-Over-clause-stopped
 returns-in-Over-clause-stopped g c said =
-    let laws = (g.met.T.Lane g.world.𝓛 g.world.𝓜 g.world.𝓡 ((λ s x. x), (λ x. x), (λ x. x), λ x. x)) in
-    first-since g.T.Lane.view g.T.Lane.same laws.same_hears false _ _ _ c.loop.invariant.3 (c.between.ensures.stopped (c.in-Over.is ∙ ap next.Over said))
+    let laws = (g.met.T.PhaseLane g.world.𝓛 g.world.𝓜 g.world.𝓡 ((λ s x. x), (λ x. x), (λ x. x), λ x. x)) in
+    first-since g.T.PhaseLane.view g.T.PhaseLane.same laws.same_hears false _ _ _ c.loop.invariant.3 (c.between.ensures.stopped (c.in-Over.is ∙ ap next.Over said))
 
 pub returns-in-Over-clause-memory : goal.returns-in-Over-clause-memory
 returns-in-Over-clause-memory g c said =
-    let laws = (g.met.T.Lane g.world.𝓛 g.world.𝓜 g.world.𝓡 ((λ s x. x), (λ x. x), (λ x. x), λ x. x)) in
-    first-since g.T.Lane.view g.T.Lane.same laws.same_hears true _ _ _ c.loop.invariant.3 (c.between.ensures.memory (c.in-Over.is ∙ ap next.Over said))
+    let laws = (g.met.T.PhaseLane g.world.𝓛 g.world.𝓜 g.world.𝓡 ((λ s x. x), (λ x. x), (λ x. x), λ x. x)) in
+    first-since g.T.PhaseLane.view g.T.PhaseLane.same laws.same_hears true _ _ _ c.loop.invariant.3 (c.between.ensures.memory (c.in-Over.is ∙ ap next.Over said))

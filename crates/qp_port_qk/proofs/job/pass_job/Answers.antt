@@ -1,5 +1,5 @@
 use Rattle.std.proofs.Common.{subst}
-use Rattle.qp_port_cursor.proofs.Feeding.{passes-feed}
+use Rattle.qp_port_lanes.proofs.Feeding.{passes-feed}
 use Rattle.qp_port_qk.specs.Jobs.{JobRests}
 use Rattle.qp_port_qk.proofs.Turning.{source-passed, source-passed_hands, source-passed_hears, source-passed_to}
 use Rattle.qp_port_qk.proofs.job.pass_job.Goals as goal

@@ -1,4 +1,4 @@
-use Rattle.qp_port_cursor.proofs.Feeding.{source-feeds}
+use Rattle.qp_port_lanes.proofs.Feeding.{source-feeds}
 use Rattle.qp_port_qk.proofs.Turning.{source-counts, source-turned}
 use Rattle.qp_port_qk.proofs.job.run_job.Goals as goal
 

@@ -1,5 +1,5 @@
-use Rattle.qp_port_cursor.proofs.Feeding.{lane-feeds}
-use Rattle.qp_port_cursor.proofs.Hearing.{lane-hears}
+use Rattle.qp_port_lanes.proofs.Feeding.{lane-feeds}
+use Rattle.qp_port_lanes.proofs.Hearing.{lane-hears}
 use Rattle.qp_port_qk.proofs.Turning.{base-looks, kernel-counts, kernel-same, kernel-turned, order-alone, plan-fits}
 use Rattle.qp_port_qk.proofs.job.run_kernel.Goals as goal
 

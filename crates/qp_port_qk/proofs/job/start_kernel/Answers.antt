@@ -1,8 +1,8 @@
 use Rattle.std.proofs.Common.{false}
 use Rattle.qp_dispatch.specs.declared.objects.Turn.TheVariants as turn
 use Rattle.qp_dispatch.specs.declared.steps.Step.TheVariants as step
-use Rattle.qp_port_cursor.proofs.Feeding.{lane-feeds}
-use Rattle.qp_port_cursor.proofs.Hearing.{why-stopped}
+use Rattle.qp_port_lanes.proofs.Feeding.{lane-feeds}
+use Rattle.qp_port_lanes.proofs.Hearing.{why-stopped}
 use Rattle.qp_port_qk.proofs.Ending.{kernel-started, started-none, starts-same, stopped-ends, stopped-none}
 use Rattle.qp_port_qk.proofs.job.start_kernel.Goals as goal
 

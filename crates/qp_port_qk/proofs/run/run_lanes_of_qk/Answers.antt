@@ -3,8 +3,8 @@ use Rattle.qp_port_qk.proofs.CrossingLemmas.{worker-send}
 use Rattle.std.proofs.Common.{◌≡◌, ◌⊎◌, arith, map, sym, subst, ◌∙◌, false, Some, true}
 use Rattle.std.specs.Prelude.{IfOk, OnOk}
 use Rattle.std.specs.List.{AllByRecursion, list_all}
-use Rattle.qp_port_phases.specs.declared.phases.Ended.TheVariants as ended
-use Rattle.qp_port_cursor.specs.Answers.{IsFed, is_idle, is_short}
+use Rattle.qp_port_phases.specs.declared.phases.PhasesEnd.TheVariants as ended
+use Rattle.qp_port_lanes.specs.Answers.{IsFed, is_idle, is_short}
 use Rattle.qp_port_qk.specs.Resting.{AreLeft}
 use Rattle.std.specs.List.{list_any}
 use Rattle.std.proofs.lemmas.List.{length-map}

@@ -11,9 +11,9 @@ returns-clause-each g c =
 
 pub returns-clause-same : goal.returns-clause-same
 returns-clause-same g c =
-    let laws = (g.met.T.Lane g.world.𝓛 g.world.𝓜 g.world.𝓡 ((λ s x. x), (λ x. x), (λ x. x), λ x. x)) in
+    let laws = (g.met.T.PhaseLane g.world.𝓛 g.world.𝓜 g.world.𝓡 ((λ s x. x), (λ x. x), (λ x. x), λ x. x)) in
     let parts = c.in-Some.ensures.cases in
-    rw parts.0 (c.start.ensures.same, same-each g.T.Lane.same laws.same_itself _)
+    rw parts.0 (c.start.ensures.same, same-each g.T.PhaseLane.same laws.same_itself _)
 
 pub returns-clause-ready : goal.returns-clause-ready
 returns-clause-ready g c =
@@ -22,4 +22,4 @@ returns-clause-ready g c =
     λ said. (c.start.ensures.ready said, all.1)
 
 pub returns-clause-rows : goal.returns-clause-rows
-returns-clause-rows g c = λ more. rows-none g.T.Lane.numbers more c.start.new.self _ c.start.ensures.none
+returns-clause-rows g c = λ more. rows-none g.T.PhaseLane.numbers more c.start.new.self _ c.start.ensures.none

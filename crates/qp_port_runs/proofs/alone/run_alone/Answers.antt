@@ -1,6 +1,6 @@
 use Rattle.std.proofs.Common.{◌≡◌, false, map, sym, subst, ◌∙◌}
 use Rattle.std.specs.List.{AllByRecursion}
-use Rattle.qp_port_cursor.specs.Answers.{IsFed}
+use Rattle.qp_port_lanes.specs.Answers.{IsFed}
 use Rattle.qp_port_phases.specs.Stopping.{AnyStopped}
 use Rattle.qp_port_qk.specs.Ends.{HasRun}
 use Rattle.qp_port_qk.specs.Rows.{AreNewLanes, AreSameLanes}

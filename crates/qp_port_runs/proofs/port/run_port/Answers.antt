@@ -3,7 +3,7 @@ use Rattle.std.proofs.Common.{length, map, ap, arith, subst}
 use Rattle.std.specs.Prelude.{IfOk}
 use Rattle.qp_model.specs.declared.systems.System.{System}
 use Rattle.qp_model.specs.Kernels.{port}
-use Rattle.qp_port_quiet.specs.Sealed.{SealsLanes}
+use Rattle.qp_port_law.specs.Sealed.{SealsLanes}
 use Rattle.qp_port.specs.Rows.{AreNewLanes}
 use Rattle.qp_shared.specs.Lane.{lane_view}
 use Rattle.qp_shared.specs.WasSealed.{WasSealedFor}

@@ -1,5 +1,5 @@
 use Rattle.qp_run_parts.specs.Printed.{made_budget}
-use Rattle.qp_commands.specs.declared.values.Kernel.TheVariants.{Sim}
+use Rattle.qp_commands.specs.declared.values.KernelName.TheVariants.{Sim}
 use Rattle.qp_commands.specs.declared.values.Output.TheVariants.{Summary}
 use Rattle.qp_run_parts.proofs.PrintedLemmas.{made-printed, made-told, run-about, run-cause}
 use Rattle.qp_run_parts.proofs.runs.run_made.Goals as goal

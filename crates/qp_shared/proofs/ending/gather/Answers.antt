@@ -1,8 +1,8 @@
 use Rattle.std.proofs.Common.{◌≡◌, ◌∙◌, ◌∷◌, [], ◌++◌, length, sym, ap, subst, append_assoc, arith}
 use Rattle.std.specs.Vec.Iter.{into_iter_items}
 use Rattle.qp_table.specs.Counting.{Each}
-use Rattle.qp_table.specs.After.{joined}
-use Rattle.qp_side_words.specs.Told.{both_of}
+use Rattle.qp_table.specs.After.{views_joined}
+use Rattle.qp_side.specs.Told.{both_of}
 use Rattle.qp_shared_ends.specs.Joining.{side_of, table_of}
 use Rattle.qp_shared.specs.Ending.{IsOn, states}
 use Rattle.qp_shared.proofs.Handing.{each-mid, joined-more, both-more, recs-more}
@@ -26,6 +26,6 @@ loop-lane-preserved c =
       c.push_reserved.ensures.capacity ∙ at.invariant.3,
       c.take_in-its.ensures.own ∙ at.invariant.4,
       c.take_in-its.ensures.beside ∙ at.invariant.5,
-      c.take_in-its.ensures.table ∙ (ap (λ v. joined v (table_of c.in-Some.lane.state)) at.invariant.6 ∙ sym (joined-more at.yielded c.in-Some.lane c.args.seat.now.me.0)),
+      c.take_in-its.ensures.table ∙ (ap (λ v. views_joined v (table_of c.in-Some.lane.state)) at.invariant.6 ∙ sym (joined-more at.yielded c.in-Some.lane c.args.seat.now.me.0)),
       c.take_in-its.ensures.side ∙ (ap (λ v. both_of v (side_of c.in-Some.lane.state)) at.invariant.7 ∙ sym (both-more at.yielded c.in-Some.lane c.args.beside.now.me.0)),
     )

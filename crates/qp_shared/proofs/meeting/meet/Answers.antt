@@ -1,13 +1,13 @@
 use Rattle.std.proofs.Common.{◌≡◌, ◌∙◌, ap, sym, subst}
-use Rattle.qp_table.specs.After.{joined, onlooker}
+use Rattle.qp_table.specs.After.{views_joined, onlooker}
 use Rattle.qp_table.specs.declared.view.View.{View}
-use Rattle.qp_calls_meet.specs.Meeting.{Met}
+use Rattle.qp_calls_log.specs.Meeting.{Met}
 use Rattle.qp_shared_lane.specs.Holds.{LaneHolds, told_by}
 use Rattle.qp_shared_lane.specs.Lane.{standing, lane_with, world_in, state_view}
 use Rattle.qp_shared_lane.specs.declared.lane.LaneState.{LaneState}
 use Rattle.qp_shared_lane.proofs.Used.{ends-same}
-use Rattle.qp_shared_seats.specs.Seats.{IsOnePast}
-use Rattle.qp_shared_views.specs.Lane.{lane_of}
+use Rattle.qp_shared_ends.specs.Seats.{IsOnePast}
+use Rattle.qp_table.specs.Lane.{lane_of}
 use Rattle.qp_shared.proofs.Meetings.{met, joined-onlooker, same-table, lane-meets, lane-keeps}
 use Rattle.qp_shared.proofs.meeting.meet.Goals as goal
 
@@ -15,8 +15,8 @@ pub join_seats-requires-clause-other : goal.join_seats-requires-clause-other
 join_seats-requires-clause-other c = (c.look_on-seen.ensures.table.0 ∙ (c.args.other.now.own ∙ same-table c.args.lane.now c.args.other.now c.requires.world), c.look_on-seen.ensures.table.1)
 
 -- the view after
-view-is : (v w a b u : View) → a ≡ onlooker w → b ≡ joined v a → u ≡ b → u ≡ met v w
-view-is v w a b u is both stays = stays ∙ (both ∙ (ap (joined v) is ∙ joined-onlooker v w))
+view-is : (v w a b u : View) → a ≡ onlooker w → b ≡ views_joined v a → u ≡ b → u ≡ met v w
+view-is v w a b u is both stays = stays ∙ (both ∙ (ap (views_joined v) is ∙ joined-onlooker v w))
 
 pub invariant_of-lane : goal.invariant_of-lane
 unfolding lane_of

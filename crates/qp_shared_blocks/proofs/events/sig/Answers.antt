@@ -1,6 +1,6 @@
 use Rattle.std.proofs.Common.{refl, sym, subst}
 use Rattle.qp_calls.specs.Clauses.{StandsHold}
-use Rattle.qp_shared_views.specs.Lane.{lane_of}
+use Rattle.qp_table.specs.Lane.{lane_of}
 use Rattle.qp_shared_lane.specs.Lane.{state_view}
 use Rattle.qp_shared_blocks.proofs.Lanes.{held, held-place, held-known, hold-is}
 use Rattle.qp_shared_blocks.proofs.Reading.{still-ended, still-holds, still-view, event-is, sig-is}

@@ -3,7 +3,7 @@ use Rattle.std.specs.Option.{unwrap_or}
 use Rattle.qp_model.specs.WordLaw.{is_pool}
 use Rattle.qp_table.specs.Rule.{IsContent}
 use Rattle.qp_calls.specs.Clauses.{event_of}
-use Rattle.qp_shared_steps.specs.Asked.{size_of}
+use Rattle.qp_table.specs.Asked.{size_of}
 use Rattle.std.specs.Bool.{IsTrue}
 use Rattle.qp_shared_blocks.proofs.Lanes.{spare-is, room}
 use Rattle.qp_shared_blocks.proofs.Used.{give-ended}

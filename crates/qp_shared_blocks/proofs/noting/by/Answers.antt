@@ -1,5 +1,5 @@
 use Rattle.std.proofs.Common.{ap}
-use Rattle.qp_shared_views.specs.Lane.{lane_of}
+use Rattle.qp_table.specs.Lane.{lane_of}
 use Rattle.qp_shared_lane.specs.Lane.{state_view}
 use Rattle.qp_shared_blocks.proofs.noting.by.Goals as goal
 

@@ -1,6 +1,6 @@
 use Rattle.std.proofs.Common.{true, false, sym, ◌∙◌}
 use Rattle.qp_calls_log.proofs.NoteLemmas.{first-spill, other-note, spare-kept, spare-less}
-use Rattle.qp_shared_views.specs.Lane.{lane_of}
+use Rattle.qp_table.specs.Lane.{lane_of}
 use Rattle.qp_shared_lane.specs.Lane.{state_view}
 use Rattle.qp_shared_blocks.proofs.Lanes.{spare-is}
 use Rattle.qp_shared_blocks.proofs.Notes.{tells, spill-of, note-holds, note-grows, plain-told, spill-told}

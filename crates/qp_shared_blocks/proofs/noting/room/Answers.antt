@@ -2,7 +2,7 @@ use Rattle.std.proofs.Common.{arith}
 use Rattle.qp_model.specs.History.{lane_items}
 use Rattle.qp_model.proofs.RecordLemmas.{lane-length}
 use Rattle.qp_calls_log.proofs.LogLemmas.{length-kinds}
-use Rattle.qp_shared_views.specs.Lane.{lane_of}
+use Rattle.qp_table.specs.Lane.{lane_of}
 use Rattle.qp_shared_blocks.proofs.Notes.{told-long, room-holds, roomier, stays}
 use Rattle.qp_shared_blocks.proofs.noting.room.Goals as goal
 

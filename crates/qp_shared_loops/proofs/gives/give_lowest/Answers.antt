@@ -1,8 +1,8 @@
 use Rattle.std.proofs.Common.{◌<◌, subst, arith, ◌∙◌}
 use Rattle.qp_model.specs.declared.words.Word.TheVariants as word
 use Rattle.qp_table.specs.Rule.{pool_at, mark_in}
-use Rattle.qp_shared_views.specs.Words.{value_seen}
-use Rattle.qp_shared_steps.specs.Told.{free_of}
+use Rattle.qp_table.specs.Words.{value_seen}
+use Rattle.qp_table.specs.Told.{free_of}
 use Rattle.qp_shared_loops.proofs.Following.{one-try}
 use Rattle.qp_shared_loops.proofs.Giving.{gives-on}
 use Rattle.qp_shared_loops.proofs.gives.give_lowest.Goals as goal

@@ -2,8 +2,8 @@ use Rattle.std.proofs.Common.{◌≡◌, ◌+◌, ◌-◌, ◌<◌, ◌≤◌}
 use Rattle.std.specs.Option.{unwrap_or}
 use Rattle.qp_model.specs.declared.words.Word.TheVariants as word
 use Rattle.qp_table.specs.Rule.{pool_at, mark_in}
-use Rattle.qp_shared_views.specs.Words.{value_seen}
-use Rattle.qp_shared_steps.specs.Told.{free_of}
+use Rattle.qp_table.specs.Words.{value_seen}
+use Rattle.qp_table.specs.Told.{free_of}
 use Rattle.qp_shared_loops.proofs.Giving.{PoolSeen}
 use Rattle.qp_shared_loops.proofs.gives.give_lowest.Given as goal
 

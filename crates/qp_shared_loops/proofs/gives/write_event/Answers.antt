@@ -1,7 +1,7 @@
 use Rattle.std.proofs.Common.{◌+◌, ◌∙◌, suc, IsTrue, drop, get_or, length, refl, sym, ap, subst, arith}
 use Rattle.std.specs.List.{list_any}
 use Rattle.qp_table.specs.After.{fills_for, filled}
-use Rattle.qp_shared_steps.specs.Asked.{is_asked}
+use Rattle.qp_table.specs.Asked.{is_asked}
 use Rattle.qp_shared_loops.specs.Ends.{filling}
 use Rattle.qp_shared_loops.proofs.Giving.{signal-written, value-left, value-written, kept-asked, kept-fresh}
 use Rattle.qp_shared_loops.proofs.gives.write_event.Goals as goal

@@ -1,8 +1,8 @@
 use Rattle.std.proofs.Common.{◌<◌, subst, arith, ◌∙◌}
 use Rattle.qp_table.specs.Rule.{queue_at, mark_in}
 use Rattle.qp_model.specs.declared.words.Word.TheVariants as word
-use Rattle.qp_shared_views.specs.Words.{value_seen}
-use Rattle.qp_shared_steps.specs.Told.{free_in}
+use Rattle.qp_table.specs.Words.{value_seen}
+use Rattle.qp_table.specs.Told.{free_in}
 use Rattle.qp_shared_loops.proofs.Following.{one-try}
 use Rattle.qp_shared_loops.proofs.LastIn.{puts-first, puts-on}
 use Rattle.qp_shared_loops.proofs.last_in.claim_entry_last_in.Goals as goal

@@ -2,8 +2,8 @@ use Rattle.std.proofs.Common.{◌+◌, arith, sym, subst, eqb}
 use prog.Atomic.{either}
 use Rattle.qp_model.specs.declared.bodies.Entry.{Entry}
 use Rattle.qp_table.specs.After.{Steps}
-use Rattle.qp_shared_steps.specs.Told.{LastTold}
-use Rattle.qp_shared_steps.proofs.LawLemmas.{last_tries_tell}
+use Rattle.qp_table.specs.Told.{LastTold}
+use Rattle.qp_table.proofs.StepLawLemmas.{last_tries_tell}
 use Rattle.qp_shared_loops.specs.Ends.{IsShort}
 use Rattle.qp_shared_loops.proofs.Shortness.{with-short}
 use Rattle.qp_shared_loops.proofs.last_in.claim_last_in.Goals as goal

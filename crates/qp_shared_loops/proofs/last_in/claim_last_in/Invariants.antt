@@ -1,4 +1,4 @@
-use Rattle.qp_shared_steps.specs.Told.{LastTold}
+use Rattle.qp_table.specs.Told.{LastTold}
 use Rattle.qp_shared_loops.specs.Ends.{IsShort}
 use Rattle.qp_shared_loops.proofs.last_in.claim_last_in.Given as goal
 

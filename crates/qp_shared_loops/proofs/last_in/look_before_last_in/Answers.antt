@@ -1,7 +1,7 @@
 use Rattle.std.proofs.Common.{arith, sym, subst}
 use Rattle.qp_table.specs.After.{Steps}
-use Rattle.qp_shared_steps.specs.Told.{EyeLastTold}
-use Rattle.qp_shared_steps.proofs.LawLemmas.{last_eyes_tell}
+use Rattle.qp_table.specs.Told.{EyeLastTold}
+use Rattle.qp_table.proofs.StepLawLemmas.{last_eyes_tell}
 use Rattle.qp_shared_loops.specs.Ends.{IsShort}
 use Rattle.qp_shared_loops.proofs.Shortness.{with-short}
 use Rattle.qp_shared_loops.proofs.last_in.look_before_last_in.Goals as goal

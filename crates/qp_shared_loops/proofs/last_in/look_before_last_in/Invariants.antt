@@ -1,4 +1,4 @@
-use Rattle.qp_shared_steps.specs.Told.{EyeLastTold}
+use Rattle.qp_table.specs.Told.{EyeLastTold}
 use Rattle.qp_shared_loops.specs.Ends.{IsShort}
 use Rattle.qp_shared_loops.proofs.last_in.look_before_last_in.Given as goal
 

@@ -1,8 +1,8 @@
 use Rattle.std.proofs.Common.{◌<◌, refl, subst, arith, ◌∙◌}
 use Rattle.qp_table.specs.Rule.{queue_at, mark_in}
 use Rattle.qp_model.specs.declared.words.Word.TheVariants as word
-use Rattle.qp_shared_views.specs.Words.{value_seen}
-use Rattle.qp_shared_steps.specs.Told.{free_in}
+use Rattle.qp_table.specs.Words.{value_seen}
+use Rattle.qp_table.specs.Told.{free_in}
 use Rattle.qp_shared_loops.proofs.Following.{keeps-room, keeps-hand, last-is, risen, few-takes, mark-below, enough-free, no-tries, one-try, less-left}
 use Rattle.qp_shared_loops.proofs.Posting.{looked-on, claims-on}
 use Rattle.qp_shared_loops.proofs.posts.claim_entry.Goals as goal

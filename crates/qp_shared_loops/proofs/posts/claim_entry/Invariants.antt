@@ -2,8 +2,8 @@ use Rattle.std.proofs.Common.{◌≡◌, ◌+◌, ◌-◌, ◌<◌, ◌≤◌}
 use Rattle.std.specs.Option.{unwrap_or}
 use Rattle.qp_model.specs.declared.words.Word.TheVariants as word
 use Rattle.qp_table.specs.Rule.{queue_at, mark_in}
-use Rattle.qp_shared_views.specs.Words.{value_seen}
-use Rattle.qp_shared_steps.specs.Told.{free_in}
+use Rattle.qp_table.specs.Words.{value_seen}
+use Rattle.qp_table.specs.Told.{free_in}
 use Rattle.qp_shared_loops.proofs.Following.{Seen}
 use Rattle.qp_shared_loops.proofs.posts.claim_entry.Given as goal
 

@@ -1,8 +1,8 @@
 use Rattle.std.proofs.Common.{◌+◌, ◌%◌, arith, sym, subst}
 use Rattle.qp_model.specs.declared.bodies.Entry.{Entry}
 use Rattle.qp_table.specs.After.{Steps}
-use Rattle.qp_shared_steps.specs.Told.{FreeTold}
-use Rattle.qp_shared_steps.proofs.LawLemmas.{frees_tell}
+use Rattle.qp_table.specs.Told.{FreeTold}
+use Rattle.qp_table.proofs.StepLawLemmas.{frees_tell}
 use Rattle.qp_shared_loops.specs.Ends.{KnowsEvent}
 use Rattle.qp_shared_loops.proofs.Freeing.{with-event}
 use Rattle.qp_shared_loops.proofs.takes.free_entry.Goals as goal

@@ -1,4 +1,4 @@
-use Rattle.qp_shared_steps.specs.Told.{FreeTold}
+use Rattle.qp_table.specs.Told.{FreeTold}
 use Rattle.qp_shared_loops.specs.Ends.{KnowsEvent}
 use Rattle.qp_shared_loops.proofs.takes.free_entry.Given as goal
 

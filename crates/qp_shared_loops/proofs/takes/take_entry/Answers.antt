@@ -3,7 +3,7 @@ use Rattle.qp_model.specs.declared.bodies.Entry.{Entry}
 use Rattle.qp_calls.specs.Clauses.{entry_of}
 use Rattle.qp_table.specs.Counting.{many}
 use Rattle.qp_table.specs.Rule.{is_place}
-use Rattle.qp_shared_steps.specs.Told.{FreeTold}
+use Rattle.qp_table.specs.Told.{FreeTold}
 use Rattle.qp_shared_words.specs.Nils.{is_new}
 use Rattle.qp_shared_loops.specs.Ends.{KnowsEvent}
 use Rattle.qp_shared_loops.proofs.Taking.{knows-front, seen-some, take-there, takes-it}

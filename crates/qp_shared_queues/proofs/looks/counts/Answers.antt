@@ -1,5 +1,5 @@
 use Rattle.std.proofs.Common.{ap, subst, ◌∙◌}
-use Rattle.qp_shared_steps.specs.Told.{LookTold}
+use Rattle.qp_table.specs.Told.{LookTold}
 use Rattle.qp_table.specs.declared.view.View.{View}
 use Rattle.qp_shared_lane.proofs.Used.{ends-same}
 use Rattle.qp_shared_queues.proofs.Lane.{object-key}

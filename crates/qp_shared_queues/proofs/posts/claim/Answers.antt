@@ -6,7 +6,7 @@ use Rattle.qp_model.specs.Record.{entry}
 use Rattle.qp_model.specs.Sites.{ring_of}
 use Rattle.qp_table.specs.Rule.{queue_at, mark_in}
 use Rattle.qp_calls.specs.declared.answers.Counts as counts
-use Rattle.qp_shared_views.specs.Words.{value_seen}
+use Rattle.qp_table.specs.Words.{value_seen}
 use Rattle.qp_shared_loops.specs.Ends.{PostEnds}
 use Rattle.qp_shared_queues.specs.Bodies.{post_body}
 use Rattle.qp_shared_queues.proofs.Used.{post-ended}

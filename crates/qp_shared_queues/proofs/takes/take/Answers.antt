@@ -4,7 +4,7 @@ use Rattle.qp_model.specs.declared.bodies.Body.TheVariants.{Took, Nil}
 use Rattle.qp_model.specs.History.{lane_items}
 use Rattle.qp_model.specs.Sites.{ring_of}
 use Rattle.qp_calls.specs.declared.answers.Counts as counts
-use Rattle.qp_calls.specs.declared.tokens.Entry as token
+use Rattle.qp_calls.specs.declared.tokens.HeldEntry as token
 use Rattle.qp_calls.specs.LaneView.{NotShown}
 use Rattle.qp_calls.specs.Clauses.{TakesNone, same_counts}
 use Rattle.qp_calls_log.specs.Lane.{last_nil_in}
@@ -56,13 +56,13 @@ invariant_of-lane-clause-ended g c = let l = c.args.lane.now in
 
 pub invariant_of-lane-clause-holds : goal.invariant_of-lane-clause-holds
 invariant_of-lane-clause-holds g c = let l = c.args.lane.now in
-    let ends = subst (λ (z : System × Option token.Entry). TakeEnds z.0 (is_new c.index-last.result.now) c.args.me l.seat.me.0 c.take_entry-found.result.0 z.1 c.take_entry-found.new.seat.me.0) (λ i. (l.key i, c.in-Some.is i)) c.take_entry-found.ensures.ends in
+    let ends = subst (λ (z : System × Option token.HeldEntry). TakeEnds z.0 (is_new c.index-last.result.now) c.args.me l.seat.me.0 c.take_entry-found.result.0 z.1 c.take_entry-found.new.seat.me.0) (λ i. (l.key i, c.in-Some.is i)) c.take_entry-found.ensures.ends in
     take-holds l c.args.me c.take_entry-found.result.0 c.in-Some.e c.take_entry-found.new.seat.me.0 c.put.new.log c.put.new.numbers.list c.took-rec.result ends.0 c.put.ensures.put
     (c.took-rec.ensures ∙ (λ i. let k : counts.Counts = c.counts_in-now.ensures i in record { of = c.args.me; body = Took k.f k.l (k.m + 1) ((c.stated.ensures ∙ sym c.parts-pool.ensures) i) }))
 
 pub returns-in-Some : goal.returns-in-Some
 returns-in-Some g c = let l = c.args.lane.now in
-    let ends = subst (λ (z : System × Option token.Entry). TakeEnds z.0 (is_new c.index-last.result.now) c.args.me l.seat.me.0 c.take_entry-found.result.0 z.1 c.take_entry-found.new.seat.me.0) (λ i. (l.key i, c.in-Some.is i)) c.take_entry-found.ensures.ends in
+    let ends = subst (λ (z : System × Option token.HeldEntry). TakeEnds z.0 (is_new c.index-last.result.now) c.args.me l.seat.me.0 c.take_entry-found.result.0 z.1 c.take_entry-found.new.seat.me.0) (λ i. (l.key i, c.in-Some.is i)) c.take_entry-found.ensures.ends in
     takes-it-for l c.args.me c.take_entry-found.result.0 c.in-Some.e c.take_entry-found.new.seat.me.0 c.put.new.log c.put.new.numbers.list c.took-rec.result ends.0 c.put.ensures.put
     (c.took-rec.ensures ∙ (λ i. let k : counts.Counts = c.counts_in-now.ensures i in record { of = c.args.me; body = Took k.f k.l (k.m + 1) ((c.stated.ensures ∙ sym c.parts-pool.ensures) i) })) ends.1 l.holds.bare c.put.ensures.spare
 
@@ -75,7 +75,7 @@ invariant_of-lane-then-tells-clause-ended g c = let l = c.args.lane.now in
 
 pub invariant_of-lane-then-tells-clause-holds : goal.invariant_of-lane-then-tells-clause-holds
 invariant_of-lane-then-tells-clause-holds g c = let l = c.args.lane.now in
-    let ends = subst (λ (z : System × Option token.Entry). TakeEnds z.0 (is_new c.index-last.result.now) c.args.me l.seat.me.0 c.take_entry-found.result.0 z.1 c.take_entry-found.new.seat.me.0) (λ i. (l.key i, c.in-None.is i)) c.take_entry-found.ensures.ends in
+    let ends = subst (λ (z : System × Option token.HeldEntry). TakeEnds z.0 (is_new c.index-last.result.now) c.args.me l.seat.me.0 c.take_entry-found.result.0 z.1 c.take_entry-found.new.seat.me.0) (λ i. (l.key i, c.in-None.is i)) c.take_entry-found.ensures.ends in
     let small = object-small l c.args.me c.requires.object in
     again-holds l c.args.me c.take_entry-found.result.0 c.index-last.result.now c.take_entry-found.new.seat.me.0 c.tells.result ends small
     (last-is l.log.nils.items c.args.me c.from.result c.index-last.result.now c.from.ensures (omega (arith, small, c.from.ensures, l.log.seats)) c.index-last.ensures)
@@ -83,7 +83,7 @@ invariant_of-lane-then-tells-clause-holds g c = let l = c.args.lane.now in
 
 pub returns-then-tells : goal.returns-then-tells
 returns-then-tells g c = let l = c.args.lane.now in
-    let ends = subst (λ (z : System × Option token.Entry). TakeEnds z.0 (is_new c.index-last.result.now) c.args.me l.seat.me.0 c.take_entry-found.result.0 z.1 c.take_entry-found.new.seat.me.0) (λ i. (l.key i, c.in-None.is i)) c.take_entry-found.ensures.ends in
+    let ends = subst (λ (z : System × Option token.HeldEntry). TakeEnds z.0 (is_new c.index-last.result.now) c.args.me l.seat.me.0 c.take_entry-found.result.0 z.1 c.take_entry-found.new.seat.me.0) (λ i. (l.key i, c.in-None.is i)) c.take_entry-found.ensures.ends in
     let small = object-small l c.args.me c.requires.object in
     let z = takes-again l c.args.me c.take_entry-found.result.0 c.index-last.result.now c.take_entry-found.new.seat.me.0 c.tells.result ends small
     (last-is l.log.nils.items c.args.me c.from.result c.index-last.result.now c.from.ensures (omega (arith, small, c.from.ensures, l.log.seats)) c.index-last.ensures)
@@ -99,7 +99,7 @@ invariant_of-lane-in-None-clause-ended g c = let l = c.args.lane.now in
 
 pub invariant_of-lane-in-None-clause-holds : goal.invariant_of-lane-in-None-clause-holds
 invariant_of-lane-in-None-clause-holds g c = let l = c.args.lane.now in
-    let ends = subst (λ (z : System × Option token.Entry). TakeEnds z.0 (is_new c.index-last.result.now) c.args.me l.seat.me.0 c.take_entry-found.result.0 z.1 c.take_entry-found.new.seat.me.0) (λ i. (l.key i, c.in-None.is i)) c.take_entry-found.ensures.ends in
+    let ends = subst (λ (z : System × Option token.HeldEntry). TakeEnds z.0 (is_new c.index-last.result.now) c.args.me l.seat.me.0 c.take_entry-found.result.0 z.1 c.take_entry-found.new.seat.me.0) (λ i. (l.key i, c.in-None.is i)) c.take_entry-found.ensures.ends in
     let small = object-small l c.args.me c.requires.object in
     nil-holds l c.args.me c.take_entry-found.result.0 c.index-last.result.now c.take_entry-found.new.seat.me.0 c.tells.result ends small
     (last-is l.log.nils.items c.args.me c.from.result c.index-last.result.now c.from.ensures (omega (arith, small, c.from.ensures, l.log.seats)) c.index-last.ensures)
@@ -108,7 +108,7 @@ invariant_of-lane-in-None-clause-holds g c = let l = c.args.lane.now in
 
 pub returns-else-tells : goal.returns-else-tells
 returns-else-tells g c = let l = c.args.lane.now in
-    let ends = subst (λ (z : System × Option token.Entry). TakeEnds z.0 (is_new c.index-last.result.now) c.args.me l.seat.me.0 c.take_entry-found.result.0 z.1 c.take_entry-found.new.seat.me.0) (λ i. (l.key i, c.in-None.is i)) c.take_entry-found.ensures.ends in
+    let ends = subst (λ (z : System × Option token.HeldEntry). TakeEnds z.0 (is_new c.index-last.result.now) c.args.me l.seat.me.0 c.take_entry-found.result.0 z.1 c.take_entry-found.new.seat.me.0) (λ i. (l.key i, c.in-None.is i)) c.take_entry-found.ensures.ends in
     let small = object-small l c.args.me c.requires.object in
     let z = takes-nil l c.args.me c.take_entry-found.result.0 c.index-last.result.now c.take_entry-found.new.seat.me.0 c.tells.result ends small
     (last-is l.log.nils.items c.args.me c.from.result c.index-last.result.now c.from.ensures (omega (arith, small, c.from.ensures, l.log.seats)) c.index-last.ensures)

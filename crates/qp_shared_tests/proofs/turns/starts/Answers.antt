@@ -1,5 +1,5 @@
 use Rattle.std.proofs.Common.{subst, sym}
-use Rattle.qp_port_home.specs.At.{HasEmptyLane, IsMade}
+use Rattle.qp_port_lanes.specs.At.{HasEmptyLane, IsMade}
 use Rattle.qp_wait.specs.Handed.{bell_view}
 use Rattle.qp_shared_tests.proofs.LampLemmas.{parked-grown, started-grown}
 use Rattle.qp_shared_tests.proofs.turns.starts.Goals as goal

@@ -1,7 +1,7 @@
 use Rattle.std.proofs.Common.{◌+◌, ◌%◌, arith, sym, subst}
 use Rattle.qp_table.specs.After.{Steps}
-use Rattle.qp_shared_steps.specs.Told.{DropTold}
-use Rattle.qp_shared_steps.proofs.LawLemmas.{drops_tell}
+use Rattle.qp_table.specs.Told.{DropTold}
+use Rattle.qp_table.proofs.StepLawLemmas.{drops_tell}
 use Rattle.qp_shared_words.proofs.blocks.drop_reference.Goals as goal
 
 pub add-requires-clause-own : goal.add-requires-clause-own

@@ -1,4 +1,4 @@
-use Rattle.qp_shared_steps.specs.Told.{DropTold}
+use Rattle.qp_table.specs.Told.{DropTold}
 use Rattle.qp_shared_words.proofs.blocks.drop_reference.Given as goal
 
 abbrev pub ghosts-add : goal.ghosts-add

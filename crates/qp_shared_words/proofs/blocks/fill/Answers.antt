@@ -1,7 +1,7 @@
 use Rattle.std.proofs.Common.{arith, sym, subst}
 use Rattle.qp_table.specs.After.{Steps}
-use Rattle.qp_shared_steps.specs.Told.{FillTold}
-use Rattle.qp_shared_steps.proofs.LawLemmas.{fills_tell}
+use Rattle.qp_table.specs.Told.{FillTold}
+use Rattle.qp_table.proofs.StepLawLemmas.{fills_tell}
 use Rattle.qp_shared_words.proofs.blocks.fill.Goals as goal
 
 pub store-requires-clause-own : goal.store-requires-clause-own

@@ -1,4 +1,4 @@
-use Rattle.qp_shared_steps.specs.Told.{FillTold}
+use Rattle.qp_table.specs.Told.{FillTold}
 use Rattle.qp_shared_words.proofs.blocks.fill.Given as goal
 
 abbrev pub ghosts-store : goal.ghosts-store

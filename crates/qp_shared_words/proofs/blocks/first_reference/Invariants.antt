@@ -1,4 +1,4 @@
-use Rattle.qp_shared_steps.specs.Told.{FirstTold}
+use Rattle.qp_table.specs.Told.{FirstTold}
 use Rattle.qp_shared_words.proofs.blocks.first_reference.Given as goal
 
 abbrev pub ghosts-add : goal.ghosts-add

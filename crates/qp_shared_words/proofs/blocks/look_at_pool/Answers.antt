@@ -1,7 +1,7 @@
 use Rattle.std.proofs.Common.{◌<◌, arith, sym, subst}
 use Rattle.qp_table.specs.After.{Steps}
-use Rattle.qp_shared_steps.specs.Told.{EyePoolTold}
-use Rattle.qp_shared_steps.proofs.LawLemmas.{pool_eyes_tell}
+use Rattle.qp_table.specs.Told.{EyePoolTold}
+use Rattle.qp_table.proofs.StepLawLemmas.{pool_eyes_tell}
 use Rattle.qp_shared_words.proofs.Still.{with-few}
 use Rattle.qp_shared_words.proofs.blocks.look_at_pool.Goals as goal
 

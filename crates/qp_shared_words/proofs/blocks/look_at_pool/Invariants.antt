@@ -1,5 +1,5 @@
 use Rattle.std.specs.Prelude.{◌<◌}
-use Rattle.qp_shared_steps.specs.Told.{EyePoolTold}
+use Rattle.qp_table.specs.Told.{EyePoolTold}
 use Rattle.qp_shared_words.proofs.blocks.look_at_pool.Given as goal
 
 abbrev pub ghosts-look : goal.ghosts-look

@@ -2,7 +2,7 @@ use Rattle.std.proofs.Common.{ℕ, ◌<◌, arith, sym, subst}
 use Rattle.qp_table.specs.Counting.{many}
 use Rattle.qp_table.specs.Rule.{is_spot_at}
 use Rattle.qp_table.specs.After.{Steps}
-use Rattle.qp_shared_steps.specs.Told.{FromTold}
+use Rattle.qp_table.specs.Told.{FromTold}
 use Rattle.qp_shared_words.proofs.Still.{begins}
 use Rattle.qp_shared_words.proofs.blocks.read_beginning.Goals as goal
 

@@ -1,7 +1,7 @@
 use Rattle.std.specs.Prelude.{ℕ, ◌<◌}
 use Rattle.qp_table.specs.Counting.{many}
 use Rattle.qp_table.specs.Rule.{is_spot_at}
-use Rattle.qp_shared_steps.specs.Told.{FromTold}
+use Rattle.qp_table.specs.Told.{FromTold}
 use Rattle.qp_shared_words.proofs.blocks.read_beginning.Given as goal
 
 abbrev pub ghosts-look : goal.ghosts-look

@@ -1,7 +1,7 @@
 use Rattle.std.proofs.Common.{arith, sym, subst}
 use Rattle.qp_table.specs.After.{Steps}
-use Rattle.qp_shared_steps.specs.Told.{ReadTold}
-use Rattle.qp_shared_steps.proofs.LawLemmas.{reads_tell}
+use Rattle.qp_table.specs.Told.{ReadTold}
+use Rattle.qp_table.proofs.StepLawLemmas.{reads_tell}
 use Rattle.qp_shared_words.proofs.blocks.read_event.Goals as goal
 
 pub look-requires-clause-own : goal.look-requires-clause-own

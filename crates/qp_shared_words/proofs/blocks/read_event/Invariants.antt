@@ -1,4 +1,4 @@
-use Rattle.qp_shared_steps.specs.Told.{ReadTold}
+use Rattle.qp_table.specs.Told.{ReadTold}
 use Rattle.qp_shared_words.proofs.blocks.read_event.Given as goal
 
 abbrev pub ghosts-look : goal.ghosts-look

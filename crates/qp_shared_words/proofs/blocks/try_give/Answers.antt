@@ -1,8 +1,8 @@
 use Rattle.std.proofs.Common.{◌+◌, ◌-◌, ◌<◌, arith, sym, subst, ap, ◌∙◌, eqb}
 use prog.Atomic.{either}
 use Rattle.qp_table.specs.After.{Steps}
-use Rattle.qp_shared_steps.specs.Told.{GiveTold}
-use Rattle.qp_shared_steps.proofs.LawLemmas.{gives_tell}
+use Rattle.qp_table.specs.Told.{GiveTold}
+use Rattle.qp_table.proofs.StepLawLemmas.{gives_tell}
 use Rattle.qp_shared_words.proofs.Still.{with-few}
 use Rattle.qp_shared_words.proofs.blocks.try_give.Goals as goal
 

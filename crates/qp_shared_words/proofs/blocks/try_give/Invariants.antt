@@ -1,5 +1,5 @@
 use Rattle.std.specs.Prelude.{◌<◌}
-use Rattle.qp_shared_steps.specs.Told.{GiveTold}
+use Rattle.qp_table.specs.Told.{GiveTold}
 use Rattle.qp_shared_words.proofs.blocks.try_give.Given as goal
 
 abbrev pub ghosts-exchange : goal.ghosts-exchange

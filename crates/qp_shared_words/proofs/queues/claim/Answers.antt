@@ -1,8 +1,8 @@
 use Rattle.std.proofs.Common.{◌+◌, arith, sym, subst, eqb}
 use prog.Atomic.{either}
 use Rattle.qp_table.specs.After.{Steps}
-use Rattle.qp_shared_steps.specs.Told.{TryTold}
-use Rattle.qp_shared_steps.proofs.LawLemmas.{tries_tell}
+use Rattle.qp_table.specs.Told.{TryTold}
+use Rattle.qp_table.proofs.StepLawLemmas.{tries_tell}
 use Rattle.qp_shared_words.proofs.queues.claim.Goals as goal
 
 pub exchange-requires-clause-own : goal.exchange-requires-clause-own

@@ -1,4 +1,4 @@
-use Rattle.qp_shared_steps.specs.Told.{TryTold}
+use Rattle.qp_table.specs.Told.{TryTold}
 use Rattle.qp_shared_words.proofs.queues.claim.Given as goal
 
 abbrev pub ghosts-exchange : goal.ghosts-exchange

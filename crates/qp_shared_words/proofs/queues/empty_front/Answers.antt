@@ -1,8 +1,8 @@
 use Rattle.std.proofs.Common.{ℕ, arith, refl, sym, subst, ap, ◌∙◌}
 use Rattle.qp_table.specs.Rule.{cell_at, is_lifo, is_took, records}
 use Rattle.qp_table.specs.After.{Steps}
-use Rattle.qp_shared_steps.specs.Told.{SwapTold}
-use Rattle.qp_shared_steps.proofs.LawLemmas.{swaps_tell}
+use Rattle.qp_table.specs.Told.{SwapTold}
+use Rattle.qp_table.proofs.StepLawLemmas.{swaps_tell}
 use Rattle.qp_shared_words.proofs.queues.empty_front.Goals as goal
 
 pub swap-requires-clause-own : goal.swap-requires-clause-own

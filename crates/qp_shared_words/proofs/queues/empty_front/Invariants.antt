@@ -1,4 +1,4 @@
-use Rattle.qp_shared_steps.specs.Told.{SwapTold}
+use Rattle.qp_table.specs.Told.{SwapTold}
 use Rattle.qp_shared_words.proofs.queues.empty_front.Given as goal
 
 abbrev pub ghosts-swap : goal.ghosts-swap

@@ -1,7 +1,7 @@
 use Rattle.std.proofs.Common.{ℕ, arith, sym, subst}
 use Rattle.qp_table.specs.After.{Steps}
-use Rattle.qp_shared_steps.specs.Told.{LayTold}
-use Rattle.qp_shared_steps.proofs.LawLemmas.{lays_tell}
+use Rattle.qp_table.specs.Told.{LayTold}
+use Rattle.qp_table.proofs.StepLawLemmas.{lays_tell}
 use Rattle.qp_shared_words.proofs.queues.lay.Goals as goal
 
 pub store-requires-clause-own : goal.store-requires-clause-own

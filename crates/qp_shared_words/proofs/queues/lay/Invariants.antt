@@ -1,4 +1,4 @@
-use Rattle.qp_shared_steps.specs.Told.{LayTold}
+use Rattle.qp_table.specs.Told.{LayTold}
 use Rattle.qp_shared_words.proofs.queues.lay.Given as goal
 
 abbrev pub ghosts-store : goal.ghosts-store

@@ -1,7 +1,7 @@
 use Rattle.std.proofs.Common.{arith, sym, subst}
 use Rattle.qp_table.specs.After.{Steps}
-use Rattle.qp_shared_steps.specs.Told.{LookTold}
-use Rattle.qp_shared_steps.proofs.LawLemmas.{looks_tell}
+use Rattle.qp_table.specs.Told.{LookTold}
+use Rattle.qp_table.proofs.StepLawLemmas.{looks_tell}
 use Rattle.qp_shared_words.proofs.queues.look_at_queue.Goals as goal
 
 pub look-requires-clause-own : goal.look-requires-clause-own

@@ -1,4 +1,4 @@
-use Rattle.qp_shared_steps.specs.Told.{LookTold}
+use Rattle.qp_table.specs.Told.{LookTold}
 use Rattle.qp_shared_words.proofs.queues.look_at_queue.Given as goal
 
 abbrev pub ghosts-look : goal.ghosts-look

@@ -1,7 +1,7 @@
 use Rattle.std.proofs.Common.{arith, sym, subst}
 use Rattle.qp_table.specs.After.{Steps}
-use Rattle.qp_shared_steps.specs.Told.{EyeTold}
-use Rattle.qp_shared_steps.proofs.LawLemmas.{eyes_tell}
+use Rattle.qp_table.specs.Told.{EyeTold}
+use Rattle.qp_table.proofs.StepLawLemmas.{eyes_tell}
 use Rattle.qp_shared_words.proofs.queues.look_before_post.Goals as goal
 
 pub look-requires-clause-own : goal.look-requires-clause-own

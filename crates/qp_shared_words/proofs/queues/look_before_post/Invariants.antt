@@ -1,4 +1,4 @@
-use Rattle.qp_shared_steps.specs.Told.{EyeTold}
+use Rattle.qp_table.specs.Told.{EyeTold}
 use Rattle.qp_shared_words.proofs.queues.look_before_post.Given as goal
 
 abbrev pub ghosts-look : goal.ghosts-look

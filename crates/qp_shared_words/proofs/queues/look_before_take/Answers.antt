@@ -1,7 +1,7 @@
 use Rattle.std.proofs.Common.{arith, sym, subst}
 use Rattle.qp_table.specs.After.{Steps}
-use Rattle.qp_shared_steps.specs.Told.{NilTold}
-use Rattle.qp_shared_steps.proofs.LawLemmas.{empty_queues_tell}
+use Rattle.qp_table.specs.Told.{NilTold}
+use Rattle.qp_table.proofs.StepLawLemmas.{empty_queues_tell}
 use Rattle.qp_shared_words.specs.Nils.{is_new}
 use Rattle.qp_shared_words.proofs.queues.look_before_take.Goals as goal
 

@@ -1,4 +1,4 @@
-use Rattle.qp_shared_steps.specs.Told.{NilTold}
+use Rattle.qp_table.specs.Told.{NilTold}
 use Rattle.qp_shared_words.specs.Nils.{is_new}
 use Rattle.qp_shared_words.proofs.queues.look_before_take.Given as goal
 

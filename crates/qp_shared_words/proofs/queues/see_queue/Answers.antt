@@ -1,7 +1,7 @@
 use Rattle.std.proofs.Common.{arith, sym, subst}
 use Rattle.qp_table.specs.After.{Steps}
-use Rattle.qp_shared_steps.specs.Told.{SeenTold}
-use Rattle.qp_shared_steps.proofs.LawLemmas.{seen_counts_tell}
+use Rattle.qp_table.specs.Told.{SeenTold}
+use Rattle.qp_table.proofs.StepLawLemmas.{seen_counts_tell}
 use Rattle.qp_shared_words.proofs.queues.see_queue.Goals as goal
 
 pub look-requires-clause-own : goal.look-requires-clause-own

@@ -1,4 +1,4 @@
-use Rattle.qp_shared_steps.specs.Told.{SeenTold}
+use Rattle.qp_table.specs.Told.{SeenTold}
 use Rattle.qp_shared_words.proofs.queues.see_queue.Given as goal
 
 abbrev pub ghosts-look : goal.ghosts-look

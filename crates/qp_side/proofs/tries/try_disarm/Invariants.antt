@@ -1,6 +1,6 @@
 use Rattle.std.proofs.Common.{◌≡◌, ◌+◌, ◌-◌, ◌/◌, ◌<◌, ◌≤◌}
-use Rattle.qp_side_words.specs.Rule.{timer_at}
-use Rattle.qp_side_words.specs.Told.{counter_in, last_seen}
+use Rattle.qp_side.specs.Rule.{timer_at}
+use Rattle.qp_side.specs.Told.{counter_in, last_seen}
 use Rattle.qp_side.proofs.Following.{SideSeen}
 use Rattle.qp_side.proofs.tries.try_disarm.Given as goal
 

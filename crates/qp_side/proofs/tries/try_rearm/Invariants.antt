@@ -1,6 +1,6 @@
 use Rattle.std.proofs.Common.{◌≡◌, ◌+◌, ◌-◌, ◌/◌, ◌≤◌}
-use Rattle.qp_side_words.specs.Rule.{timer_at}
-use Rattle.qp_side_words.specs.Told.{last_seen}
+use Rattle.qp_side.specs.Rule.{timer_at}
+use Rattle.qp_side.specs.Told.{last_seen}
 use Rattle.qp_side.proofs.Following.{SideSeen}
 use Rattle.qp_side.proofs.tries.try_rearm.Given as goal
 

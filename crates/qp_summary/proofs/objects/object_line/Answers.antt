@@ -6,7 +6,7 @@ use Rattle.qp_model.specs.History.{lane_items}
 use Rattle.qp_model.specs.Home.{by_object}
 use Rattle.qp_model.specs.Knowing.{records_of}
 use Rattle.qp_model.specs.Lawful.{dispatched, facts_of}
-use Rattle.qp_model.specs.OutputSummary.{IsStateText, taken_in}
+use Rattle.qp_model.specs.OutputSummary.{IsStateText, count_events_taken}
 use Rattle.qp_model.specs.Told.{Told}
 use Rattle.qp_check_knowledge.specs.Knowledge.{facts_in}
 use Rattle.qp_summary.specs.Coming.{HasCome}
@@ -31,14 +31,14 @@ returns-in_ok-text-in-Some c =
     let follow = course-follows sys j d (dispatched all) (ap dispatched same) c.requires.course in
     let stands = c.standing.ensures sys d (dispatched all) c.requires.followable follow on.leaves in
     let state = subst (λ (ts : List Told). IsStateText sys d (chart_at sys d.chart) ts (string_bytes c.in_ok-text-in-Some.text)) same (c.in_ok-text-in-Some.ensures all stands) in
-    let taken : c.in-Some.came.taken ≡ taken_in (by_object (facts_of sys j) j o) = (let plus : c.in-Some.came.taken ≡ c.in-Some.came.taken + 0 = omega arith in plus) ∙ on.taken ∙ ap taken_in same in
+    let taken : c.in-Some.came.taken ≡ count_events_taken (by_object (facts_of sys j) j o) = (let plus : c.in-Some.came.taken ≡ c.in-Some.came.taken + 0 = omega arith in plus) ∙ on.taken ∙ ap count_events_taken same in
     let name : c.as_str.result.now ≡ d.name = search rules in
     let text : c.deref.result.now ≡ string_bytes c.in_ok-text-in-Some.text = search rules in
     IfOk-weaker c.line_of.result _ _
     (λ line told. object-line sys j d (string_bytes c.in_ok-text-in-Some.text) (string_bytes line) state
     (told ∙ ap (λ n. codes "object " ++ n ++ 32 ∷ decimal c.in-Some.came.taken ++ 32 ∷ c.deref.result.now ++ codes "\n") name
     ∙ ap (λ n. codes "object " ++ d.name ++ 32 ∷ decimal n ++ 32 ∷ c.deref.result.now ++ codes "\n") taken
-    ∙ ap (λ t. codes "object " ++ d.name ++ 32 ∷ decimal (taken_in (by_object (facts_of sys j) j o)) ++ 32 ∷ t ++ codes "\n") text))
+    ∙ ap (λ t. codes "object " ++ d.name ++ 32 ∷ decimal (count_events_taken (by_object (facts_of sys j) j o)) ++ 32 ∷ t ++ codes "\n") text))
     c.line_of.ensures
 
 pub returns-in-None : goal.returns-in-None

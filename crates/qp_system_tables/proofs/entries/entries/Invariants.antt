@@ -6,5 +6,5 @@ use Rattle.qp_system_tables.proofs.entries.entries.Given as goal
 
 abbrev pub invariant-loop-i : goal.invariant-loop-i
 invariant-loop-i g l =
-    with_front l.items.items (each g.T.Entry.reading (l.place.at.now ++ Key l.place.key ∷ []) (l.i + 1) (map members (drop l.i l.tables)))
-    ≡ each g.T.Entry.reading (l.place.at.now ++ Key l.place.key ∷ []) 1 (map members l.tables)
+    with_front l.items.items (each g.T.TableEntry.reading (l.place.at.now ++ Key l.place.key ∷ []) (l.i + 1) (map members (drop l.i l.tables)))
+    ≡ each g.T.TableEntry.reading (l.place.at.now ++ Key l.place.key ∷ []) 1 (map members l.tables)

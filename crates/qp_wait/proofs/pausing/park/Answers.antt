@@ -1,6 +1,6 @@
 use Rattle.std.proofs.Common.{subst}
 use Rattle.qp_model.specs.History.{lane_items}
-use Rattle.qp_wait_lane.specs.Lane.{bell_view}
+use Rattle.qp_wait.specs.Lane.{bell_view}
 use Rattle.qp_wait.specs.Looking.{IsLastLook}
 use Rattle.qp_wait.proofs.LastLook.{told-look, told-none}
 use Rattle.qp_wait.proofs.Parts.{parks-by}

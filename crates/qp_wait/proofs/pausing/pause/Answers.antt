@@ -1,6 +1,6 @@
 use Rattle.std.proofs.Common.{ap, false, refl, subst, sym, true, ◌∙◌}
-use Rattle.qp_wait_lane.specs.Handed.{ringing_view}
-use Rattle.qp_wait_lane.specs.Lane.{LooksAtCount}
+use Rattle.qp_wait.specs.Wrapped.{ringing_view}
+use Rattle.qp_wait.specs.Lane.{LooksAtCount}
 use Rattle.qp_wait.specs.Pausing.{HasLook}
 use Rattle.qp_wait.proofs.Parts.{looked, not-parked-then, parked-then, rests-same}
 use Rattle.qp_wait.proofs.pausing.pause.Goals as goal

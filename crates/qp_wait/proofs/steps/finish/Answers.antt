@@ -1,7 +1,7 @@
 use Rattle.std.proofs.Common.{false, subst, sym}
 use Rattle.qp_kernel_turns.specs.Lanes.{LaneGoes}
-use Rattle.qp_wait_lane.specs.Handed.{ringing_view}
-use Rattle.qp_wait_lane.specs.Lane.{bell_view}
+use Rattle.qp_wait.specs.Wrapped.{ringing_view}
+use Rattle.qp_wait.specs.Lane.{bell_view}
 use Rattle.qp_wait.proofs.Parts.{finishes-one}
 use Rattle.qp_wait.proofs.steps.finish.Goals as goal
 

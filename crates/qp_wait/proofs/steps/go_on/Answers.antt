@@ -1,5 +1,5 @@
-use Rattle.qp_wait_lane.specs.Handed.{ringing_view}
-use Rattle.qp_wait_lane.proofs.Parking.{parked-still}
+use Rattle.qp_wait.specs.Wrapped.{ringing_view}
+use Rattle.qp_wait.proofs.Parking.{parked-still}
 use Rattle.qp_wait.proofs.Growing.{lane-grown}
 use Rattle.qp_wait.proofs.steps.go_on.Goals as goal
 

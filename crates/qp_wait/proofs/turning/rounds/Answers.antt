@@ -2,11 +2,11 @@ use Rattle.std.proofs.Common.{◌∙◌, Err, Ok, ap, false, refl, subst, sym, t
 use Rattle.std.proofs.lemmas.Result.{err_from_is_err_and}
 use Rattle.qp_kernel_turns.specs.Lanes.{LaneGoes}
 use Rattle.qp_kernel_turns.proofs.Lanes.{goes-none, goes-then, halts-then}
-use Rattle.qp_port_home.specs.At.{IsHome}
-use Rattle.qp_port_home.specs.Takes.{BeginTakes}
-use Rattle.qp_port_home.specs.Turning.{HomeHalts, NextTo}
-use Rattle.qp_wait_lane.specs.Lane.{bell_view}
-use Rattle.qp_wait_lane.specs.LaneLaws.{keeps-limit}
+use Rattle.qp_port_lanes.specs.At.{IsHome}
+use Rattle.qp_port_lanes.specs.Takes.{BeginTakes}
+use Rattle.qp_port_lanes.specs.Turning.{HomeHalts, NextTo}
+use Rattle.qp_wait.specs.Lane.{bell_view}
+use Rattle.qp_wait.specs.LaneLaws.{keeps-limit}
 use Rattle.qp_wait.specs.Pausing.{HasLook, HasParkedAt, Pauses}
 use Rattle.qp_wait.specs.Waiting.{RoundWaits, Waits}
 use Rattle.qp_wait.proofs.FoundEmpty.{idles-few, idles-look}

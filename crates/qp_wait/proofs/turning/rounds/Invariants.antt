@@ -1,7 +1,7 @@
 use Rattle.std.proofs.Common.{◌≡◌, false}
 use Rattle.qp_kernel_turns.specs.Lanes.{LaneGoes}
-use Rattle.qp_port_home.specs.At.{IsHome}
-use Rattle.qp_wait_lane.specs.Lane.{bell_view}
+use Rattle.qp_port_lanes.specs.At.{IsHome}
+use Rattle.qp_wait.specs.Lane.{bell_view}
 use Rattle.qp_wait.specs.Waiting.{IsWaiting}
 use Rattle.qp_wait.proofs.turning.rounds.Given as goal
 

@@ -1,9 +1,9 @@
 use Rattle.std.proofs.Common.{false, subst, sym}
 use Rattle.qp_kernel_turns.specs.Lanes.{LaneHalts}
-use Rattle.qp_port_home.specs.Turning.{HomeHalts}
+use Rattle.qp_port_lanes.specs.Turning.{HomeHalts}
 use Rattle.qp_kernel_turns.specs.declared.halting.Halt.TheVariants as halt
-use Rattle.qp_wait_lane.specs.Handed.{ringing_view}
-use Rattle.qp_wait_lane.specs.Lane.{bell_view}
+use Rattle.qp_wait.specs.Wrapped.{ringing_view}
+use Rattle.qp_wait.specs.Lane.{bell_view}
 use Rattle.qp_wait.proofs.Waiting.{waits-said}
 use Rattle.qp_wait.proofs.turning.wait_turn.Goals as goal
 

@@ -1,7 +1,7 @@
 use denote.Param.Send.{sendable}
 use Rattle.std.proofs.Common.{◌≡◌, ◌∙◌, false, map, sym, subst}
 use Rattle.std.specs.List.{AllByRecursion}
-use Rattle.qp_port_cursor.specs.Answers.{IsFed}
+use Rattle.qp_port_lanes.specs.Answers.{IsFed}
 use Rattle.qp_port_phases.specs.Stopping.{AnyStopped}
 use Rattle.qp_port_runs.specs.Handed.{HasRun}
 use Rattle.qp_port_runs.specs.Handed.{AreNewLanes, AreSameLanes}

@@ -2,7 +2,7 @@ use Rattle.std.proofs.Common.{◌≡◌, List, [], ◌∷◌, ◌++◌, sym, ap,
 use Rattle.qp_table.specs.First.{first_serves}
 use Rattle.qp_core.specs.Runs.{first_seat}
 use Rattle.qp_core.specs.Standing.{TableHolds}
-use Rattle.qp_core_seats.specs.declared.seats.Seat.{Seat}
+use Rattle.qp_core_steps.specs.declared.seats.Seat.{Seat}
 use Rattle.qp_core.proofs.FirstLemmas.{first-is, first-holds}
 use Rattle.qp_core.proofs.state.CoreState.new.Goals as goal
 

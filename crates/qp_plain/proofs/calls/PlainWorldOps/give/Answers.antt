@@ -14,7 +14,7 @@ use Rattle.qp_plain.proofs.Calling.{view_with, stop-stays, pool-at, block-at, le
 use Rattle.qp_plain.proofs.Few.{pool-few}
 use Rattle.qp_plain.proofs.Holding.{pool-in}
 use Rattle.qp_plain.proofs.Turns.{tries-drawn, tries-shown}
-use Rattle.qp_calls.specs.Clauses.{Gives, event_of}
+use Rattle.qp_calls.specs.Clauses.{GivesBlock, event_of}
 use Rattle.qp_calls.specs.declared.answers.Give.TheVariants as give
 use Rattle.qp_plain.proofs.EventCalls.{free-block, pool-fits}
 use Rattle.qp_plain.proofs.BlockCalls as block
@@ -79,7 +79,7 @@ enough u free x a b lt = omega (arith, a, b, lt)
 
 pub returns-clause-gives : goal.returns-clause-gives
 returns-clause-gives g c =
-    subst (λ x. Gives c.args.pool c.args.reserve (event_of c.args.ev.now) (world_view c.args.self.now) (view_with c.args.self.now c.add-2.new.self) (give.Given x)) (sym c.of.ensures)
+    subst (λ x. GivesBlock c.args.pool c.args.reserve (event_of c.args.ev.now) (world_view c.args.self.now) (view_with c.args.self.now c.add-2.new.self) (give.Given x)) (sym c.of.ensures)
     (block.give-it c.args.self.now c.add-2.new.self c.new.result c.add-2.ensures.gains c.args.pool c.ops-n.result c.index_mut-word.result.now (pool-fits c.args.self.now c.args.pool (event_of c.args.ev.now) c.requires.fits).0 (pool-at c.args.self.now c.args.pool c.from.result c.index_mut-word.result.now (pool-fits c.args.self.now c.args.pool (event_of c.args.ev.now) c.requires.fits).0 c.from.ensures c.index_mut-word.ensures.value) c.ops-n.ensures c.add-2.ensures.spare c.take-b.result c.from-from.result (event_of c.args.ev.now) c.args.reserve (free-block c.args.self.now c.args.pool c.take-b.result c.index_mut-word.result.now (pool-fits c.args.self.now c.args.pool (event_of c.args.ev.now) c.requires.fits).0 (pool-at c.args.self.now c.args.pool c.from.result c.index_mut-word.result.now (pool-fits c.args.self.now c.args.pool (event_of c.args.ev.now) c.requires.fits).0 c.from.ensures c.index_mut-word.ensures.value) c.take-b.ensures.first) c.take-b.ensures.first (c.from-from.ensures ∙ (block-at c.args.self.now c.args.pool c.take-b.result c.place-at.result c.index.result.now (free-block c.args.self.now c.args.pool c.take-b.result c.index_mut-word.result.now (pool-fits c.args.self.now c.args.pool (event_of c.args.ev.now) c.requires.fits).0 (pool-at c.args.self.now c.args.pool c.from.result c.index_mut-word.result.now (pool-fits c.args.self.now c.args.pool (event_of c.args.ev.now) c.requires.fits).0 c.from.ensures c.index_mut-word.ensures.value) c.take-b.ensures.first) c.place-at.ensures.value c.index.ensures).ops) (pool-fits c.args.self.now c.args.pool (event_of c.args.ev.now) c.requires.fits).1
     (enough _ _ _ c.unwrap_or.ensures c.left-free.ensures c.if-free-unwrap_or.false) c.new.ensures)
 

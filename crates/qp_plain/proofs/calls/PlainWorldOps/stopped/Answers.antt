@@ -6,7 +6,7 @@ use Rattle.qp_plain.specs.Book.{lists_of, purses_of}
 use Rattle.qp_plain.specs.World.{WorldHolds}
 use Rattle.qp_plain.specs.WorldView.{world_view}
 use Rattle.qp_plain.proofs.Calling.{view_with, purses-same}
-use Rattle.qp_plain.specs.Book.{Answers, logs_of}
+use Rattle.qp_plain.specs.Book.{BookAnswers, logs_of}
 use Rattle.qp_plain.specs.World.{StopIs}
 use Rattle.qp_plain.proofs.Stopping.{stop-answered, nothing-handed, purses-codeless, all-answered}
 use Rattle.qp_calls.specs.Clauses.{Stopped}
@@ -34,7 +34,7 @@ nothing : (w : PlainWorld) → w.stop ≡ 0 → Stopped (world_view w) (world_vi
 unfolding view_of
 nothing w none = let empty = nothing-handed w.book w.book.within (subst (λ x. StopIs x (logs_of w.book)) none w.stops) in (refl, empty.0, empty.1, purses-codeless w.book (subst (λ x. StopIs x (logs_of w.book)) none w.stops))
 
-found : (w : PlainWorld) (b : Book) → Answers w.stop w.book b → w.stop ≢ 0 → Stopped (world_view w) (view_with w b) (Some w.stop)
+found : (w : PlainWorld) (b : Book) → BookAnswers w.stop w.book b → w.stop ≢ 0 → Stopped (world_view w) (view_with w b) (Some w.stop)
 unfolding view_of
 found w b h some = (
   same-view w b w.book.here.stops.list (w.stop ∷ w.book.here.answered.list) h.lists h.order h.at h.spare h.stops h.answered h.others,

@@ -2,13 +2,13 @@ use Rattle.std.proofs.Common.{◌≡◌, map, refl, sym, ◌∙◌, ap, subst}
 use Rattle.qp_plain_sound.specs.Log.{log_of}
 use Rattle.qp_plain.specs.declared.book.Book.{Book}
 use Rattle.qp_plain.specs.declared.world.PlainWorld.{PlainWorld}
-use Rattle.qp_plain.specs.Books.{recs_of}
+use Rattle.qp_plain.specs.Books.{log_recs}
 use Rattle.qp_plain.specs.Book.{lists_of, logs_of}
 use Rattle.qp_plain.specs.World.{StopIs, WorldHolds}
 use Rattle.qp_plain.proofs.world.PlainWorld.go.Goals as goal
 
 same-lists : (a b : Book) → logs_of b ≡ logs_of a → lists_of b ≡ lists_of a
-same-lists a b e = ap (map recs_of) e
+same-lists a b e = ap (map log_recs) e
 
 moved : (w : PlainWorld) (b : Book) → logs_of b ≡ logs_of w.book → b.order.items ≡ w.book.order.items
     → WorldHolds w.sys.now (lists_of b) b.order.items w.pools.items w.blocks.items w.cells.items w.queues.items w.signals.items w.timers.items

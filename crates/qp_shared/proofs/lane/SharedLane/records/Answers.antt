@@ -1,6 +1,6 @@
 use Rattle.std.proofs.Common.{sym, ap, ◌∙◌}
 use Rattle.qp_model.specs.History.{lane_items}
-use Rattle.qp_shared_views.specs.Lane.{lane_of, event_seen}
+use Rattle.qp_table.specs.Lane.{lane_of, event_seen}
 use Rattle.qp_shared_ends.proofs.Telling.{bare-tell}
 use Rattle.qp_shared_ends.proofs.Sealing.{untold-bare}
 use Rattle.qp_shared_lane.specs.Holds.{told_by}

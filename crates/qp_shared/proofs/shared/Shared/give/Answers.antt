@@ -1,9 +1,9 @@
 use Rattle.std.proofs.Common.{◌∙◌, ap, sym, subst}
 use Rattle.qp_table.specs.Counting.{Each}
-use Rattle.qp_table.specs.First.{IsFresh}
+use Rattle.qp_table.specs.First.{IsFreshServe}
 use Rattle.qp_table.specs.declared.view.View.{View}
-use Rattle.qp_side_words.specs.declared.SideView.{SideView}
-use Rattle.qp_shared_side.specs.Seats.{in_set}
+use Rattle.qp_side.specs.declared.view.SideView.{SideView}
+use Rattle.qp_side.specs.Seats.{in_set}
 use Rattle.qp_shared.proofs.Serving.{failing-fresh}
 use Rattle.qp_shared.proofs.Roots.{given-views, root-left, side-left}
 use Rattle.qp_shared.proofs.shared.Shared.give.Goals as goal
@@ -20,5 +20,5 @@ returns-clause-root c = record {
   table = root-left c.args.number (in_set c.args.objects) c.args.root.now.seat.me.0 c.give_lane-seat.new.root.me.0 c.requires.few c.requires.root.table c.give_lane-seat.ensures.root;
   side_table = side-left c.args.number (in_set c.args.objects) c.args.root.now.side.me.0 c.give_seat-beside.new.root.me.0 c.args.root.now.seat.me.0.serves c.give_lane-seat.new.root.me.0.serves c.requires.some c.requires.few c.requires.root.side_table
       c.give_seat-beside.ensures.root (sym (ap (λ (z : View). z.serves) c.give_lane-seat.ensures.root));
-  fresh = subst (Each IsFresh) (sym (ap (λ (z : View). z.serves) c.give_lane-seat.ensures.root)) (failing-fresh (in_set c.args.objects) c.args.root.now.seat.me.0.serves c.requires.root.fresh);
+  fresh = subst (Each IsFreshServe) (sym (ap (λ (z : View). z.serves) c.give_lane-seat.ensures.root)) (failing-fresh (in_set c.args.objects) c.args.root.now.seat.me.0.serves c.requires.root.fresh);
 }

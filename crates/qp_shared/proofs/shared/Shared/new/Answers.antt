@@ -1,7 +1,7 @@
 use Rattle.std.proofs.Common.{◌≡◌, ap, sym, subst}
 use Rattle.std.specs.List.{list_any}
 use Rattle.qp_table.specs.Counting.{Each}
-use Rattle.qp_table.specs.First.{IsFresh, first_serves}
+use Rattle.qp_table.specs.First.{IsFreshServe, first_serves}
 use Rattle.qp_table.specs.Rule.{is_serve}
 use Rattle.qp_table.specs.declared.view.View.{View}
 use Rattle.qp_table.proofs.Start.{serves-fresh}
@@ -19,7 +19,7 @@ returns-clause-root c = let sys = c.args.sys.now in let served = ap (λ (z : Vie
     bare = c.in_ok-side.ensures.seat.2;
     table = new-root (first_serves sys 32) c.in_ok-words.seat.me.0 c.in_ok-words.ensures.view;
     side_table = new-side (first_serves sys 32) c.in_ok-words.seat.me.0 c.in_ok-side.root.me.0 c.in_ok-words.ensures.view c.in_ok-side.ensures.view;
-    fresh = subst (Each IsFresh) (sym served) (serves-fresh sys 32);
+    fresh = subst (Each IsFreshServe) (sym served) (serves-fresh sys 32);
   };
   serves = λ o. subst (λ xs. list_any (is_serve o) xs ≡ is_object sys o) (sym served) (all-served sys c.requires.sound o);
 }

@@ -6,14 +6,14 @@ use Rattle.qp_model.specs.declared.systems.System.{System}
 use Rattle.qp_model.specs.declared.journals.Journal.{Journal}
 use Rattle.qp_model.specs.End.{end_of}
 use Rattle.qp_model.specs.History.{all_items}
-use Rattle.qp_port_quiet.specs.Sealed.{SealsLanes}
+use Rattle.qp_port_law.specs.Sealed.{SealsLanes}
 use Rattle.qp_table.specs.Counting.{Each}
 use Rattle.qp_table.specs.declared.view.View.{View}
-use Rattle.qp_side_words.specs.Laws.{IsSideWhole}
-use Rattle.qp_side_words.specs.declared.SideView.{SideView}
+use Rattle.qp_side.specs.Laws.{IsSideWhole}
+use Rattle.qp_side.specs.declared.view.SideView.{SideView}
 use Rattle.qp_shared_lane.specs.declared.lane.LaneState.{LaneState}
 use Rattle.qp_shared_lane.specs.Lane.{state_view}
-use Rattle.qp_shared_seats.specs.End.{AtEnd}
+use Rattle.qp_shared_ends.specs.SeatEnd.{AtEnd}
 use Rattle.qp_shared_ends.specs.Joining.{all_both, all_joined, recs_in, side_of, table_of}
 use Rattle.qp_shared_ends.proofs.Sealing.{lanes_are_sealed}
 use Rattle.qp_shared.specs.declared.lane.SharedLane.{SharedLane}

@@ -1,8 +1,8 @@
 use Rattle.std.proofs.Common.{refl, ap, sym, subst, length}
 use Rattle.qp_model.specs.Sound.{IsSound}
-use Rattle.qp_side_words.specs.declared.SideView.{SideView}
+use Rattle.qp_side.specs.declared.view.SideView.{SideView}
 use Rattle.qp_table.specs.declared.view.View.{View}
-use Rattle.qp_shared_views.specs.Lane.{lane_of}
+use Rattle.qp_table.specs.Lane.{lane_of}
 use Rattle.qp_shared_lane.specs.Used.{HasEnds}
 use Rattle.qp_shared_lane.proofs.Used.{ends-none}
 use Rattle.qp_shared.specs.Starting.{world_name}

@@ -1,7 +1,7 @@
 use Rattle.std.proofs.Common.{◌==◌, ℕ, ◌+◌, ◌/◌, ◌%◌, ◌≤◌, cond, [], ◌∷◌, ap, subst, ◌∙◌}
 use Rattle.qp_table.specs.After.{rec_of}
-use Rattle.qp_side_words.specs.Rule.{timer_at}
-use Rattle.qp_side_words.specs.Told.{last_seen}
+use Rattle.qp_side.specs.Rule.{timer_at}
+use Rattle.qp_side.specs.Told.{last_seen}
 use Rattle.qp_side.specs.Tries.{DisarmEnds}
 use Rattle.qp_model.specs.declared.words.Word.TheVariants as word
 use Rattle.qp_side.proofs.Calling.{owned-timer, disarms, disarms-not, disarm-tries, idle-tries, more-recs, stays-as, disarms-adds}

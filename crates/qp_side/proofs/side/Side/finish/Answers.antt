@@ -2,7 +2,7 @@ use Rattle.std.proofs.Common.{◌≡◌, [], Some, map, sym, ap, subst, ◌∙�
 use Rattle.std.proofs.lemmas.List.Elements.{All-pop}
 use Rattle.qp_side.specs.Ending.{joined_last}
 use Rattle.qp_side.specs.declared.seat.SideSeat.{SideSeat}
-use Rattle.qp_side_words.specs.Laws.{IsSideWhole}
+use Rattle.qp_side.specs.Laws.{IsSideWhole}
 use Rattle.qp_side.proofs.EndLemmas.{ends}
 use Rattle.qp_side.proofs.Finishing.{view_of, joined-next, rights-next, one-each, empty-list}
 use Rattle.qp_side.proofs.side.Side.finish.Goals as goal

@@ -1,5 +1,5 @@
 use Rattle.std.proofs.Common.{sym, ap, subst, ◌∙◌}
-use Rattle.qp_side_words.specs.Rule.{SideFitting}
+use Rattle.qp_side.specs.Rule.{SideFitting}
 use Rattle.qp_side.specs.Seat.{serves_object}
 use Rattle.qp_side.proofs.Serving.{fitting-of, all-served}
 use Rattle.qp_side.proofs.side.Side.new.Goals as goal

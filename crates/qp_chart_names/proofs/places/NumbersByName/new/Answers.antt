@@ -1,0 +1,7 @@
+use Rattle.std.proofs.Common.{refl}
+use Rattle.qp_chart_names.specs.Numbering.{number_at}
+use Rattle.qp_chart_names.proofs.places.NumbersByName.new.Goals as goal
+
+pub returns : goal.returns
+unfolding number_at
+returns c = λ name. rw c.new.ensures.empty refl

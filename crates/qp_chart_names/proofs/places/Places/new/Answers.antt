@@ -1,7 +1,0 @@
-use Rattle.std.proofs.Common.{refl}
-use Rattle.qp_chart_names.specs.Numbering.{number_at}
-use Rattle.qp_chart_names.proofs.places.Places.new.Goals as goal
-
-pub returns : goal.returns
-unfolding number_at
-returns c = λ name. rw c.new.ensures.empty refl

@@ -1,3 +1,0 @@
-pub mod JournalEnd
-pub mod Resting
-pub mod Takes

@@ -1,6 +1,0 @@
-use Rattle.std.proofs.Common.{◌≡◌, take}
-use Rattle.qp_check_lanes.specs.Groups.{joined}
-use Rattle.qp_check_histories.proofs.histories.all_of.Given as goal
-
-abbrev pub invariant-loop-g : goal.invariant-loop-g
-invariant-loop-g l = l.all ≡ joined (take l.g-index l.groups)

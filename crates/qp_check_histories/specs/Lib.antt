@@ -1,5 +1,0 @@
-pub mod MarkOrder
-pub mod Marks
-pub mod Numbers
-pub mod RecordsByWord
-pub mod SystemWords

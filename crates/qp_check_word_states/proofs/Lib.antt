@@ -1,5 +1,0 @@
-pub mod BitLemmas
-pub mod BlockLifeLemmas
-pub mod FreeSetLemmas
-pub mod WordStateLemmas
-pub mod StandingLemmas

@@ -1,6 +1,0 @@
-use Rattle.std.proofs.Common.{◌≡◌, take}
-use Rattle.qp_model.specs.Lives.{edges}
-use Rattle.qp_check_word_states.proofs.lives.edges.Given as goal
-
-abbrev pub invariant-loop-r : goal.invariant-loop-r
-invariant-loop-r l = l.edges.items ≡ edges l.b (take l.r-index l.own)

@@ -1,3 +1,0 @@
-pub mod BlockLives
-pub mod WordState
-pub mod Standing

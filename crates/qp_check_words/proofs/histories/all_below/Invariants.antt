@@ -1,0 +1,8 @@
+use Rattle.std.proofs.Common.{◌≡◌, drop}
+use Rattle.std.specs.List.{list_all}
+use Rattle.qp_model.specs.History.{touch}
+use Rattle.qp_check_words.specs.Marks.{draws_below}
+use Rattle.qp_check_words.proofs.histories.all_below.Given as goal
+
+abbrev pub invariant-loop-r : goal.invariant-loop-r
+invariant-loop-r l = list_all (λ i. draws_below l.count (touch i)) l.touched ≡ list_all (λ i. draws_below l.count (touch i)) (drop l.r-index l.touched)

@@ -1,4 +1,0 @@
-use Rattle.qp_core_seats.proofs.asked.+lowest.Given as goal
-
-abbrev pub decreases-lowest : goal.decreases-lowest
-decreases-lowest l = l.left

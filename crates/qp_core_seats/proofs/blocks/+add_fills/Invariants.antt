@@ -1,5 +1,0 @@
-use Rattle.std.proofs.Common.{length}
-use Rattle.qp_core_seats.proofs.blocks.+add_fills.Given as goal
-
-abbrev pub decreases-add_fills : goal.decreases-add_fills
-decreases-add_fills l = length l.values.now

@@ -1,2 +1,0 @@
-mod LaneLemmas
-mod ActorLemmas

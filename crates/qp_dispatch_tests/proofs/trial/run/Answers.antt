@@ -1,5 +1,0 @@
-use Rattle.qp_dispatch_tests.proofs.LaneLemmas.{new-base}
-use Rattle.qp_dispatch_tests.proofs.trial.run.Goals as goal
-
-pub play-requires-clause-base : goal.play-requires-clause-base
-play-requires-clause-base g c = new-base c.args.sys.now 1 c.in-Ok.world c.requires c.in-Ok.ensures

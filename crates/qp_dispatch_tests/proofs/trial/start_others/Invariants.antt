@@ -1,6 +1,0 @@
-use Rattle.qp_dispatch_tests.specs.Trial.{IsBase}
-use Rattle.qp_dispatch_tests.proofs.trial.start_others.Given as goal
-
--- a trial may go on with this ceiling
-abbrev pub invariant-loop-p : goal.invariant-loop-p
-invariant-loop-p g l = record { base : IsBase l.fn.sys l.ceiling (g.O.Ops.lane l.ops) }

@@ -1,3 +1,0 @@
--- The definitions of the made system.
-pub mod Files
-pub mod Made

@@ -1,0 +1,10 @@
+use Rattle.qp_plain.specs.WorldView.{world_view}
+use Rattle.qp_kernel_runs.proofs.Seated as seated
+use Rattle.qp_kernel_runs.proofs.Kept as kept
+use Rattle.qp_kernel_runs.proofs.calls.SimWorldOps.lifo.Goals as goal
+
+pub invariant_of-self : goal.invariant_of-self
+invariant_of-self g c = record { holds = kept.claims-front c.args.self.now c.lifo.new.self c.args.e c.lifo.result c.lifo.ensures.claims }
+
+pub returns-clause-claims : goal.returns-clause-claims
+returns-clause-claims g c = seated.claims-front c.args.self.now.stim.now c.args.self.now.done.list (world_view c.args.self.now.plain) (world_view c.lifo.new.self) c.args.e c.lifo.result c.lifo.ensures.claims

@@ -1,2 +1,0 @@
-pub mod NewWorlds
-mod LaneLemmas

@@ -1,9 +1,0 @@
-use Rattle.qp_kernel_turns_tests.proofs.LaneLemmas.{base-happens}
-use Rattle.qp_kernel_turns_tests.proofs.trial.play.Goals as goal
-
-pub loop-s-preserved : goal.loop-s-preserved
-loop-s-preserved g c = record {
-  base =
-      base-happens c.args.sys.now c.s-item.result c.saturating_add-place.result 0 (g.O.Ops.lane c.loop-s.ops) (g.O.Ops.lane c.stimulus.new.ops)
-      c.in-Done.ensures.stimulates c.loop-s.invariant.base;
-}

@@ -1,5 +1,0 @@
-use Rattle.qp_kernel_turns_tests.proofs.trial.run.Given as goal
-
--- the ledger is the new one
-abbrev pub ghosts-play : goal.ghosts-play
-ghosts-play g a = record { name = a.blank.name; parts = a.blank.parts }

@@ -1,5 +1,0 @@
-use Rattle.qp_model_lanes.proofs.LawLemmas.{empty_lanes_are_no_matter as law}
-use Rattle.qp_model_lanes.proofs.laws.empty_lanes_are_no_matter.Goals as goal
-
-pub returns : goal.returns
-returns c = law

@@ -1,5 +1,0 @@
-use Rattle.qp_model_lanes.proofs.LawLemmas.{neighbours_change_places as law}
-use Rattle.qp_model_lanes.proofs.laws.neighbours_change_places.Goals as goal
-
-pub returns : goal.returns
-returns c = law

@@ -1,5 +1,0 @@
-use Rattle.qp_model_lanes.proofs.LawLemmas.{same_records_in_any_order as law}
-use Rattle.qp_model_lanes.proofs.laws.same_records_in_any_order.Goals as goal
-
-pub returns : goal.returns
-returns c = law

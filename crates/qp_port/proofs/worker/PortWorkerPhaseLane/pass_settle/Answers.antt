@@ -1,0 +1,10 @@
+use Rattle.std.proofs.Common.{sym}
+use Rattle.qp_port.proofs.Standing.{may-pass}
+use Rattle.qp_port.proofs.worker.PortWorkerPhaseLane.pass_settle.Goals as goal
+
+pub returns-then-is_idle-clause-ready : goal.returns-then-is_idle-clause-ready
+returns-then-is_idle-clause-ready g c =
+    let lane = g.O.Ops.lane in
+    let x = c.args.self.now in
+    let passed = c.pass_job-passed in
+    may-pass x.sys.now x.budget x.turn c.turn_by-self.result passed.result x.job passed.new.job (lane x.lane) (lane passed.new.ops) c.requires.ready (sym c.if-is_idle.ensures) passed.ensures.passes passed.ensures.feeds c.turn_by-self.ensures

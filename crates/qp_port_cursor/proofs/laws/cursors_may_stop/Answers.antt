@@ -1,5 +1,0 @@
-use Rattle.qp_port_cursor.proofs.Standing.{may-stop}
-use Rattle.qp_port_cursor.proofs.laws.cursors_may_stop.Goals as goal
-
-pub returns : goal.returns
-returns c = may-stop

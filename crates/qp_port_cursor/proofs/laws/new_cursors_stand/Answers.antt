@@ -1,5 +1,0 @@
-use Rattle.qp_port_cursor.proofs.Standing.{new-stand}
-use Rattle.qp_port_cursor.proofs.laws.new_cursors_stand.Goals as goal
-
-pub returns : goal.returns
-returns c = new-stand

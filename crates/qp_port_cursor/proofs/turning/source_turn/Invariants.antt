@@ -1,5 +1,0 @@
-use Rattle.qp_port_cursor.proofs.turning.source_turn.Given as goal
-
--- the ledger is the new one
-abbrev pub ghosts-turn_in : goal.ghosts-turn_in
-ghosts-turn_in g a = record { name = a.blank.name; parts = a.blank.parts }

@@ -1,5 +1,0 @@
-use Rattle.qp_port_forms.proofs.PortForms.{written-port}
-use Rattle.qp_port_forms.proofs.laws.lawful_journals_of_port_have_form_1.Goals as goal
-
-pub returns : goal.returns
-returns c = written-port

@@ -1,5 +1,0 @@
-pub mod HomeRecords
-pub mod HomeGrows
-pub mod HomeSteps
-pub mod HomeEnding
-pub mod HomeLaws

@@ -1,5 +1,0 @@
-use Rattle.qp_port_home_law.proofs.HomeLaws.{full_home_ends as law}
-use Rattle.qp_port_home_law.proofs.laws.full_home_ends.Goals as goal
-
-pub returns : goal.returns
-returns c = law

@@ -1,5 +1,0 @@
-use Rattle.qp_port_home_law.proofs.HomeLaws.{home_starts as law}
-use Rattle.qp_port_home_law.proofs.laws.home_starts.Goals as goal
-
-pub returns : goal.returns
-returns c = law

@@ -1,5 +1,0 @@
-use Rattle.qp_port_home_law.proofs.HomeLaws.{home_step_is_cut as law}
-use Rattle.qp_port_home_law.proofs.laws.home_step_is_cut.Goals as goal
-
-pub returns : goal.returns
-returns c = law

@@ -1,2 +1,0 @@
-pub mod HomeLanes
-pub mod Laws

@@ -1,0 +1,5 @@
+use Rattle.qp_port_law.proofs.HomeLaws.{home_step_fails as law}
+use Rattle.qp_port_law.proofs.home_laws.home_step_fails.Goals as goal
+
+pub returns : goal.returns
+returns c = law

@@ -1,0 +1,5 @@
+use Rattle.qp_port_law.proofs.HomeLaws.{resting_home_leaves as law}
+use Rattle.qp_port_law.proofs.home_laws.resting_home_leaves.Goals as goal
+
+pub returns : goal.returns
+returns c = law

@@ -1,0 +1,5 @@
+use Rattle.qp_port_law.proofs.HomeLaws.{waiting_home_ends as law}
+use Rattle.qp_port_law.proofs.home_laws.waiting_home_ends.Goals as goal
+
+pub returns : goal.returns
+returns c = law

@@ -1,0 +1,40 @@
+-- The laws of sealed lanes.
+use Rattle.std.specs.Prelude.{ℕ, List, ◌∷◌, ◌++◌}
+use Rattle.qp_model.specs.declared.stimulus.Stim.{Stim}
+use Rattle.qp_model.specs.declared.systems.System.{System}
+use Rattle.qp_model.specs.declared.journals.Journal.{Journal}
+use Rattle.qp_model.specs.Lawful.{Lawful}
+use Rattle.qp_model.specs.Kernels.{port, qk}
+use Rattle.qp_model.specs.Sound.{IsSound}
+use Rattle.qp_calls.specs.LaneView.{LaneView}
+use Rattle.qp_kernel.specs.ZeroEnds.{own_told}
+use Rattle.qp_port_law.specs.Sealed.{SealsLanes}
+use Rattle.qp_kernel_end.specs.declared.rest.Rest.{Rest}
+use Rattle.qp_kernel_end.specs.Rests.{AreRests, AreRestsIn}
+use Rattle.qp_port_law.specs.Rests.{AreTold}
+use Rattle.qp_port_law.specs.PortLanes.{ArePortLanes}
+use Rattle.qp_port_law.specs.QkLanes.{AreQkLanes}
+
+-- lanes of objects and sources, sealed, leave a lawful journal
+abbrev pub SealedPortRunsAreLawful : Type 0
+SealedPortRunsAreLawful =
+    (sys : System) (stimuli : List (List Stim)) (budget : ℕ) (first : LaneView) (homes sources : List LaneView) (j : Journal)
+    → ArePortLanes sys stimuli budget first homes sources j → Lawful sys stimuli j
+
+-- so do the kernel's lane and those of sources
+abbrev pub SealedQkRunsAreLawful : Type 0
+SealedQkRunsAreLawful =
+    (sys : System) (stimuli : List (List Stim)) (budget : ℕ) (first : LaneView) (sources : List LaneView) (j : Journal)
+    → AreQkLanes sys stimuli budget first sources j → Lawful sys stimuli j
+
+-- where objects rest by what their own lanes tell, they rest by the journal
+abbrev pub PortRestsAreTold : Type 0
+PortRestsAreTold =
+    (sys : System) (budget : ℕ) (first : LaneView) (homes sources : List LaneView) (j : Journal) (rests : List Rest)
+    → IsSound sys → SealsLanes sys port budget (first ∷ homes ++ sources) j → AreTold sys rests sys.objects homes → AreRestsIn sys j rests
+
+-- so do those by what lane 0 tells
+abbrev pub QkRestsAreTold : Type 0
+QkRestsAreTold =
+    (sys : System) (budget : ℕ) (first : LaneView) (sources : List LaneView) (j : Journal) (rests : List Rest)
+    → SealsLanes sys qk budget (first ∷ sources) j → AreRests sys (λ o. own_told o first.told) rests → AreRestsIn sys j rests

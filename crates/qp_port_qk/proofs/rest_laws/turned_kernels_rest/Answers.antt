@@ -1,0 +1,5 @@
+use Rattle.qp_port_qk.proofs.Turned.{turned_kernels_rest as law}
+use Rattle.qp_port_qk.proofs.rest_laws.turned_kernels_rest.Goals as goal
+
+pub returns : goal.returns
+returns c = law

@@ -1,5 +1,0 @@
-use Rattle.qp_port_quiet.proofs.Resting.{quiet_runs_rest as law}
-use Rattle.qp_port_quiet.proofs.laws.quiet_runs_rest.Goals as goal
-
-pub returns : goal.returns
-returns c = law

@@ -1,5 +1,0 @@
-use Rattle.qp_port_sealed.proofs.RestLemmas.{port-rests as law}
-use Rattle.qp_port_sealed.proofs.laws.port_rests_are_told.Goals as goal
-
-pub returns : goal.returns
-returns c = law

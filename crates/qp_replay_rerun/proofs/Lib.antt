@@ -1,9 +1,0 @@
-pub mod Along
-pub mod Fronts
-pub mod Histories
-pub mod LaneSpills
-pub mod NextBlocks
-pub mod NextMay
-pub mod NextRecords
-pub mod OneThread
-pub mod Rerunning

@@ -1,0 +1,7 @@
+use Rattle.std.proofs.Common.{arith}
+use Rattle.qp_shared_ends.proofs.Parting.{joins}
+use Rattle.qp_shared_ends.proofs.table.join_seats.Goals as goal
+
+pub join_seat-requires : goal.join_seat-requires
+join_seat-requires c = let w = c.requires.wide in
+    (c.requires.own, c.requires.other.0, c.requires.other.1, omega arith, λ s h at apart there. joins c.args.words.now.shared.key c.args.seat.now.id c.args.seat.now.me.0 s.words s.views h at c.args.other.id c.args.other.me.0 apart there)

@@ -1,5 +1,0 @@
-use Rattle.qp_shared_seats.specs.Seats.{StaysTold, IsOnePast}
-use Rattle.qp_shared_seats.proofs.table.know_past.Given as goal
-
-abbrev pub ghosts-look : goal.ghosts-look
-ghosts-look a = record { tells = λ v n u. StaysTold (IsOnePast a.words.now.shared.key) v u }

@@ -1,9 +1,0 @@
-use Rattle.std.proofs.Common.{arith}
-use Rattle.qp_shared_seats.proofs.Parting.{looks-on}
-use Rattle.qp_shared_seats.proofs.table.look_on.Goals as goal
-
-pub part-requires-clause-own : goal.part-requires-clause-own
-part-requires-clause-own c = let w = c.requires.wide in (c.requires.own, omega arith)
-
-pub part-requires-clause-keeps : goal.part-requires-clause-keeps
-part-requires-clause-keeps c = looks-on c.args.words.now.shared.key c.args.seat.now.id c.args.seat.now.me.0

@@ -1,5 +1,0 @@
-use Rattle.qp_table.specs.After.{nothing}
-use Rattle.qp_shared_seats.proofs.table.move_all.Given as goal
-
-abbrev pub ghosts-part : goal.ghosts-part
-ghosts-part a = record { left = λ v. nothing; right = λ v. v }

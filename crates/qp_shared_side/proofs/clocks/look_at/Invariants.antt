@@ -1,5 +1,0 @@
-use Rattle.qp_side_words.specs.Told.{eyed_clock, EyeTimerTold}
-use Rattle.qp_shared_side.proofs.clocks.look_at.Given as goal
-
-abbrev pub ghosts-look : goal.ghosts-look
-ghosts-look a = record { tells = λ v n u. EyeTimerTold (eyed_clock a._about.timer) a._about.timer v n u }

@@ -1,5 +1,0 @@
-use Rattle.qp_side_words.specs.Told.{PubTold}
-use Rattle.qp_shared_side.proofs.signals.look_at_all.Given as goal
-
-abbrev pub ghosts-look : goal.ghosts-look
-ghosts-look a = record { tells = λ v n u. PubTold a.words.now.shared.key a._about.by a._about.to v n u }

@@ -1,5 +1,0 @@
-use Rattle.qp_side_words.specs.Told.{EyeSignalTold}
-use Rattle.qp_shared_side.proofs.signals.look_for.Given as goal
-
-abbrev pub ghosts-look : goal.ghosts-look
-ghosts-look a = record { tells = λ v n u. EyeSignalTold a._about.bit a._about.by a._about.to v n u }

@@ -1,5 +1,0 @@
-use Rattle.qp_side_words.specs.Told.{SubTold}
-use Rattle.qp_shared_side.proofs.signals.put.Given as goal
-
-abbrev pub ghosts-add : goal.ghosts-add
-ghosts-add a = record { tells = λ v n u. SubTold a._about.by a._about.to v n u }

@@ -1,8 +1,0 @@
-pub mod Places
-pub mod Facts
-pub mod Gaining
-pub mod Meeting
-pub mod Hands
-pub mod Saying
-pub mod Own
-pub mod LawLemmas

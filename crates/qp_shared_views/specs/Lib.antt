@@ -1,4 +1,0 @@
-pub mod Words
-pub mod Lane
-pub mod Telling
-pub mod Laws

@@ -1,0 +1,6 @@
+use Rattle.std.proofs.Common.{refl}
+use Rattle.atomic_table.specs.Table.{keeps}
+use Rattle.qp_side.proofs.steps.add.Goals as goal
+
+pub fetch_add-requires : goal.fetch_add-requires
+fetch_add-requires g c = (c.requires.own.0, c.requires.own.1, λ s h wide at small. let z = c.requires.keeps s.words s.views h at small in (z.0, keeps, tt, z.1, (z.2, refl)))

@@ -1,5 +1,0 @@
-use Rattle.qp_side_words.proofs.Places.{apart-words as law}
-use Rattle.qp_side_words.proofs.laws.side_words_stand_apart.Goals as goal
-
-pub returns : goal.returns
-returns c = law

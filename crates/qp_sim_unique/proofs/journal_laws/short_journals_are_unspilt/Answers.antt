@@ -1,5 +1,0 @@
-use Rattle.qp_sim_unique.proofs.OnlyLemmas.{short-unspilt}
-use Rattle.qp_sim_unique.proofs.journal_laws.short_journals_are_unspilt.Goals as goal
-
-pub returns : goal.returns
-returns c = short-unspilt

@@ -1,5 +1,0 @@
-use Rattle.qp_sim_unique.proofs.OnlyLemmas.{unspilt-one}
-use Rattle.qp_sim_unique.proofs.journal_laws.unspilt_journals_are_one.Goals as goal
-
-pub returns : goal.returns
-returns c = unspilt-one

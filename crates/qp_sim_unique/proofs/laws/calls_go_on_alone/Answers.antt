@@ -1,5 +1,0 @@
-use Rattle.qp_sim_unique.proofs.CallLemmas.{call_goes_on_alone as law}
-use Rattle.qp_sim_unique.proofs.laws.calls_go_on_alone.Goals as goal
-
-pub returns : goal.returns
-returns c = law

@@ -1,5 +1,0 @@
-use Rattle.qp_sim_unique.proofs.ComesLaw.{records_come_next as law}
-use Rattle.qp_sim_unique.proofs.laws.records_come_next.Goals as goal
-
-pub returns : goal.returns
-returns c = law

@@ -1,5 +1,0 @@
-use Rattle.qp_sim_unique.proofs.UniqueLemmas.{tidy_journals_are_one as law}
-use Rattle.qp_sim_unique.proofs.laws.tidy_journals_are_one.Goals as goal
-
-pub returns : goal.returns
-returns c = law

@@ -1,9 +1,0 @@
-pub mod Held
-pub mod NextInCall
-pub mod NextInCourse
-pub mod NextInSource
-pub mod Fronts
-pub mod Tidy
-pub mod Laws
-pub mod FormLaws
-pub mod JournalLaws

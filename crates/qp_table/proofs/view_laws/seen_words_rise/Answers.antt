@@ -1,0 +1,5 @@
+use Rattle.qp_table.proofs.ViewLawLemmas.{seen_words_rise as law}
+use Rattle.qp_table.proofs.view_laws.seen_words_rise.Goals as goal
+
+pub returns : goal.returns
+returns c = law

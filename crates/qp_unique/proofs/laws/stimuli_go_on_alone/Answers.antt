@@ -1,0 +1,5 @@
+use Rattle.qp_unique.proofs.StimulusLemmas.{stimulus_goes_on_alone as law}
+use Rattle.qp_unique.proofs.laws.stimuli_go_on_alone.Goals as goal
+
+pub returns : goal.returns
+returns c = law

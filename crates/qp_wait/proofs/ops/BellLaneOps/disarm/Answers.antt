@@ -1,0 +1,7 @@
+use Rattle.qp_wait_rings.specs.Lane.{ringing_view}
+use Rattle.qp_wait_rings.proofs.Quiet.{disarm-quiet}
+use Rattle.qp_wait.proofs.Parking.{parked-still}
+use Rattle.qp_wait.proofs.ops.BellLaneOps.disarm.Goals as goal
+
+pub invariant_of-self : goal.invariant_of-self
+invariant_of-self g c = let l = c.args.self.now in record { parked = parked-still l.farewells.cords.items l.perch (ringing_view l.ringing) (ringing_view c.disarm.new.self) l.parked (disarm-quiet c.args.t (ringing_view l.ringing) (ringing_view c.disarm.new.self) c.disarm.result c.disarm.ensures.disarms).grown }

@@ -1,0 +1,7 @@
+use Rattle.qp_wait_rings.specs.Lane.{ringing_view}
+use Rattle.qp_wait_rings.proofs.Quiet.{same-quiet}
+use Rattle.qp_wait.proofs.Parking.{parked-still}
+use Rattle.qp_wait.proofs.ops.BellLaneOps.par.Goals as goal
+
+pub invariant_of-self : goal.invariant_of-self
+invariant_of-self c = let l = c.args.self.now in record { parked = parked-still l.farewells.cords.items l.perch (ringing_view l.ringing) (ringing_view c.par.new.self) l.parked (same-quiet (ringing_view l.ringing) (ringing_view c.par.new.self) c.par.ensures.stays).grown }

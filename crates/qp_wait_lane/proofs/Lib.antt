@@ -1,4 +1,0 @@
-pub mod Saying
-pub mod Parking
-pub mod CrossingLemmas
-pub mod Handed
