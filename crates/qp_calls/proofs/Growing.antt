@@ -11,6 +11,7 @@ use Rattle.qp_calls.specs.declared.tokens.HeldEntry.TheVariants as token
 use Rattle.qp_calls.specs.Tokens.{token_of, stands, handles, hands_after}
 use Rattle.qp_calls.specs.LaneView.{LaneView, Gains, Grows, Roomier, is_known, handled_in, placed_by, mark_by, mark_after, Own, own_of, own_after}
 use Rattle.qp_calls.specs.Clauses.{EntryStands}
+use Rattle.qp_calls.proofs.Advancing.{between-append}
 use Rattle.qp_calls.proofs.HandLemmas.{hands-append, stands-after, handled}
 
 pub mark-append : (w : Word) (n : ℕ) (g h : List ToldItem) → mark_after w n (g ++ h) ≡ mark_after w (mark_after w n g) h
@@ -61,6 +62,7 @@ gains-then g h a b c first second = record {
   answered = second.answered ∙ first.answered;
   mark = λ w. second.mark w ∙ rw (first.mark w) (sym (mark-append w (a.mark w) g h));
   rise = λ w. omega (arith, first.rise w, second.rise w);
+  between = λ w. between-append w (a.mark w) (b.mark w) (c.mark w) g h (first.rise w) (second.rise w) (first.between w) (second.between w);
   shown = λ w same.
       let up : a.mark w ≤ b.mark w = first.rise w in
       let on : b.mark w ≤ c.mark w = second.rise w in
@@ -89,6 +91,7 @@ gains-none a = record {
   answered = refl;
   mark = λ w. refl;
   rise = λ w. omega arith;
+  between = λ w. tt;
   shown = λ w e. refl;
   own = λ o. refl;
   event = λ e known. refl;
@@ -115,6 +118,7 @@ gains-spared ts a b c n same g =
       answered = h.answered;
       mark = h.mark;
       rise = h.rise;
+      between = h.between;
       shown = h.shown;
       own = h.own;
       event = h.event;

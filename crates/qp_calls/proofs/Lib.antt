@@ -1,3 +1,4 @@
+pub mod Advancing
 pub mod HandLemmas
 pub mod Growing
 pub mod FirstPool

@@ -1,7 +1,7 @@
 -- What contracts see of a lane, and how it grows.
-use Rattle.std.specs.Prelude.{◌≡◌, ℕ, ◌+◌, ◌≤◌, ◌==◌, Bool, true, false, ◌&&◌, ◌||◌, List, [], ◌∷◌, ◌++◌, map, length, if◌then◌else◌, IsTrue, Some, None}
+use Rattle.std.specs.Prelude.{◌≡◌, ℕ, ◌+◌, ◌≤◌, ◌==◌, Bool, true, false, ◌&&◌, ◌||◌, List, [], ◌∷◌, ◌++◌, map, length, if◌then◌else◌, IsTrue, ⊤, Some, None}
 use Rattle.std.specs.declared.option.Option.{Option}
-use Rattle.std.specs.List.{list_any}
+use Rattle.std.specs.List.{AllByRecursion, list_any}
 use Rattle.qp_model.specs.declared.stimulus.Stim.{Stim}
 use Rattle.qp_model.specs.declared.words.Word.{Word}
 use Rattle.qp_model.specs.declared.words.Word.TheVariants as word
@@ -124,6 +124,15 @@ unfolding mark_by
 mark_after w n [] = n
 mark_after w n (t ∷ ts) = mark_after w (mark_by w n t) ts
 
+-- a mark between what a lane knew of its word before it, and what it knows behind it
+abbrev pub IsBetween : ℕ → ℕ → Option ℕ → Type 0
+IsBetween low high None = ⊤
+IsBetween low high (Some k) = (low ≤ k) × (k ≤ high)
+
+-- so are the marks of these records on a word
+abbrev pub AreBetween : Word → ℕ → ℕ → List ToldItem → Type 0
+AreBetween w low high ts = AllByRecursion (λ t. IsBetween low high (mark_of w (touch_of t.of t.told.body))) ts
+
 -- The last-in posts and takes of a queue.
 
 abbrev pub own_of : ℕ → Own → ℕ → Body → Own
@@ -165,6 +174,7 @@ pub record Gains (ts : List ToldItem) (old new : LaneView) : Type 0 where
   pub answered : new.answered ≡ old.answered
   pub mark : (w : Word) → new.mark w ≡ mark_after w (old.mark w) ts
   pub rise : (w : Word) → old.mark w ≤ new.mark w
+  pub between : (w : Word) → AreBetween w (old.mark w) (new.mark w) ts
   pub shown : (w : Word) → new.mark w ≡ old.mark w → new.shown w ≡ old.shown w
   pub own : (a : ℕ) → new.own a ≡ own_after a (old.own a) ts
   pub event : (e : Entry) → IsTrue (is_known old e) → new.event e ≡ old.event e
@@ -222,3 +232,14 @@ pub record Looks (w : Word) (n : ℕ) (x : Shown) (old new : LaneView) : Type 0 
   pub lane : new.lane ≡ old.lane
   pub log : new.log ≡ old.log
   pub aside : new.aside ≡ old.aside
+
+-- The lane went on: its records come behind those that it had, it knows of no word less, and each mark of the new records lies between what it
+-- knew of the word and what it knows.
+pub record Follows (told : List ToldItem) (mark : Word → ℕ) (told' : List ToldItem) (mark' : Word → ℕ) : Type 0 where
+  pub more : List ToldItem
+  pub grows : told' ≡ told ++ more
+  pub rise : (w : Word) → mark w ≤ mark' w
+  pub between : (w : Word) → AreBetween w (mark w) (mark' w) more
+
+abbrev pub Advances : LaneView → LaneView → Type 0
+Advances v w = Follows v.told v.mark w.told w.mark

@@ -126,7 +126,7 @@ stop-small Spent = omega arith
 stop-small (Spill n) = omega arith
 stop-small _ = omega arith
 
-last-small : (ts : List ToldItem) → last_code ts ≤ 6
+pub last-small : (ts : List ToldItem) → last_code ts ≤ 6
 unfolding last_code
 last-small [] = omega arith
 last-small (t ∷ []) = stop-small t.told.body

@@ -1,7 +1,6 @@
 -- What comes of it when one lane of a table meets another.
-use Rattle.std.specs.Prelude.{◌≡◌, max, Bool, true, false}
+use Rattle.std.specs.Prelude.{◌≡◌, max}
 use Rattle.qp_model.specs.declared.words.Word.{Word}
-use Rattle.qp_model.specs.declared.words.Word.TheVariants as word
 use Rattle.qp_calls.specs.LaneView.{LaneView}
 
 -- of the same table, and of the same system
@@ -9,18 +8,10 @@ pub record IsTogether (v w : LaneView) : Type 0 where
   pub world : w.world ≡ v.world
   pub sys : w.sys ≡ v.sys
 
--- the words of the event table, which lanes see: those of pools, blocks and queues
-abbrev pub is_met : Word → Bool
-is_met (word.Pool p) = true
-is_met (word.Block p b) = true
-is_met (word.Queue a) = true
-is_met _ = false
-
--- A lane met another. Of each word of the event table it knows of as many operations as the one of the two that knew of more, and of what that one saw; where
--- both knew of as many, both saw the same. Nothing else changes, nor what it knows of the words of signals and time events.
+-- A lane met another. Of each word it knows of as many operations as the one of the two that knew of more, and of what that one saw; where both knew of
+-- as many, both saw the same. Nothing else changes.
 pub record Met (old other new : LaneView) : Type 0 where
   pub same : new ≡ record old { mark = new.mark; shown = new.shown }
-  pub mark : (w : Word) → is_met w ≡ true → new.mark w ≡ max (old.mark w) (other.mark w)
-  pub beside : (w : Word) → is_met w ≡ false → new.mark w ≡ old.mark w
+  pub mark : (w : Word) → new.mark w ≡ max (old.mark w) (other.mark w)
   pub own : (w : Word) → new.mark w ≡ old.mark w → new.shown w ≡ old.shown w
-  pub its : (w : Word) → is_met w ≡ true → new.mark w ≡ other.mark w → new.shown w ≡ other.shown w
+  pub its : (w : Word) → new.mark w ≡ other.mark w → new.shown w ≡ other.shown w

@@ -32,6 +32,7 @@ use Rattle.qp_model.proofs.KnowingLemmas.{told_lane-append, told_lane-stays, sam
 use Rattle.qp_model.proofs.SettledLemmas.{all_settled-from, settled-from}
 use Rattle.qp_calls.specs.Tokens.{Token, Held, token_of, stands, handles, hands_of, hands_by, hands_after}
 use Rattle.qp_calls.specs.LaneView.{LaneView, Gains, Purse, Own, mark_or, mark_by, mark_after, shown_from, own_of, own_after, ceiling_in, handled_in, is_known}
+use Rattle.qp_calls.proofs.Advancing.{between-one}
 use Rattle.qp_calls.proofs.HandLemmas.{same-equal}
 use Rattle.qp_plain_sound.specs.Log.{lane_of, log_of, with_record}
 use Rattle.qp_plain_sound.specs.WordStates.{line_in, refs_in, pool_in}
@@ -408,6 +409,7 @@ module _ (sys : System) (lanes : List (List Rec)) (order : List ℕ) (at : ℕ) 
       answered = refl;
       mark = λ w. marks-from w ∙ ap (λ n. mark_or n (shown_from w b)) (marks-now w);
       rise = marks-rise;
+      between = λ w. between-one w (old_view.mark w) (new_view.mark w) told_now (marks-from w ∙ ap (λ n. mark_or n (shown_from w b)) (marks-now w)) (marks-rise w);
       shown = shown-still;
       own = λ a. own-now a b refl;
       event = λ e k. event-still e (known-made sys lanes order at e old k);

@@ -23,6 +23,7 @@ use Rattle.qp_table.specs.declared.view.SeatLog as table_log
 use Rattle.qp_table.specs.declared.view.View.{View}
 use Rattle.qp_calls.specs.Tokens.{Token, token_of, hands_of, hands_by, hands_after, handles}
 use Rattle.qp_calls.specs.LaneView.{Gains, mark_or, mark_by, mark_after, shown_from, placed_by, own_after}
+use Rattle.qp_calls.proofs.Advancing.{between-one}
 use Rattle.qp_calls.proofs.HandLemmas.{hands-append}
 use Rattle.qp_calls.proofs.Growing.{own-append}
 use Rattle.qp_calls_log.specs.declared.log.Log.{Log}
@@ -367,6 +368,7 @@ module _ (world : List ℕ) (sys : System) (by count ceiling : ℕ) (g : Log) (n
     answered = put.answered;
     mark = λ w. sym (note-marks w (lane_mark sys v.seen (side_mark sys s) w));
     rise = λ w. omega arith;
+    between = λ w. between-one w (lane_mark sys v.seen (side_mark sys s) w) (lane_mark sys v.seen (side_mark sys s) w) t (sym (note-marks w (lane_mark sys v.seen (side_mark sys s) w))) (omega arith);
     shown = λ w e. refl;
     own = λ a. ap (own_after a (record { l = 0; m = 0 })) note-told ∙ own-append a (record { l = 0; m = 0 }) (told_by g numbers v) (t ∷ []);
     event = λ e known. refl;

@@ -12,3 +12,4 @@ pub mod SignalLemmas
 pub mod ClockLemmas
 pub mod StopLemmas
 pub mod SeatLemmas
+pub mod Onlookers

@@ -3,6 +3,7 @@ use Rattle.std.proofs.Common.{◌≡◌, ℕ, zero, suc, ◌+◌, ◌<◌, ◌�
 use mathlib.Core.Option.{some, some-injective, some-ne-none}
 use lib.ListN.{get_elem?}
 use Rattle.atomic_table.proofs.Lists.{at_snoc, at_map, set_else}
+use Rattle.qp_chart.specs.StateTree.{has}
 use Rattle.qp_model.specs.declared.record.Rec.{Rec}
 use Rattle.qp_model.specs.declared.systems.System.{System}
 use Rattle.qp_model.specs.declared.words.Word.TheVariants as word
@@ -24,7 +25,7 @@ use Rattle.qp_table.specs.First.{first_serves}
 use Rattle.qp_table.proofs.Ends.{lane-once}
 use Rattle.qp_table.proofs.Start.{object-within, serves-once}
 use Rattle.qp_side.specs.Rule.{signal_at, timer_at, SideFitting, SideNow, AreSubscribers, KnowsItsOwn, SideHolds, views_of, member_from, member_in}
-use Rattle.qp_side.specs.Told.{root_less, seat_with, both_of, no_seat, side_root}
+use Rattle.qp_side.specs.Told.{root_less, seat_with, served_by, both_of, no_seat, side_root}
 use Rattle.qp_side.specs.Laws.{SeatsAreGiven, SeatsJoin, SideStarts, IsSideWhole, SideWholeIsKnown}
 use Rattle.qp_side.specs.declared.view.SideView.{SideView}
 use Rattle.qp_side.proofs.Places.{fits, signal-low, timer-low}
@@ -37,12 +38,12 @@ each-append P (x ∷ xs) ys p q = (p.0, each-append P xs ys p.1 q)
 many-append : {A : Type 0} (t : A → Bool) (xs ys : List A) → many t (xs ++ ys) ≡ many t xs + many t ys
 many-append t xs ys = total-append (λ x. cond (t x) 1 0) xs ys
 
-total-map : {A B : Type 0} (f : A → B) (g : B → ℕ) (xs : List A) → total g (map f xs) ≡ total (λ x. g (f x)) xs
+pub total-map : {A B : Type 0} (f : A → B) (g : B → ℕ) (xs : List A) → total g (map f xs) ≡ total (λ x. g (f x)) xs
 total-map f g [] = refl
 total-map f g (x ∷ xs) = ap (λ k. g (f x) + k) (total-map f g xs)
 
 -- an element of a list that is mapped
-from-map : {A B : Type 0} (f : A → B) (xs : List A) (i : ℕ) (y : B) → get_elem? (map f xs) i ≡ some y → (x : A) × (get_elem? xs i ≡ some x) × (f x ≡ y)
+pub from-map : {A B : Type 0} (f : A → B) (xs : List A) (i : ℕ) (y : B) → get_elem? (map f xs) i ≡ some y → (x : A) × (get_elem? xs i ≡ some x) × (f x ≡ y)
 from-map f [] i y e = absurd (some-ne-none y (sym e))
 from-map f (x ∷ xs) zero y e = (x, refl, some-injective (f x) y e)
 from-map f (x ∷ xs) (suc i) y e = from-map f xs i y e
@@ -148,6 +149,15 @@ module _ (sys : System) (words : List ℕ) (views : List SideView) (holds : Side
 pub seats-given : SeatsAreGiven
 seats-given sys words views holds id v at n t few mine bare = gives sys words views holds id v at n t few mine bare
 
+-- The objects served: none more than before, and what the seat knows of them is by its own records.
+served-le : (t : Serve → Bool) (logs : List SeatLog) (xs : List Serve) → many t (served_by logs xs) ≤ many t xs
+served-le t [] xs = omega arith
+served-le t (g ∷ gs) xs = omega arith
+
+served-home : (o s : ℕ) (b : Bool) (logs more : List SeatLog) (xs : List Serve) → (0 < many (is_serve o) xs → b ≡ member_in o s logs) → 0 < many (is_serve o) (served_by logs xs) → b ≡ member_in o s (logs ++ more)
+served-home o s b [] more xs h own = absurd (omega (arith, own))
+served-home o s b (g ∷ gs) more xs h own = h own
+
 -- A seat takes over another
 module _ (sys : System) (words : List ℕ) (views : List SideView) (holds : SideHolds sys words views) (id : ℕ) (v : SideView) (at_id : get_elem? views id ≡ some v) (other : ℕ) (w : SideView) (apart : other ≢ id) (there : get_elem? (set views id (both_of v w)) other ≡ some w) where
   abbrev both : SideView
@@ -203,8 +213,8 @@ module _ (sys : System) (words : List ℕ) (views : List SideView) (holds : Side
           (each-after (λ x. Each (SawFrom words holds.was) x.view.seen) (each-append (SawFrom words holds.was) v.view.seen w.view.seen (seen-of id v at_id) (seen-of other w was-there)) tt seen-of);
     };
     first = holds.first;
-    serves = λ o. let a = both-sums (λ x. many (is_serve o) x.view.serves) in let s = holds.serves o in omega arith;
-    home = each-after (KnowsItsOwn sys holds.now) (λ o s own is. absurd (omega arith)) (λ o s own is. absurd (omega arith)) holds.home;
+    serves = λ o. let a = both-sums (λ x. many (is_serve o) x.view.serves) in let k = served-le (is_serve o) v.view.logs v.view.serves in let s = holds.serves o in omega arith;
+    home = each-after (KnowsItsOwn sys holds.now) (λ o s own is. served-home o s (has (holds.now.set s).members o) v.view.logs w.view.logs v.view.serves (λ mine. holds.home id v at_id o s mine is) own) (λ o s own is. absurd (omega arith)) holds.home;
     idle = each-after (λ x. length x.view.logs ≡ 0 → x.stops ≡ [])
         (λ none. let c = length-append v.view.logs w.view.logs in let a : v.stops ≡ [] = holds.idle id v at_id (omega arith) in let b : w.stops ≡ [] = holds.idle other w was-there (omega arith) in (λ i. a i ++ b i)) (λ none. refl) holds.idle;
     stop = record {

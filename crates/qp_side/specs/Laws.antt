@@ -16,7 +16,7 @@ use Rattle.qp_table.specs.declared.view.SeatLog.{SeatLog}
 use Rattle.qp_table.specs.declared.view.Serve.{Serve}
 use Rattle.qp_table.specs.First.{first_serves}
 use Rattle.qp_side.specs.Rule.{signal_at, timer_at, stop_at, member_in, SideNow, SideLeaves, SideShows, SideHolds}
-use Rattle.qp_side.specs.Told.{SideSteps, last_seen, bit_value, EyeSignalTold, SubTold, UnsubTold, PubTold, counter_in, interval_in, eyed_armed, eyed_idle, eyed_clock, EyeTimerTold, ArmTold, DisarmTold, RearmTold, TickTold, HandTold, FoundTold, root_less, seat_with, both_of, no_seat, side_root}
+use Rattle.qp_side.specs.Told.{SideSteps, last_seen, bit_value, EyeSignalTold, SubTold, UnsubTold, PubTold, counter_in, interval_in, eyed_armed, eyed_idle, eyed_clock, EyeTimerTold, ArmTold, DisarmTold, RearmTold, TickTold, HandTold, FoundTold, root_less, seat_with, both_of, no_seat, side_onlooker, side_root}
 use Rattle.qp_side.specs.declared.view.SideView.{SideView}
 
 -- Signals.
@@ -80,6 +80,10 @@ FindsTell = (sys : System) (id : ℕ) (v : SideView) → SideSteps sys id v stop
 abbrev pub SeatsAreGiven : Type 0
 SeatsAreGiven = (sys : System) (words : List ℕ) (views : List SideView) → SideHolds sys words views → (id : ℕ) (v : SideView) → get_elem? views id ≡ some v
     → (n : ℕ) (t : Serve → Bool) → n < 49 → 0 < many (is_number n) v.view.lane_numbers → v.view.logs ≡ [] → SideHolds sys words (slice_set views id (root_less n t v) ++ seat_with n t v ∷ [])
+
+-- a seat that has seen what another has, which stays as it is
+abbrev pub SeatsLookOn : Type 0
+SeatsLookOn = (sys : System) (words : List ℕ) (views : List SideView) → SideHolds sys words views → (id : ℕ) (v : SideView) → get_elem? views id ≡ some v → SideHolds sys words (slice_set views id v ++ side_onlooker v ∷ [])
 
 -- a seat takes over another
 abbrev pub SeatsJoin : Type 0

@@ -8,7 +8,8 @@ use Rattle.qp_model.specs.declared.systems.System.{System}
 use Rattle.qp_model.specs.Subscribers.{bits_of_set}
 use Rattle.qp_table.specs.Counting.{Each}
 use Rattle.qp_table.specs.Rule.{mark_in}
-use Rattle.qp_table.specs.After.{rec_of, glanced, noted, nothing, passing, handing, granting, views_joined}
+use Rattle.qp_table.specs.After.{rec_of, glanced, noted, nothing, onlooker, passing, handing, granting, views_joined}
+use Rattle.qp_table.specs.declared.view.SeatLog.{SeatLog}
 use Rattle.qp_table.specs.declared.view.Serve.{Serve}
 use Rattle.qp_table.specs.Words.{latest}
 use Rattle.qp_side.specs.Rule.{signal_at, timer_at, member_in, AreSubscribers, SideHolds}
@@ -139,9 +140,18 @@ root_less n t v = record v { view = handing t (granting n v.view) }
 abbrev pub seat_with : ℕ → (Serve → Bool) → SideView → SideView
 seat_with n t v = record { view = record nothing { logs = record { number = n; recs = [] } ∷ []; serves = passing t v.view.serves }; stops = []; answered = [] }
 
--- one seat takes over another, and serves no object any more
+-- the objects that a seat serves, where it has records of its own
+abbrev pub served_by : List SeatLog → List Serve → List Serve
+served_by [] xs = []
+served_by (g ∷ gs) xs = xs
+
+-- One seat takes over another. What the other served is served no more, nor is anything where the seat has no records of its own.
 abbrev pub both_of : SideView → SideView → SideView
-both_of v w = record { view = record (views_joined v.view w.view) { serves = [] }; stops = v.stops ++ w.stops; answered = v.answered ++ w.answered }
+both_of v w = record { view = record (views_joined v.view w.view) { serves = served_by v.view.logs v.view.serves }; stops = v.stops ++ w.stops; answered = v.answered ++ w.answered }
+
+-- a seat that has seen what another has
+abbrev pub side_onlooker : SideView → SideView
+side_onlooker v = record { view = onlooker v.view; stops = []; answered = [] }
 
 abbrev pub no_seat : SideView
 no_seat = record { view = nothing; stops = []; answered = [] }

@@ -1,7 +1,7 @@
 //! One law for each kind of atomic step of a seat, and for the seats themselves. Each function here does nothing: its contract is the
 //! law, by which the step keeps the rule of the side table, whatever the other seats are, and tells its seat what it found.
 
-ghost use Rattle.qp_side.specs.Laws.{SideWordsStandApart, EyeSignalsTell, SubsTell, UnsubsTell, PubsTell, EyeArmsTell, EyeIdlesTell, EyeClocksTell, ArmsTell, DisarmsTell, RearmsTell, TicksTell, HandsTell, FindsTell, SeatsAreGiven, SeatsJoin, SideStarts, SideWholeIsKnown};
+ghost use Rattle.qp_side.specs.Laws.{SideWordsStandApart, EyeSignalsTell, SubsTell, UnsubsTell, PubsTell, EyeArmsTell, EyeIdlesTell, EyeClocksTell, ArmsTell, DisarmsTell, RearmsTell, TicksTell, HandsTell, FindsTell, SeatsAreGiven, SeatsJoin, SeatsLookOn, SideStarts, SideWholeIsKnown};
 
 /// Every signal, every time event and the stop word have a word of their own.
 pub fn side_words_stand_apart()
@@ -76,6 +76,11 @@ pub fn finds_tell()
 /// The root gives a seat one of its numbers and some of its objects.
 pub fn seats_are_given()
     ensures { SeatsAreGiven }
+{}
+
+/// A seat that has seen what another has is added.
+pub fn seats_look_on()
+    ensures { SeatsLookOn }
 {}
 
 /// A seat takes over another.

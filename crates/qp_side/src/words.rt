@@ -7,7 +7,7 @@ ghost use Rattle.qp_table.specs.Counting.{many};
 ghost use Rattle.qp_table.specs.Rule.{is_number};
 ghost use Rattle.qp_table.specs.First.{first_serves};
 ghost use Rattle.qp_side.specs.declared.view.SideView.{SideView};
-ghost use Rattle.qp_side.specs.Told.{root_less, seat_with, both_of, no_seat, side_root};
+ghost use Rattle.qp_side.specs.Told.{root_less, seat_with, both_of, no_seat, side_onlooker, side_root};
 ghost use Rattle.qp_side.specs.Seats.{in_set, MayPart, WholeTold};
 
 use crate::steps::{NOTHING, Words, look};
@@ -97,6 +97,18 @@ pub fn give_seat(
     ensures seat { result.me.0 ≡ seat_with number (in_set objects) root.old.me.0 }
 {
     part::<Brand>(words, root, number, objects)
+}
+
+/// A seat that has seen what another has, which stays as it is.
+pub fn look_on(words: &Words, seat: &mut Seat<(), SideView>) -> Seat<(), SideView>
+    requires own { seat.old.table_id ≡ words.now.shared.table_id }
+    requires wide { words.now.shared.table_id.words ≡ 4489 }
+    ensures same { (seat.new.table_id ≡ seat.old.table_id) × (seat.new.id ≡ seat.old.id) × (seat.new.me.1 ≡ seat.old.me.1) }
+    ensures stays { seat.new.me.0 ≡ seat.old.me.0 }
+    ensures table { (result.table_id ≡ seat.old.table_id) × (result.me.1 ≡ []) }
+    ensures seat { result.me.0 ≡ side_onlooker seat.old.me.0 }
+{
+    part::<Brand>(words, seat, 0, 0)
 }
 
 /// Another seat is taken in.

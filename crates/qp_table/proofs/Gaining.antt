@@ -13,6 +13,7 @@ use Rattle.qp_table.specs.Rule.{mark_in, Fitting}
 use Rattle.qp_table.specs.declared.view.Glance.{Glance}
 use Rattle.qp_table.specs.declared.view.View.{View}
 use Rattle.qp_calls.specs.LaneView.{Shown, first_shown, mark_or, mark_by, mark_after, placed_by}
+use Rattle.qp_calls.proofs.Advancing.{between-one}
 use Rattle.qp_calls.proofs.HandLemmas.{hands-append}
 use Rattle.qp_calls.proofs.Growing.{own-append}
 use Rattle.qp_table.specs.Words.{place_of, is_here, first_value, later, latest, value_seen, mark_seen, shown_seen, as_shown, Ahead}
@@ -214,10 +215,9 @@ gains at side told spare more v u w k t r touches keeps = record {
   serves = keeps.serves;
   stops = refl;
   answered = refl;
-  mark = λ y. bool-dec (same_word w y)
-      (λ is. subst (λ z. lane_mark at.sys u.seen side z ≡ k) (same-is w y is) r.here ∙ sym (mark-one w k t touches y (lane_mark at.sys v.seen at.side y) ∙ ap (λ (b : Bool). cond {A = ℕ} b k (lane_mark at.sys v.seen at.side y)) is))
-      (λ other. r.others y other ∙ sym (mark-one w k t touches y (lane_mark at.sys v.seen at.side y) ∙ ap (λ (b : Bool). cond {A = ℕ} b k (lane_mark at.sys v.seen at.side y)) other));
+  mark = mark_is;
   rise = r.rise;
+  between = λ y. between-one y (lane_mark at.sys v.seen at.side y) (lane_mark at.sys u.seen side y) t (mark_is y) (r.rise y);
   shown = r.shown;
   own = λ a. own-append a (record { l = 0; m = 0 }) told (t ∷ []);
   event = keeps.events;
@@ -228,6 +228,11 @@ gains at side told spare more v u w k t r touches keeps = record {
   log = map-append (placed_by at.number) told (t ∷ []);
   aside = refl;
 }
+  where
+    mark_is : (y : Word) → lane_mark at.sys u.seen side y ≡ mark_after y (lane_mark at.sys v.seen at.side y) (t ∷ [])
+    mark_is y = bool-dec (same_word w y)
+        (λ is. subst (λ z. lane_mark at.sys u.seen side z ≡ k) (same-is w y is) r.here ∙ sym (mark-one w k t touches y (lane_mark at.sys v.seen at.side y) ∙ ap (λ (b : Bool). cond {A = ℕ} b k (lane_mark at.sys v.seen at.side y)) is))
+        (λ other. r.others y other ∙ sym (mark-one w k t touches y (lane_mark at.sys v.seen at.side y) ∙ ap (λ (b : Bool). cond {A = ℕ} b k (lane_mark at.sys v.seen at.side y)) other))
 
 pub gains-two : GivesGain
 unfolding lane_of
@@ -239,13 +244,9 @@ gains-two at told spare more v z u w b k j t r q touches keeps = record {
   serves = keeps.serves;
   stops = refl;
   answered = refl;
-  mark = λ y. bool-dec (same_word b y)
-      (λ is. subst (λ c. lane_mark at.sys u.seen at.side c ≡ j) (same-is b y is) q.here ∙ sym (after_two y ∙ ap (λ (c : Bool). cond {A = ℕ} c j (cond {A = ℕ} (same_word w y) k (lane_mark at.sys v.seen at.side y))) is))
-      (λ other. q.others y other ∙ (bool-dec (same_word w y)
-      (λ is. subst (λ c. lane_mark at.sys z.seen at.side c ≡ k) (same-is w y is) r.here ∙ ap (λ (c : Bool). cond {A = ℕ} c k (lane_mark at.sys v.seen at.side y)) (sym is))
-      (λ off. r.others y off ∙ ap (λ (c : Bool). cond {A = ℕ} c k (lane_mark at.sys v.seen at.side y)) (sym off))
-      ∙ sym (after_two y ∙ ap (λ (c : Bool). cond {A = ℕ} c j (cond {A = ℕ} (same_word w y) k (lane_mark at.sys v.seen at.side y))) other)));
-  rise = λ y. let a = r.rise y in let c = q.rise y in omega arith;
+  mark = mark_is;
+  rise = risen;
+  between = λ y. between-one y (lane_mark at.sys v.seen at.side y) (lane_mark at.sys u.seen at.side y) t (mark_is y) (risen y);
   shown = λ y e. let a = r.rise y in let c = q.rise y in q.shown y (omega arith) ∙ r.shown y (omega arith);
   own = λ a. own-append a (record { l = 0; m = 0 }) told (t ∷ []);
   event = keeps.events;
@@ -259,6 +260,17 @@ gains-two at told spare more v z u w b k j t r q touches keeps = record {
   where
     after_two : (y : Word) → mark_after y (lane_mark at.sys v.seen at.side y) (t ∷ []) ≡ cond (same_word b y) j (cond (same_word w y) k (lane_mark at.sys v.seen at.side y))
     after_two y = mark-two w b k j t touches y (lane_mark at.sys v.seen at.side y)
+
+    risen : (y : Word) → lane_mark at.sys v.seen at.side y ≤ lane_mark at.sys u.seen at.side y
+    risen y = let a = r.rise y in let c = q.rise y in omega arith
+
+    mark_is : (y : Word) → lane_mark at.sys u.seen at.side y ≡ mark_after y (lane_mark at.sys v.seen at.side y) (t ∷ [])
+    mark_is y = bool-dec (same_word b y)
+        (λ is. subst (λ c. lane_mark at.sys u.seen at.side c ≡ j) (same-is b y is) q.here ∙ sym (after_two y ∙ ap (λ (c : Bool). cond {A = ℕ} c j (cond {A = ℕ} (same_word w y) k (lane_mark at.sys v.seen at.side y))) is))
+        (λ other. q.others y other ∙ (bool-dec (same_word w y)
+        (λ is. subst (λ c. lane_mark at.sys z.seen at.side c ≡ k) (same-is w y is) r.here ∙ ap (λ (c : Bool). cond {A = ℕ} c k (lane_mark at.sys v.seen at.side y)) (sym is))
+        (λ off. r.others y off ∙ ap (λ (c : Bool). cond {A = ℕ} c k (lane_mark at.sys v.seen at.side y)) (sym off))
+        ∙ sym (after_two y ∙ ap (λ (c : Bool). cond {A = ℕ} c j (cond {A = ℕ} (same_word w y) k (lane_mark at.sys v.seen at.side y))) other)))
 
 pub looks : LooksShow
 unfolding lane_of

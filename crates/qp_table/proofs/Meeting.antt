@@ -45,6 +45,9 @@ later-between w a x g l le low = case w a g
 later-le : (w x y : ℕ) → mark_in w x ≤ mark_in w (later w x y)
 later-le w x y = case w x y (λ l is. let e = ap (mark_in w) is in omega arith) (λ l is. let e = ap (mark_in w) is in omega arith)
 
+later-mark : (w x y : ℕ) → mark_in w (later w x y) ≡ max (mark_in w x) (mark_in w y)
+later-mark w x y = case w x y (λ l is. ap (mark_in w) is ∙ sym (max-eq_right (let k = l in omega arith))) (λ l is. ap (mark_in w) is ∙ sym (max-eq_left l))
+
 latest-le : (w x : ℕ) (ys : List Glance) → mark_in w x ≤ mark_in w (latest w x ys)
 unfolding latest
 latest-le w x [] = omega arith
@@ -75,6 +78,10 @@ latest-append w x (g ∷ xs) ys = latest-append w (cond (eqb g.word w) (later w 
 
 latest-both : (w x : ℕ) (xs ys : List Glance) → latest w x (xs ++ ys) ≡ later w (latest w x xs) (latest w x ys)
 latest-both w x xs ys = latest-append w x xs ys ∙ latest-from w (latest w x xs) x ys (latest-le w x xs)
+
+-- so its mark is the greater of both
+pub latest-mark : (w x : ℕ) (xs ys : List Glance) → mark_in w (latest w x (xs ++ ys)) ≡ max (mark_in w (latest w x xs)) (mark_in w (latest w x ys))
+latest-mark w x xs ys = ap (mark_in w) (latest-both w x xs ys) ∙ later-mark w (latest w x xs) (latest w x ys)
 
 -- what was seen is what the word was
 later-was : (was : Was) (w x y : ℕ) → x ≡ was w (mark_in w x) → y ≡ was w (mark_in w y) → later w x y ≡ was w (mark_in w (later w x y))
@@ -111,15 +118,12 @@ module _ (sys : System) (xs ys : List Glance) (was : Was) (all : AreOfOne was (x
   unfolding value_seen
   value-was w h zs one = latest-was was (place_of w) (first_value sys w) zs one (first w h)
 
-  mark-max : (w x y : ℕ) → mark_in w (later w x y) ≡ max (mark_in w x) (mark_in w y)
-  mark-max w x y = case w x y (λ l is. ap (mark_in w) is ∙ sym (max-eq_right (let k = l in omega arith))) (λ l is. ap (mark_in w) is ∙ sym (max-eq_left l))
-
   mark-both : (w : Word) → mark_seen sys (xs ++ ys) w ≡ max (mark_seen sys xs w) (mark_seen sys ys w)
   unfolding mark_seen
   mark-both w = go (is_here sys w)
     where
       go : (t : Bool) → cond {A = ℕ} t (mark_in (place_of w) (value_seen sys w (xs ++ ys))) 0 ≡ max (cond {A = ℕ} t (mark_in (place_of w) (value_seen sys w xs)) 0) (cond {A = ℕ} t (mark_in (place_of w) (value_seen sys w ys)) 0)
-      go true = ap (mark_in (place_of w)) (value-both w) ∙ mark-max (place_of w) (value_seen sys w xs) (value_seen sys w ys)
+      go true = ap (mark_in (place_of w)) (value-both w) ∙ later-mark (place_of w) (value_seen sys w xs) (value_seen sys w ys)
       go false = refl
 
   -- where the mark is one of theirs, so is what was shown
