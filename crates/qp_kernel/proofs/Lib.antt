@@ -20,3 +20,4 @@ pub mod RowLemmas
 pub mod DeferredLemmas
 pub mod QuietRuns
 pub mod KernelLaws
+pub mod StartsLemmas

@@ -7,3 +7,4 @@ pub mod QuietRun
 pub mod Laws
 pub mod Happenings
 pub mod Interrupting
+pub mod Starts

@@ -50,6 +50,7 @@ module _ (plan : List (List Stim)) (hs : List Happening) (v w : LaneView) where
     answered = g.answered;
     mark = g.mark;
     rise = g.rise;
+    between = g.between;
     shown = g.shown;
     own = g.own;
     event = λ e known. g.event e known;

@@ -1,5 +1,5 @@
 -- The starts of all objects, one behind another.
-use Rattle.std.proofs.Common.{◌≡◌, ◌≢◌, ℕ, zero, suc, ◌+◌, ◌<◌, ◌≤◌, ◌==◌, false, List, [], ◌∷◌, ◌++◌, map, length, drop, refl, sym, ◌∙◌, ap, subst, Some, arith}
+use Rattle.std.proofs.Common.{◌≡◌, ◌≢◌, ℕ, zero, suc, ◌+◌, ◌-◌, ◌<◌, ◌≤◌, ◌==◌, false, List, [], ◌∷◌, ◌++◌, map, length, drop, refl, sym, ◌∙◌, ap, subst, Some, arith}
 use Rattle.std.specs.Prelude.{◌⊎◌, get_or, slice_get}
 use Rattle.std.specs.List.{AllByRecursion}
 use Rattle.std.proofs.lemmas.Bool.Decides.{nat_tests}
@@ -14,6 +14,10 @@ use Rattle.qp_calls.specs.Notes.{last_code}
 use Rattle.qp_calls.proofs.Growing.{gains-none, gains-then}
 use Rattle.qp_dispatch.specs.declared.steps.Step.{Step}
 use Rattle.qp_dispatch.specs.declared.steps.Step.TheVariants as step
+use Rattle.std.proofs.lemmas.List.{map-append}
+use Rattle.qp_model_order.specs.SourceRun.{untold, untold_all}
+use Rattle.qp_kernel.specs.Starts.{AreStarts, IsStartAlone}
+use Rattle.qp_kernel.proofs.StartsLemmas.{alone-then, starts-none, starts-then}
 use Rattle.qp_kernel.specs.Happenings.{IsInOrder, has_no_stim}
 use Rattle.qp_kernel_turns.specs.declared.objects.Objects.{Objects}
 use Rattle.qp_kernel_turns.specs.Objects.{MayStartAt, StartsAt}
@@ -48,6 +52,10 @@ next-is P (x ∷ xs) zero d at all ascend =
       apart = subst (λ y. has (map (λ z. z.priority) xs) y.priority ≡ false) same (none-above x.priority xs ascend.1);
     }
 next-is P (x ∷ xs) (suc n) d at all ascend = let next = next-is P xs n d at all.1 ascend.2 in record { left = next.left; holds = next.holds; apart = next.apart }
+
+some-there : (ds : List ObjectDef) (n : ℕ) (d : ObjectDef) → slice_get ds n ≡ Some d → 0 < length ds
+some-there [] n d at = absurd (cc)
+some-there (x ∷ xs) n d at = omega arith
 
 -- The object at a place, which is the first that has not started.
 module _ (sys : System) (sound : IsSound sys) (place : ℕ) (d : ObjectDef) (at : slice_get sys.objects place ≡ Some d) (xs : Objects) (v : LaneView) (b : HaveBegun sys (left_from sys place) xs v) where
@@ -95,13 +103,13 @@ module _ (sys : System) (sound : IsSound sys) (place : ℕ) (d : ObjectDef) (at 
           done-unstim sys sound any d.priority others xs v next.holds apart-next (here.knows any) level r.later o.0 w (record ys { ceiling = level }) o.2 r.put.slots refl
           (threshold-is sys sound any d.priority others xs v next.holds apart-next (here.knows any) level ys w step.Done r) o.1.0 o.1.1 b.no_stim
 
-      grows : GrowsAlong xs v (record ys { ceiling = level }) w
+      grows : GrowsAlong 1 xs v (record ys { ceiling = level }) w
       grows =
           let o = opened sys sound any d.priority others xs v next.holds apart-next (here.knows any) level ys w step.Done r in
           done-grows sys sound any d.priority others xs v next.holds apart-next (here.knows any) level r.later o.0 w (record ys { ceiling = level }) o.2 r.put.slots refl
           (threshold-is sys sound any d.priority others xs v next.holds apart-next (here.knows any) level ys w step.Done r) o.1.0 o.1.1
   starts-next level ys w step.Stopped r =
-      stopped-start sys sound any d.priority others xs v next.holds apart-next (here.knows any) level ys w r b.order
+      stopped-start sys sound any d.priority others xs v next.holds apart-next (here.knows any) (some-there sys.objects place d at) level ys w r b.order
       (λ terms. stopped-turn sys sound terms d.priority others xs v next.holds apart-next (here.knows terms) level ys w r)
       (λ terms. stopped-rows sys sound terms d.priority others xs v next.holds apart-next (here.knows terms) level ys w r)
   starts-next level ys w step.Memory r =
@@ -116,34 +124,40 @@ got-is (z ∷ zs) (suc p) x y lt is = got-is zs p x y (omega (arith, lt)) is
 
 -- Starts behind one another.
 
-pub along-then : (xs : Objects) (u : LaneView) (ys : Objects) (v : LaneView) (zs : Objects) (w : LaneView) → GrowsAlong xs u ys v → GrowsAlong ys v zs w → GrowsAlong xs u zs w
-along-then xs u ys v zs w one two = record {
+pub along-then : (n m : ℕ) (xs : Objects) (u : LaneView) (ys : Objects) (v : LaneView) (zs : Objects) (w : LaneView) → GrowsAlong n xs u ys v → GrowsAlong m ys v zs w → GrowsAlong (n + m) xs u zs w
+along-then n m xs u ys v zs w one two = record {
   ts = one.ts ++ two.ts;
   gains = gains-then one.ts two.ts u v w one.gains two.gains;
   hands = follow-then xs u ys v zs w one.hands two.hands;
+  are = subst (AreStarts (n + m)) (sym (map-append untold one.ts two.ts)) (starts-then n m (untold_all one.ts) (untold_all two.ts) one.are two.are);
 }
 
 pub stops-behind : (code : ℕ) (u v w : LaneView) (ts : List ToldItem) → Gains ts u v → GrowsAndStops code v w → GrowsAndStops code u w
 stops-behind code u v w ts gains h = record { ts = ts ++ h.ts; mid = h.mid; gains = gains-then ts h.ts u v h.mid gains h.gains; stops = h.stops }
 
-pub stopped-behind : (sys : System) (u v w : LaneView) (ts : List ToldItem) → Gains ts u v → StartStopped sys v w → StartStopped sys u w
-stopped-behind sys u v w ts gains h = record {
+pub stopped-behind : (sys : System) (n : ℕ) (u v w : LaneView) (ts : List ToldItem) → n < length sys.objects → Gains ts u v → AreStarts n (untold_all ts) → (h : StartStopped sys v w) → h.before ≡ 0 → StartStopped sys u w
+stopped-behind sys n u v w ts lt gains are h none = record {
   turn = λ terms. let t = h.turn terms in record { zero = t.zero; why = subst (λ a. (0 < last_code w.told) ⊎ (length a < length w.answered)) gains.answered t.why };
   none = h.none;
   order = h.order;
   code = h.code;
   some = h.some;
   last = h.last;
-  grows = stops-behind h.code u v w ts gains h.grows;
+  grows = record { ts = ts ++ h.grows.ts; mid = h.grows.mid; gains = gains-then ts h.grows.ts u v h.grows.mid gains h.grows.gains; stops = h.grows.stops };
+  before = n;
+  left = lt;
+  alone = λ r more.
+      let split : r ≡ n + (r - n) = omega (arith, more) in
+      subst (IsStartAlone r) (sym (map-append untold ts h.grows.ts)) (alone-then n (r - n) r (untold_all ts) (untold_all h.grows.ts) split are (h.alone (r - n) (omega (arith, more, none))));
 }
 
 -- the last start was not done
-pub all-behind : (sys : System) (place : ℕ) (xs : Objects) (u : LaneView) (ys : Objects) (v : LaneView) (zs : Objects) (w : LaneView) (answer : Step) → answer ≢ step.Done → GrowsAlong xs u ys v
+pub all-behind : (sys : System) (n place : ℕ) (xs : Objects) (u : LaneView) (ys : Objects) (v : LaneView) (zs : Objects) (w : LaneView) (answer : Step) → answer ≢ step.Done → n < length sys.objects → GrowsAlong n xs u ys v
     → StartsOne sys place ys zs v w answer → StartsAll sys xs zs u w answer
-all-behind sys place xs u ys v zs w step.Point not_done along h = h
-all-behind sys place xs u ys v zs w step.Done not_done along h = absurd (not_done refl)
-all-behind sys place xs u ys v zs w step.Stopped not_done along h = stopped-behind sys u v w along.ts along.gains h
-all-behind sys place xs u ys v zs w step.Memory not_done along h = stops-behind 7 u v w along.ts along.gains h
+all-behind sys n place xs u ys v zs w step.Point not_done lt along h = h
+all-behind sys n place xs u ys v zs w step.Done not_done lt along h = absurd (not_done refl)
+all-behind sys n place xs u ys v zs w step.Stopped not_done lt along h = stopped-behind sys n u v w along.ts lt along.gains along.are h.0 h.1
+all-behind sys n place xs u ys v zs w step.Memory not_done lt along h = stops-behind 7 u v w along.ts along.gains h
 
 -- nothing is left behind the last place
 drop-whole : {A : Type 0} (xs : List A) (n : ℕ) → length xs ≤ n → drop n xs ≡ []
@@ -152,11 +166,11 @@ drop-whole [] (suc n) le = refl
 drop-whole (x ∷ xs) zero le = absurd (omega (arith, le))
 drop-whole (x ∷ xs) (suc n) le = drop-whole xs n (omega (arith, le))
 
-pub all-started : (sys : System) (place : ℕ) (xs : Objects) (u : LaneView) (ys : Objects) (v : LaneView) → length sys.objects ≤ place → HaveBegun sys (left_from sys place) ys v → GrowsAlong xs u ys v → AllStarted sys xs ys u v
-all-started sys place xs u ys v le b along =
-    let none : left_from sys place ≡ [] = ap (map (λ d. d.priority)) (drop-whole sys.objects place le) in
+pub all-started : (sys : System) (place : ℕ) (xs : Objects) (u : LaneView) (ys : Objects) (v : LaneView) → place ≡ length sys.objects → HaveBegun sys (left_from sys place) ys v → GrowsAlong place xs u ys v → AllStarted sys xs ys u v
+all-started sys place xs u ys v is b along =
+    let none : left_from sys place ≡ [] = ap (map (λ d. d.priority)) (drop-whole sys.objects place (omega (arith, is))) in
     let h : HaveBegun sys [] ys v = subst (λ ps. HaveBegun sys ps ys v) none b in
-    record { knows = λ terms. all-begun sys terms ys v (h.knows terms); base = h.knows; order = h.order; no_stim = h.no_stim; grows = along }
+    record { knows = λ terms. all-begun sys terms ys v (h.knows terms); base = h.knows; order = h.order; no_stim = h.no_stim; grows = subst (λ n. GrowsAlong n xs u ys v) is along }
 
-pub along-none : (xs : Objects) (v : LaneView) → GrowsAlong xs v xs v
-along-none xs v = record { ts = []; gains = gains-none v; hands = follow-none xs v v refl }
+pub along-none : (xs : Objects) (v : LaneView) → GrowsAlong 0 xs v xs v
+along-none xs v = record { ts = []; gains = gains-none v; hands = follow-none xs v v refl; are = starts-none }

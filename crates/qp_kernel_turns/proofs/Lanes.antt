@@ -10,8 +10,9 @@ use Rattle.qp_model.specs.Told.{Told, ToldItem, for_object, plain}
 use Rattle.qp_calls.specs.declared.answers.Counts.{Counts}
 use Rattle.qp_calls.specs.declared.tokens.HeldEntry.{HeldEntry}
 use Rattle.qp_calls.specs.Clauses.{Sees, Stops, TakesIt}
-use Rattle.qp_calls.specs.LaneView.{Gains, Grows, GrowsOf, LaneView, Roomier, placed_by}
+use Rattle.qp_calls.specs.LaneView.{Advances, Gains, Grows, GrowsOf, LaneView, Roomier, placed_by}
 use Rattle.qp_calls.specs.Notes.{last_code, told_note}
+use Rattle.qp_calls.proofs.Advancing.{advances-gains, advances-still, advances-then}
 use Rattle.qp_calls.proofs.Growing.{gains-none, room-then}
 use Rattle.qp_calls.proofs.NoteLemmas.{last-snoc}
 use Rattle.qp_dispatch.specs.declared.steps.Step.{Step}
@@ -39,6 +40,7 @@ keeps-then acts u v w one two = record {
     plan = two.same.plan ∙ one.same.plan;
     happened = refl;
     serves = λ o. two.same.serves o ∙ one.same.serves o;
+    advances = advances-then u v w one.same.advances two.same.advances;
   };
   still = λ apart. two.still apart ∙ one.still apart;
   told = (one.told.0 ++ two.told.0, two.told.1 ∙ ap (λ l. l ++ two.told.0) one.told.1 ∙ append_assoc u.told one.told.0 two.told.0);
@@ -82,6 +84,7 @@ keeps-gains acts o r ts v m w g is = record {
     plan = ap (λ u. u.plan) is ∙ g.plan;
     happened = refl;
     serves = λ p. ap (λ u. u.serves p) is ∙ g.serves p;
+    advances = subst (Advances v) (sym is) (advances-gains ts (works_for o v) m g);
   };
   still = λ apart. ap (λ u. u.happened) is ∙ g.happened;
   told = (ts, ap (λ u. u.told) is ∙ g.told);
@@ -91,7 +94,7 @@ keeps-gains acts o r ts v m w g is = record {
 pub gains-goes : (acts : Bool) (ts : List ToldItem) (v w : LaneView) → Gains ts v w → LaneGoes acts v w
 gains-goes acts ts v w g = record {
   keeps = record {
-    same = record { sys = g.sys; lane = g.lane; world = g.world; plan = g.plan; happened = refl; serves = g.serves };
+    same = record { sys = g.sys; lane = g.lane; world = g.world; plan = g.plan; happened = refl; serves = g.serves; advances = advances-gains ts v w g };
     still = λ apart. g.happened;
     told = (ts, g.told);
     log = (map (placed_by v.lane) ts, g.log);
@@ -106,7 +109,7 @@ goes-none acts v = gains-goes acts [] v v (gains-none v)
 -- the codes that a lane handed in and found are no part of what is kept
 pub keeps-codes : (acts : Bool) (v m : LaneView) (stops answered : List ℕ) → KeepsLane acts v m → KeepsLane acts v (record m { stops = stops; answered = answered })
 keeps-codes acts v m stops answered k = record {
-  same = record { sys = k.same.sys; lane = k.same.lane; world = k.same.world; plan = k.same.plan; happened = refl; serves = k.same.serves };
+  same = record { sys = k.same.sys; lane = k.same.lane; world = k.same.world; plan = k.same.plan; happened = refl; serves = k.same.serves; advances = k.same.advances };
   still = k.still;
   told = k.told;
   log = k.log;
@@ -158,7 +161,7 @@ halts-lane acts v w halt.Stopped (inr h) =
 -- a look in which nothing happened
 pub kept-still : (acts : Bool) (v w : LaneView) → IsLaneKept v w → w.happened ≡ v.happened → KeepsLane acts v w
 kept-still acts v w k still = record {
-  same = record { sys = k.sys; lane = k.lane; world = k.world; plan = k.plan; happened = refl; serves = k.serves };
+  same = record { sys = k.sys; lane = k.lane; world = k.world; plan = k.plan; happened = refl; serves = k.serves; advances = advances-still v w k.told k.rise };
   still = λ apart. still;
   told = ([], k.told ∙ sym (append-nil v.told));
   log = k.log;
@@ -167,7 +170,7 @@ kept-still acts v w k still = record {
 -- one in which something may have happened
 pub kept-acts : (acts : Bool) (v w : LaneView) → acts ≡ true → IsLaneKept v w → KeepsLane acts v w
 kept-acts acts v w acting k = record {
-  same = record { sys = k.sys; lane = k.lane; world = k.world; plan = k.plan; happened = refl; serves = k.serves };
+  same = record { sys = k.sys; lane = k.lane; world = k.world; plan = k.plan; happened = refl; serves = k.serves; advances = advances-still v w k.told k.rise };
   still = λ apart. let wrong : true ≡ false = sym acting ∙ apart in absurd (cc);
   told = ([], k.told ∙ sym (append-nil v.told));
   log = k.log;

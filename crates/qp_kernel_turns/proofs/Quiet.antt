@@ -99,6 +99,7 @@ gains-set o r ts a b h = record {
   answered = h.answered;
   mark = h.mark;
   rise = h.rise;
+  between = h.between;
   shown = h.shown;
   own = h.own;
   event = h.event;

@@ -1,5 +1,5 @@
 -- One object's start: to its end, to its assertion, or to where the lane has no room.
-use Rattle.std.proofs.Common.{◌≡◌, ℕ, ◌+◌, ◌<◌, ◌≤◌, ◌==◌, cond, Bool, true, false, List, [], ◌∷◌, ◌++◌, map, length, refl, sym, ◌∙◌, ap, subst, inl, inr, Option, Some, None, arith, append_assoc, append-nil, length-append}
+use Rattle.std.proofs.Common.{◌≡◌, ℕ, zero, suc, ◌+◌, ◌<◌, ◌≤◌, ◌==◌, cond, Bool, true, false, List, [], ◌∷◌, ◌++◌, map, length, refl, sym, ◌∙◌, ap, subst, inl, inr, Option, Some, None, arith, append_assoc, append-nil, length-append}
 use Rattle.std.specs.Prelude.{◌⊎◌}
 use Rattle.std.specs.List.{list_all}
 use Rattle.std.proofs.lemmas.Bool.Decides.{nat_tests}
@@ -41,11 +41,14 @@ use Rattle.qp_kernel.specs.Stages.{is_resting, may_wait}
 use Rattle.qp_kernel.specs.Turning.{IsObject, KernelState, Stands, having, moved, spill_told, Terms}
 use Rattle.qp_kernel.proofs.KernelLaws.{assertion_ends_start, full_lane_ends, object_starts, spill_ends_start}
 use Rattle.qp_kernel.proofs.OrderGrowth.{in_order-grows, order-ends}
-use Rattle.qp_kernel.proofs.TurnLemmas.{FailedForm, start-failed, start-form}
+use Rattle.qp_kernel.proofs.TurnLemmas.{FailedForm, start-cut, start-failed, start-form}
 use Rattle.qp_kernel_turns.specs.declared.objects.Objects.{Objects}
 use Rattle.qp_kernel_turns.specs.declared.objects.Slot.{Slot}
 use Rattle.qp_kernel_turns.specs.Objects.{IsAt, MayStartAt, Puts, StartsAt}
 use Rattle.qp_kernel_turns.specs.Knowing.{HandsCover, HandsFollow, HasNotStarted, IsObjectWithChart, IsObjectAt, KnowsAt, KnowsObject, StageIs, last_is}
+use Rattle.qp_model_order.specs.SourceRun.{untold_all}
+use Rattle.qp_kernel.specs.Starts.{IsStartAlone}
+use Rattle.qp_kernel.proofs.StartsLemmas.{done-spills, done-starts, own-alone, own-spills}
 use Rattle.qp_kernel_turns.specs.Starting.{GrowsAlong, GrowsAndStops, HasBegun, StartStopped}
 use Rattle.qp_kernel_turns.specs.Turning.{TurnStopped, idle_in}
 use Rattle.qp_kernel_turns.proofs.Ends.{EndsFew, ends-few, ends-so}
@@ -197,7 +200,7 @@ module _ (sys : System) (sound : IsSound sys) (terms : Terms) (p : ℕ) (others 
       by false is = resting-waits (moved s.stages p (stage.Resting c) d.priority) (rests-behind c d found is)
 
   -- the lane at the end of a start
-  gains-on : (g : List Told) (mid : LaneView) → Grows g V mid → Gains (map (for_object p) g) v (works_for v.by mid)
+  pub gains-on : (g : List Told) (mid : LaneView) → Grows g V mid → Gains (map (for_object p) g) v (works_for v.by mid)
   gains-on g mid h = subst (λ o. Gains (map (for_object o) g) v (works_for v.by mid)) is-mine (gains-set x.me v.by (map (for_object x.me) g) v mid h)
 
   -- It came to its end.
@@ -296,15 +299,17 @@ module _ (sys : System) (sound : IsSound sys) (terms : Terms) (p : ℕ) (others 
         let form = start-form sys (actor n.object n.chart) (first_config n.object) t.g c (starts-as (tell t.g) (Some c) t.starts) in
         unstim-grows (map (for_object p) t.g) v w gains-w (unstim-items p t.g form.unstim) none
 
-    pub done-grows : GrowsAlong xs v zs w
-    done-grows = record { ts = map (for_object p) t.g; gains = gains-w; hands = done-follows }
+    pub done-grows : GrowsAlong 1 xs v zs w
+    done-grows =
+        let form = start-form sys (actor n.object n.chart) (first_config n.object) t.g c (starts-as (tell t.g) (Some c) t.starts) in
+        record { ts = map (for_object p) t.g; gains = gains-w; hands = done-follows; are = done-starts p t.g form.front form.whole form.own }
 
   -- An assertion ended it.
   module _ (y : Lasting) (m w : LaneView) (w-is : w ≡ works_for v.by m) (a : StartAsserted home x.lasting y V m) where
     abbrev before : LaneView
     before = works_for v.by a.mid
 
-    asserted-stops : Stops a.code before w
+    pub asserted-stops : Stops a.code before w
     asserted-stops = w-is ∙ ap (works_for v.by) a.stops
 
     starts-none : Starts sys (actor n.object n.chart) (first_config n.object) (tell a.g) None
@@ -331,7 +336,11 @@ module _ (sys : System) (sound : IsSound sys) (terms : Terms) (p : ℕ) (others 
     pub asserted-order : IsInOrder sys 0 v → (end : ℕ) → may_cut end ≡ true → IsOrderEnded sys end w
     asserted-order order end cut = ended-stops sys end a.code before w asserted-stops (order-ends sys 0 end (map (for_object p) a.g) v before cut (gains-on a.g a.mid a.grows) (own-lookless p a.g form.own) form.ends order)
 
-    pub asserted-grows : GrowsAndStops a.code v w
+    pub asserted-alone : (m : ℕ) → 0 < m → IsStartAlone m (untold_all (map (for_object p) a.g))
+    asserted-alone zero lt = absurd (omega (arith, lt))
+    asserted-alone (suc m) lt = own-alone m p a.g form.own
+
+    abbrev pub asserted-grows : GrowsAndStops a.code v w
     asserted-grows = record { ts = map (for_object p) a.g; mid = before; gains = gains-on a.g a.mid a.grows; stops = asserted-stops }
 
   -- Memory was refused.
@@ -349,10 +358,10 @@ module _ (sys : System) (sound : IsSound sys) (terms : Terms) (p : ℕ) (others 
     abbrev many : ℕ
     many = length b.mid.told
 
-    spilled-stops : Stops 6 spilled w
+    pub spilled-stops : Stops 6 spilled w
     spilled-stops = w-is ∙ ap (works_for v.by) b.stops
 
-    gains-spill : Gains (spill_told many ∷ []) filled spilled
+    pub gains-spill : Gains (spill_told many ∷ []) filled spilled
     gains-spill = gains-set b.mid.by v.by (spill_told many ∷ []) b.mid b.full b.spills
 
     starts-begun : Starts sys (actor n.object n.chart) (first_config n.object) (tell (b.g ++ b.begins.0)) b.begins.1
@@ -423,7 +432,25 @@ module _ (sys : System) (sound : IsSound sys) (terms : Terms) (p : ℕ) (others 
         let ordered = in_order-grows sys 0 (map (for_object p) b.g) v filled (gains-on b.g b.mid b.grows) quiet.lookless (calm-items p b.g ∙ quiet.calm) order in
         ended-stops sys end 6 spilled w spilled-stops (order-ends sys 0 end (spill_told many ∷ []) filled spilled cut gains-spill (refl, tt) (spill-last many) ordered)
 
-    pub spilled-grows : GrowsAndStops 6 v w
+    spilled-behind : (m : ℕ) (more : List Told) → b.begins.0 ≡ more → (last : Option Config) → b.begins.1 ≡ last → IsStartAlone (suc m) (untold_all (map (for_object p) b.g ++ spill_told many ∷ []))
+    spilled-behind m [] none None last = absurd (b.begins.3 last none)
+    spilled-behind m [] none (Some c) last =
+        let whole : b.g ++ b.begins.0 ≡ b.g = ap (λ h. b.g ++ h) none ∙ append-nil b.g in
+        let starts : Starts sys (actor n.object n.chart) (first_config n.object) (tell b.g) (Some c) =
+        subst (λ h. Starts sys (actor n.object n.chart) (first_config n.object) (tell h) (Some c)) whole
+        (subst (λ e. Starts sys (actor n.object n.chart) (first_config n.object) (tell (b.g ++ b.begins.0)) e) last starts-begun) in
+        let form = start-form sys (actor n.object n.chart) (first_config n.object) b.g c starts in
+        done-spills m p many b.g form.front form.whole form.own
+    spilled-behind m (u ∷ more) left last is =
+        own-spills m p many b.g
+        (start-cut sys (actor n.object n.chart) (first_config n.object) b.g (tell b.begins.0) b.begins.1 (λ none. let wrong : tell (u ∷ more) ≡ [] = sym (ap tell left) ∙ none in cc) quiet.calm
+        (subst (λ ps. Starts sys (actor n.object n.chart) (first_config n.object) ps b.begins.1) (map-append Tell b.g b.begins.0) starts-begun))
+
+    pub spilled-alone : (m : ℕ) → 0 < m → IsStartAlone m (untold_all (map (for_object p) b.g ++ spill_told many ∷ []))
+    spilled-alone zero lt = absurd (omega (arith, lt))
+    spilled-alone (suc m) lt = spilled-behind m b.begins.0 refl b.begins.1 refl
+
+    abbrev pub spilled-grows : GrowsAndStops 6 v w
     spilled-grows = record {
       ts = map (for_object p) b.g ++ spill_told many ∷ [];
       mid = spilled;
@@ -459,9 +486,9 @@ module _ (sys : System) (sound : IsSound sys) (terms : Terms) (p : ℕ) (others 
       by m w-is (inl a) = let few = ends-few sys terms end_asserted _ _ _ (asserted-ends r.later.object.lasting m w w-is a end_asserted refl) threaded in let none = k.at.idle in omega (arith, few, none)
       by m w-is (inr b) = let few = ends-few sys terms end_asserted _ _ _ (spilled-ends r.later.object.lasting m w w-is b end_asserted refl) threaded in let none = k.at.idle in omega (arith, few, none)
 
-  pub stopped-start : (level : ℕ) (ys : Objects) (w : LaneView) → StartsAt sys level p xs ys v w step.Stopped → IsInOrder sys 0 v → ((most : Terms) → TurnStopped sys most v w) → ((most : Terms) → most.threaded ≡ true → idle_in sys most w.told (has_stim (lanes_of w)) ≤ 0) → StartStopped sys v w
-  stopped-start level ys w r order turn none = let o = opened level ys w step.Stopped r in by o.0 o.2 o.1.1
+  pub stopped-start : 0 < length sys.objects → (level : ℕ) (ys : Objects) (w : LaneView) → StartsAt sys level p xs ys v w step.Stopped → IsInOrder sys 0 v → ((most : Terms) → TurnStopped sys most v w) → ((most : Terms) → most.threaded ≡ true → idle_in sys most w.told (has_stim (lanes_of w)) ≤ 0) → (h : StartStopped sys v w) × (h.before ≡ 0)
+  stopped-start some level ys w r order turn none = let o = opened level ys w step.Stopped r in by o.0 o.2 o.1.1
     where
-      by : (m : LaneView) → w ≡ works_for v.by m → (StartAsserted home x.lasting r.later.object.lasting V m) ⊎ (StartSpilled home x.lasting r.later.object.lasting V m) → StartStopped sys v w
-      by m w-is (inl a) = record { turn = turn; none = none; order = asserted-order r.later.object.lasting m w w-is a order; code = a.code; some = a.some; last = ap (λ u. last_code u.told) (w-is ∙ ap (works_for v.by) a.stops) ∙ a.last; grows = asserted-grows r.later.object.lasting m w w-is a }
-      by m w-is (inr b) = record { turn = turn; none = none; order = spilled-order r.later.object.lasting m w w-is b order; code = 6; some = omega arith; last = spilled-last_code r.later.object.lasting m w w-is b; grows = spilled-grows r.later.object.lasting m w w-is b }
+      by : (m : LaneView) → w ≡ works_for v.by m → (StartAsserted home x.lasting r.later.object.lasting V m) ⊎ (StartSpilled home x.lasting r.later.object.lasting V m) → (h : StartStopped sys v w) × (h.before ≡ 0)
+      by m w-is (inl a) = (record { turn = turn; none = none; order = asserted-order r.later.object.lasting m w w-is a order; code = a.code; some = a.some; last = ap (λ u. last_code u.told) (w-is ∙ ap (works_for v.by) a.stops) ∙ a.last; grows = asserted-grows r.later.object.lasting m w w-is a; before = 0; left = some; alone = asserted-alone r.later.object.lasting m w w-is a }, refl)
+      by m w-is (inr b) = (record { turn = turn; none = none; order = spilled-order r.later.object.lasting m w w-is b order; code = 6; some = omega arith; last = spilled-last_code r.later.object.lasting m w w-is b; grows = spilled-grows r.later.object.lasting m w w-is b; before = 0; left = some; alone = spilled-alone r.later.object.lasting m w w-is b }, refl)

@@ -2,7 +2,7 @@
 -- run stops.
 use Rattle.std.specs.Prelude.{◌≡◌, ℕ, ◌<◌, ◌⊎◌, Bool, false, List, ◌∷◌, ◌++◌, length, Ok, Err}
 use Rattle.std.specs.declared.result.Result.{Result}
-use Rattle.qp_calls.specs.LaneView.{Happening, LaneView}
+use Rattle.qp_calls.specs.LaneView.{Advances, Happening, LaneView}
 use Rattle.qp_calls.specs.Notes.{last_code}
 use Rattle.qp_dispatch.specs.declared.objects.Turn.{Turn}
 use Rattle.qp_dispatch.specs.declared.objects.Turn.TheVariants as turn
@@ -11,8 +11,8 @@ use Rattle.qp_dispatch.specs.declared.steps.Step.TheVariants as step
 use Rattle.qp_kernel_turns.specs.declared.halting.Halt.{Halt}
 use Rattle.qp_kernel_turns.specs.declared.halting.Halt.TheVariants as halt
 
--- It is the same lane of the same world, for the same system and stimuli. A lane that was given to code over any lanes comes back as this, whatever
--- the answer was.
+-- It is the same lane of the same world, for the same system and stimuli, which went on from what it knew. A lane that was given to code over any
+-- lanes comes back as this, whatever the answer was.
 pub record SameLane (v w : LaneView) : Type 0 where
   pub sys : w.sys ≡ v.sys
   pub lane : w.lane ≡ v.lane
@@ -20,6 +20,7 @@ pub record SameLane (v w : LaneView) : Type 0 where
   pub plan : w.plan ≡ v.plan
   pub happened : w.happened ≡ v.happened
   pub serves : (o : ℕ) → w.serves o ≡ v.serves o
+  pub advances : Advances v w
 
 -- a list with what came behind it
 abbrev pub IsFront : {A : Type 0} → List A → List A → Type 0

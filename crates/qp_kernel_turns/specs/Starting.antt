@@ -1,5 +1,5 @@
 -- The start of all objects, in ascending priority.
-use Rattle.std.specs.Prelude.{◌≡◌, ℕ, ◌<◌, ◌≤◌, true, false, List, [], map, drop, Some}
+use Rattle.std.specs.Prelude.{◌≡◌, ℕ, ◌<◌, ◌≤◌, true, false, List, [], length, map, drop, Some}
 use Rattle.qp_chart.specs.StateTree.{has}
 use Rattle.qp_model.specs.declared.systems.System.{System}
 use Rattle.qp_model.specs.declared.systems.ObjectDef.{ObjectDef}
@@ -13,6 +13,8 @@ use Rattle.qp_calls.specs.Notes.{last_code}
 use Rattle.qp_dispatch.specs.declared.steps.Step.{Step}
 use Rattle.qp_dispatch.specs.declared.steps.Step.TheVariants as step
 use Rattle.qp_model_order.specs.RunOrder.{has_stim}
+use Rattle.qp_model_order.specs.SourceRun.{untold_all}
+use Rattle.qp_kernel.specs.Starts.{AreStarts, IsStartAlone}
 use Rattle.qp_kernel.specs.Happenings.{IsInOrder, IsOrderEnded, has_no_stim, lanes_of}
 use Rattle.qp_kernel.specs.Stages as stage
 use Rattle.qp_kernel.specs.Stages.{is_resting}
@@ -47,11 +49,12 @@ pub record HaveBegun (sys : System) (left : List ℕ) (xs : Objects) (v : LaneVi
 abbrev pub left_from : System → ℕ → List ℕ
 left_from sys place = map (λ d. d.priority) (drop place sys.objects)
 
--- the lane went on by records alone, and the hands changed as what the objects keep
-pub record GrowsAlong (xs : Objects) (v : LaneView) (ys : Objects) (w : LaneView) : Type 0 where
+-- the lane went on by the records of so many starts alone, each to its end, and the hands changed as what the objects keep
+pub record GrowsAlong (starts : ℕ) (xs : Objects) (v : LaneView) (ys : Objects) (w : LaneView) : Type 0 where
   pub ts : List ToldItem
   pub gains : Gains ts v w
   pub hands : HandsFollow xs v ys w
+  pub are : AreStarts starts (untold_all ts)
 
 -- the lane went on by records alone, and then stopped with this code
 pub record GrowsAndStops (code : ℕ) (v w : LaneView) : Type 0 where
@@ -60,7 +63,8 @@ pub record GrowsAndStops (code : ℕ) (v w : LaneView) : Type 0 where
   pub gains : Gains ts v mid
   pub stops : Stops code mid w
 
--- a start ended in its assertion, or found no room; the code is that of the last record, and no row of looks has come
+-- A start ended in its assertion, or found no room, behind so many that came to their end; the code is that of the last record, and no row of looks has
+-- come. Nothing else stands in the lane.
 pub record StartStopped (sys : System) (v w : LaneView) : Type 0 where
   pub turn : (terms : Terms) → TurnStopped sys terms v w
   pub none : (terms : Terms) → terms.threaded ≡ true → idle_in sys terms w.told (has_stim (lanes_of w)) ≤ 0
@@ -69,12 +73,15 @@ pub record StartStopped (sys : System) (v w : LaneView) : Type 0 where
   pub some : 0 < code
   pub last : last_code w.told ≡ code
   pub grows : GrowsAndStops code v w
+  pub before : ℕ
+  pub left : before < length sys.objects
+  pub alone : (n : ℕ) → before < n → IsStartAlone n (untold_all grows.ts)
 
 -- the first object that has not started starts, and those from this place on are left
 abbrev pub StartsOne : System → ℕ → Objects → Objects → LaneView → LaneView → Step → Type 0
 StartsOne sys place xs ys v w step.Point = ⊥
-StartsOne sys place xs ys v w step.Done = HaveBegun sys (left_from sys place) ys w × GrowsAlong xs v ys w
-StartsOne sys place xs ys v w step.Stopped = StartStopped sys v w
+StartsOne sys place xs ys v w step.Done = HaveBegun sys (left_from sys place) ys w × GrowsAlong 1 xs v ys w
+StartsOne sys place xs ys v w step.Stopped = (h : StartStopped sys v w) × (h.before ≡ 0)
 StartsOne sys place xs ys v w step.Memory = GrowsAndStops 7 v w
 
 -- all objects rest, and a kernel that has not looked yet may look
@@ -83,7 +90,7 @@ pub record AllStarted (sys : System) (xs ys : Objects) (v w : LaneView) : Type 0
   pub base : (terms : Terms) → KnowsAt (HasBegun sys []) sys terms 0 [] ys w
   pub order : IsInOrder sys 0 w
   pub no_stim : has_no_stim w
-  pub grows : GrowsAlong xs v ys w
+  pub grows : GrowsAlong (length sys.objects) xs v ys w
 
 abbrev pub StartsAll : System → Objects → Objects → LaneView → LaneView → Step → Type 0
 StartsAll sys xs ys v w step.Point = ⊥

@@ -2,6 +2,7 @@
 use Rattle.std.proofs.Common.{◌≡◌, ◌++◌, List, [], refl, sym, ◌∙◌, ap, append_assoc, append-nil}
 use Rattle.qp_model.specs.Told.{ToldItem}
 use Rattle.qp_calls.specs.LaneView.{Gains, LaneView, Roomier}
+use Rattle.qp_calls.proofs.Advancing.{advances-none}
 use Rattle.qp_port_lanes.specs.Passing.{Glances, GoesAlong}
 use Rattle.qp_port_lanes.proofs.Going.{same-gains}
 use Rattle.qp_port_lanes.proofs.Turned.{same-then}
@@ -13,7 +14,7 @@ along-none v = record {
   hands = refl;
   stops = refl;
   answered = refl;
-  keeps = record { sys = refl; lane = refl; world = refl; plan = refl; happened = refl; serves = λ o. refl };
+  keeps = record { sys = refl; lane = refl; world = refl; plan = refl; happened = refl; serves = λ o. refl; advances = advances-none v };
 }
 
 pub along-glances : (v w : LaneView) → Glances v w → GoesAlong v w
@@ -26,7 +27,7 @@ along-room v w room = record {
   hands = rw room.same refl;
   stops = rw room.same refl;
   answered = rw room.same refl;
-  keeps = rw room.same (record { sys = refl; lane = refl; world = refl; plan = refl; happened = refl; serves = λ o. refl });
+  keeps = rw room.same (record { sys = refl; lane = refl; world = refl; plan = refl; happened = refl; serves = λ o. refl; advances = advances-none v });
 }
 
 pub along-gains : (ts : List ToldItem) (v w : LaneView) → Gains ts v w → w.hands ≡ v.hands → GoesAlong v w

@@ -18,22 +18,7 @@ use Rattle.qp_port_lanes.specs.Answers.{Feeds, IsFed, is_idle, is_short, turn_by
 use Rattle.qp_port_lanes.specs.Passing.{Passes}
 use Rattle.qp_port_lanes.specs.SourceTurning.{SourceTurns}
 use Rattle.qp_port_lanes.proofs.Seeing.{SeenMore}
-
-stop-small : (b : Body) → stop_code b ≤ 6
-stop-small (NoEntry a f l m) = omega arith
-stop-small (NoBlock p n free) = omega arith
-stop-small (Armed t n c) = omega arith
-stop-small (BadTicks t n i) = omega arith
-stop-small (NoLifo a f l m) = omega arith
-stop-small Spent = omega arith
-stop-small (Spill n) = omega arith
-stop-small _ = omega arith
-
-last-small : (ts : List ToldItem) → last_code ts ≤ 6
-unfolding last_code
-last-small [] = omega arith
-last-small (t ∷ []) = stop-small t.told.body
-last-small (t ∷ u ∷ ts) = last-small (u ∷ ts)
+use Rattle.qp_calls_log.proofs.NoteLemmas.{last-small}
 
 pub fed-same : (v w : LaneView) → w.stops ≡ v.stops → IsFed v → IsFed w
 fed-same v w same h = subst (λ codes. list_any (λ code. code == 7) codes ≡ false) (sym same) h

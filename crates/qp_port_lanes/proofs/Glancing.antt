@@ -14,8 +14,9 @@ use Rattle.qp_model.specs.WordLaw.{is_object}
 use Rattle.qp_model.proofs.ObjectLemmas.{object-there}
 use Rattle.qp_model.proofs.KnowingLemmas.{same_word-is}
 use Rattle.qp_calls.specs.declared.answers.Counts as counts
-use Rattle.qp_calls.specs.LaneView.{LaneView, Looks, Shown, Counts}
+use Rattle.qp_calls.specs.LaneView.{LaneView, Counts}
 use Rattle.qp_calls.specs.Clauses.{Counted}
+use Rattle.qp_calls.proofs.Advancing.{advances-looks, advances-none, advances-then, looks-rise}
 use Rattle.qp_port_lanes.specs.Passing.{Glances, IsClear, ShowsEntry}
 
 is-object : (sys : System) (k : ℕ) (d : ObjectDef) → slice_get sys.objects k ≡ Some d → IsTrue (is_object sys d.priority)
@@ -46,15 +47,8 @@ glances-none v = record {
   hands = refl;
   stops = refl;
   answered = refl;
-  keeps = record { sys = refl; lane = refl; world = refl; plan = refl; happened = refl; serves = λ o. refl };
+  keeps = record { sys = refl; lane = refl; world = refl; plan = refl; happened = refl; serves = λ o. refl; advances = advances-none v };
 }
-
-pub looks-rise : (w : Word) (n : ℕ) (s : Shown) (u v : LaneView) → Looks w n s u v → (x : Word) → u.mark x ≤ v.mark x
-looks-rise w n s u v h x = by (same_word w x) refl
-  where
-    by : (b : Bool) → same_word w x ≡ b → u.mark x ≤ v.mark x
-    by false e = let same = h.mark x e in omega (arith, same)
-    by true e = subst (λ y. u.mark y ≤ v.mark y) (same_word-is w x e) (let here = h.here in let up = h.rise in omega (arith, here, up))
 
 pub glances-then : (u v w : LaneView) (p : ℕ) (c : counts.Counts) → Glances u v → Counted p v w c → Glances u w
 glances-then u v w p c a h =
@@ -74,6 +68,7 @@ glances-then u v w p c a h =
         plan = h.0.plan ∙ a.keeps.plan;
         happened = h.0.happened ∙ a.keeps.happened;
         serves = λ o. h.0.serves o ∙ a.keeps.serves o;
+        advances = advances-then u v w a.keeps.advances (advances-looks (word.Queue p) (c.f + c.l + c.m) (Counts c.f c.l c.m) v w h.0);
       };
     }
 

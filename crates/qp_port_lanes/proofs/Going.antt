@@ -13,10 +13,11 @@ use Rattle.qp_model.specs.Knowing.{told_alone}
 use Rattle.qp_model.specs.Kernels.{may_try}
 use Rattle.qp_model.specs.Ends.{is_end, is_spill, may_cut, may_cut}
 use Rattle.qp_model.specs.Sources.{SourceRuns, AllDone, BeforeStimulus, EndsIn, none_twice}
-use Rattle.qp_calls.specs.LaneView.{LaneView, Gains, Grows, GrowsOf}
+use Rattle.qp_calls.specs.LaneView.{Advances, LaneView, Gains, Grows, GrowsOf}
 use Rattle.qp_calls.specs.LaneLaws.{IsWithinLimit}
 use Rattle.qp_calls.specs.Notes.{spills_told}
 use Rattle.qp_calls.specs.Clauses.{Stops}
+use Rattle.qp_calls.proofs.Advancing.{advances-gains}
 use Rattle.qp_model_order.specs.SourceRun.{untold_all}
 use Rattle.qp_model_order.specs.Laws.{stimulus_told}
 use Rattle.qp_model_order.proofs.SourceLemmas.{runs-before}
@@ -102,7 +103,7 @@ few-done sys ss n v at within =
 
 -- what a gain keeps
 pub same-gains : (ts : List ToldItem) (v w : LaneView) → Gains ts v w → SameLane v w
-same-gains ts v w g = record { sys = g.sys; lane = g.lane; world = g.world; plan = g.plan; happened = g.happened; serves = g.serves }
+same-gains ts v w g = record { sys = g.sys; lane = g.lane; world = g.world; plan = g.plan; happened = g.happened; serves = g.serves; advances = advances-gains ts v w g }
 
 pub same-stops : (code : ℕ) (u v w : LaneView) → SameLane u v → Stops code v w → SameLane u w
 same-stops code u v w same e = record {
@@ -112,6 +113,7 @@ same-stops code u v w same e = record {
   plan = ap (λ x. x.plan) e ∙ same.plan;
   happened = ap (λ x. x.happened) e ∙ same.happened;
   serves = λ o. ap (λ x. x.serves o) e ∙ same.serves o;
+  advances = subst (Advances u) (sym e) same.advances;
 }
 
 -- The next stimulus.

@@ -8,6 +8,7 @@ use Rattle.qp_calls.specs.declared.answers.Counts as counts
 use Rattle.qp_calls.specs.Clauses.{Counted}
 use Rattle.qp_calls.specs.LaneView.{Gains, Grows, LaneView}
 use Rattle.qp_calls.specs.Notes.{last_code}
+use Rattle.qp_calls.proofs.Advancing.{advances-looks}
 use Rattle.qp_calls.proofs.NoteLemmas.{last-snoc}
 use Rattle.qp_dispatch.specs.declared.objects.Object.{Object}
 use Rattle.qp_dispatch.specs.declared.steps.Step.{Step}
@@ -21,7 +22,7 @@ use Rattle.qp_kernel_turns.proofs.Lanes.{LaneSteps, goes-then, keeps-gains, stop
 pub counts-goes : (p : ℕ) (v w : LaneView) (c : counts.Counts) → Counted p v w c → LaneGoes false v w
 counts-goes p v w c looks = record {
   keeps = record {
-    same = record { sys = looks.0.sys; lane = looks.0.lane; world = looks.0.world; plan = looks.0.plan; happened = refl; serves = looks.0.serves };
+    same = record { sys = looks.0.sys; lane = looks.0.lane; world = looks.0.world; plan = looks.0.plan; happened = refl; serves = looks.0.serves; advances = advances-looks _ _ _ v w looks.0 };
     still = λ apart. looks.0.happened;
     told = ([], looks.0.told ∙ sym (append-nil v.told));
     log = ([], looks.0.log ∙ sym (append-nil v.log));

@@ -7,7 +7,8 @@ use Rattle.qp_calls.specs.LaneView.{LaneView}
 use Rattle.qp_calls_log.specs.Meeting.{Met}
 use Rattle.qp_kernel_turns.specs.Lanes.{SameLane}
 use Rattle.qp_port_lanes.specs.Laws.{SeesMore}
-use Rattle.qp_port_lanes.proofs.Glancing.{looks-rise}
+use Rattle.qp_calls.proofs.Advancing.{advances-looks, advances-same, looks-rise}
+use Rattle.qp_calls_log.proofs.Meetings.{advances-met}
 
 -- nothing of it changed but what it has seen, and the codes that it found
 pub record SeenMore (v w : LaneView) : Type 0 where
@@ -24,7 +25,7 @@ seen-met v u w h = record {
     told = ap (λ x. x.told) h.same;
     by = ap (λ x. x.by) h.same;
     hands = ap (λ x. x.hands) h.same;
-    rise = λ p. let most = h.mark (word.Queue p) refl in omega (arith, most);
+    rise = λ p. let most = h.mark (word.Queue p) in omega (arith, most);
     shown = λ p. h.own (word.Queue p);
   };
   same = record {
@@ -34,6 +35,7 @@ seen-met v u w h = record {
     plan = ap (λ x. x.plan) h.same;
     happened = ap (λ x. x.happened) h.same;
     serves = λ o. ap (λ x. x.serves o) h.same;
+    advances = advances-met v u w h;
   };
   own = λ a. ap (λ x. x.own a) h.same;
   stops = ap (λ x. x.stops) h.same;
@@ -50,7 +52,7 @@ seen-counted p v w c h = record {
     rise = λ q. looks-rise (word.Queue p) _ _ v w h.0 (word.Queue q);
     shown = λ q. h.0.shown (word.Queue q);
   };
-  same = record { sys = h.0.sys; lane = h.0.lane; world = h.0.world; plan = h.0.plan; happened = h.0.happened; serves = h.0.serves };
+  same = record { sys = h.0.sys; lane = h.0.lane; world = h.0.world; plan = h.0.plan; happened = h.0.happened; serves = h.0.serves; advances = advances-looks _ _ _ v w h.0 };
   own = h.0.own;
   stops = h.0.stops;
   heard = let same = ap length h.0.answered in omega (arith, same);
@@ -73,6 +75,7 @@ seen-answered v w codes e more = record {
     plan = ap (λ x. x.plan) e;
     happened = ap (λ x. x.happened) e;
     serves = λ o. ap (λ x. x.serves o) e;
+    advances = advances-same v w (ap (λ x. x.told) e) (ap (λ x. x.mark) e);
   };
   own = λ a. ap (λ x. x.own a) e;
   stops = ap (λ x. x.stops) e;

@@ -32,7 +32,11 @@ use Rattle.qp_dispatch.specs.Resume.{held_in}
 use Rattle.qp_dispatch.specs.Resume.{CanTakeSteps as ObjectReady}
 use Rattle.qp_dispatch.specs.Runs.{Setting}
 use Rattle.qp_dispatch.specs.Starting.{StartAsserted, StartDone, StartSpilled}
+use Rattle.qp_model_order.specs.SourceRun.{untold_all}
 use Rattle.qp_kernel.specs.Turning.{spill_told}
+use Rattle.qp_kernel.proofs.TurnLemmas.{start-cut, start-failed, start-form}
+use Rattle.qp_kernel.specs.Starts.{AreStarts, IsStartAlone}
+use Rattle.qp_kernel.proofs.StartsLemmas.{done-spills, done-starts, own-alone, own-spills}
 use Rattle.qp_port_law.specs.Homes.{HomeEnds}
 use Rattle.qp_kernel_turns.specs.Knowing.{own_count}
 use Rattle.qp_kernel_turns.proofs.Quiet.{cut-quiet}
@@ -41,7 +45,7 @@ use Rattle.qp_port_law.specs.HomeLaws.{IsHomeOf, HomeRests}
 use Rattle.qp_port_law.proofs.HomeLaws.{full_home_ends, home_start_fails, home_start_is_cut, home_starts}
 use Rattle.qp_port_lanes.specs.declared.home.Home.{Home}
 use Rattle.qp_port_lanes.specs.At.{HasEmptyLane, IsHome, IsMade}
-use Rattle.qp_port_lanes.specs.Turning.{HomeStarts, HomeStops}
+use Rattle.qp_port_lanes.specs.Turning.{HomeStarts, HomeStops, StartsAlone}
 use Rattle.qp_port_lanes.proofs.Resting.{home-of}
 
 -- what is found at a priority has it
@@ -217,4 +221,49 @@ module _ (sys : System) (sound : IsSound sys) (x : Home) (v : LaneView) (made : 
       by step.Done mid (same, t) is = λ budget. done budget level y mid w is same t
       by step.Stopped mid (same, inl a) is = λ budget. asserts budget (record x { object = y; ceiling = level }) mid w is (ap (λ z. z.started) same) a
       by step.Stopped mid (same, inr b) is = λ budget. spills budget (record x { object = y; ceiling = level }) mid w is (ap (λ z. z.started) same) b
+      by step.Memory mid (same, t) is = tt
+
+  -- Nothing else stands in the lane.
+
+  alone-done : (level : ℕ) (y : Object) (mid w : LaneView) → w ≡ works_for v.by mid → StartDone home level k y.lasting V mid → AreStarts 1 (untold_all w.told)
+  alone-done level y mid w w-is t =
+      let form = start-form sys (actor d chart) (first_config d) t.g (config_of y.lasting) (starts-as (tell t.g) (Some (config_of y.lasting)) t.starts) in
+      subst (λ ts. AreStarts 1 (untold_all ts)) (sym (ap (λ u. u.told) w-is ∙ grown t.g mid t.grows)) (done-starts d.priority t.g form.front form.whole form.own)
+
+  alone-asserts : (y : Object) (mid w : LaneView) → w ≡ works_for v.by mid → StartAsserted home k y.lasting V mid → IsStartAlone 1 (untold_all w.told)
+  alone-asserts y mid w w-is a =
+      let form = start-failed sys (actor d chart) d.priority (first_config d) a.g (starts-as (tell a.g) None a.starts) in
+      subst (λ ts. IsStartAlone 1 (untold_all ts)) (sym (ap (λ u. u.told) w-is ∙ ap (λ u. u.told) a.stops ∙ grown a.g a.mid a.grows)) (own-alone 0 d.priority a.g form.own)
+
+  alone-spills : (y : Object) (mid w : LaneView) → w ≡ works_for v.by mid → StartSpilled home k y.lasting V mid → IsStartAlone 1 (untold_all w.told)
+  alone-spills y mid w w-is b =
+      subst (λ ts. IsStartAlone 1 (untold_all ts))
+      (sym (ap (λ u. u.told) w-is ∙ ap (λ u. u.told) b.stops ∙ b.spills.told ∙ ap (λ ts. ts ++ spill_told (length b.mid.told) ∷ []) (grown b.g b.mid b.grows)))
+      (by b.begins.0 refl b.begins.1 refl)
+    where
+      begins : Starts sys (actor d chart) (first_config d) (tell (b.g ++ b.begins.0)) b.begins.1
+      begins = starts-as (tell (b.g ++ b.begins.0)) b.begins.1 b.begins.2
+
+      -- behind its last record, or within
+      by : (more : List Told) → b.begins.0 ≡ more → (last : Option Config) → b.begins.1 ≡ last → IsStartAlone 1 (untold_all (map (for_object d.priority) b.g ++ spill_told (length b.mid.told) ∷ []))
+      by [] none None last = absurd (b.begins.3 last none)
+      by [] none (Some c) last =
+          let whole : b.g ++ b.begins.0 ≡ b.g = ap (λ h. b.g ++ h) none ∙ append-nil b.g in
+          let form = start-form sys (actor d chart) (first_config d) b.g c
+          (subst (λ h. Starts sys (actor d chart) (first_config d) (tell h) (Some c)) whole (subst (λ z. Starts sys (actor d chart) (first_config d) (tell (b.g ++ b.begins.0)) z) last begins)) in
+          done-spills 0 d.priority (length b.mid.told) b.g form.front form.whole form.own
+      by (u ∷ more) some last is =
+          own-spills 0 d.priority (length b.mid.told) b.g
+          (start-cut sys (actor d chart) (first_config d) b.g (tell b.begins.0) b.begins.1 (λ none. let wrong : tell (u ∷ more) ≡ [] = sym (ap tell some) ∙ none in cc)
+          (cut-quiet sys (actor d chart) d.priority (first_config d) b.g b.begins.0 b.begins.1 begins b.begins.3).calm
+          (subst (λ ps. Starts sys (actor d chart) (first_config d) ps b.begins.1) (map-append Tell b.g b.begins.0) begins))
+
+  pub alone-start : (level : ℕ) (y : Object) (w : LaneView) (answer : Step) → ObjectStarts sys level x.object y v w answer → StartsAlone w answer
+  alone-start level y w answer r = by answer r.0 (subst (λ c. StartsAs c sys level x.object y V r.0 answer) has-chart r.1) r.2
+    where
+      by : (answer : Step) (mid : LaneView) → StartsAs (Some chart) sys level x.object y V mid answer → w ≡ works_for v.by mid → StartsAlone w answer
+      by step.Point mid (same, t) is = t
+      by step.Done mid (same, t) is = alone-done level y mid w is t
+      by step.Stopped mid (same, inl a) is = alone-asserts y mid w is a
+      by step.Stopped mid (same, inr b) is = alone-spills y mid w is b
       by step.Memory mid (same, t) is = tt

@@ -9,10 +9,13 @@ use Rattle.qp_model.specs.Told.{Told, ToldItem, for_object, plain}
 use Rattle.qp_model_order.proofs.StimLemmas.{any-both}
 use Rattle.qp_calls.specs.Clauses.{TakesNone, last_nil, same_counts}
 use Rattle.qp_calls.specs.LaneView.{AddsOf, Counts, LaneView, Looks, NotShown}
+use Rattle.qp_calls.proofs.Advancing.{advances-looks}
 use Rattle.qp_kernel.specs.Turning.{seen_told, spill_told}
 use Rattle.qp_kernel_turns.specs.declared.halting.Halt.{Halt}
 use Rattle.qp_kernel_turns.specs.declared.halting.Halt.TheVariants as halt
 use Rattle.qp_kernel_turns.specs.Halting.{TurnHalts}
+use Rattle.qp_kernel_turns.specs.Lanes.{LaneGoes}
+use Rattle.qp_kernel_turns.proofs.Lanes.{gains-goes}
 use Rattle.qp_port_law.proofs.HomeRecords.{AreInside, is_step}
 use Rattle.qp_port_lanes.specs.Takes.{AddsEmpty, AddsNoTake, is_take}
 
@@ -52,3 +55,20 @@ empty-takes me f l m v w t = record { f = f; l = l; m = m; empty = t.empty; told
         → (w.told ≡ v.told) ⊎ ((w.told ≡ v.told ++ for_object me (plain (body.Nil f l m)) ∷ []) ⊎ (w.told ≡ v.told ++ seen_told me f l m ∷ []))
     by true looks = inl looks.told
     by false adds = inr (inl adds.grows.told)
+
+-- and the lane went on
+pub empty-goes : (me f l m : ℕ) (v w : LaneView) → TakesNone me f l m v w → LaneGoes false v w
+empty-goes me f l m v w t = by (same_counts (last_nil me NotShown v.told) f l m) t.adds
+  where
+    by : (b : Bool) → MatchBool b (Looks (word.Queue me) (f + l + m) (Counts f l m) v w) (AddsOf me (plain (body.Nil f l m) ∷ []) v w) → LaneGoes false v w
+    by true looks = record {
+      keeps = record {
+        same = record { sys = looks.sys; lane = looks.lane; world = looks.world; plan = looks.plan; happened = refl; serves = looks.serves; advances = advances-looks (word.Queue me) (f + l + m) (Counts f l m) v w looks };
+        still = λ apart. looks.happened;
+        told = ([], looks.told ∙ sym (append-nil v.told));
+        log = ([], looks.log ∙ sym (append-nil v.log));
+      };
+      stops = looks.stops;
+      answered = looks.answered;
+    }
+    by false adds = gains-goes false (map (for_object me) (plain (body.Nil f l m) ∷ [])) v w adds.grows

@@ -11,6 +11,7 @@ use Rattle.qp_calls.specs.LaneView.{LaneView, GrowsOf}
 use Rattle.qp_calls.specs.LaneLaws.{IsWithinLimit}
 use Rattle.qp_calls.specs.Clauses.{Stops}
 use Rattle.qp_calls.specs.Notes.{last_code, spills_told}
+use Rattle.qp_calls.proofs.Advancing.{advances-none, advances-same, advances-then}
 use Rattle.qp_calls.proofs.NoteLemmas.{last-snoc}
 use Rattle.qp_dispatch.specs.declared.objects.Turn.{Turn}
 use Rattle.qp_dispatch.specs.declared.objects.Turn.TheVariants as turn
@@ -18,17 +19,17 @@ use Rattle.qp_port_law.specs.SourcesLeft.{SourceLeaves}
 use Rattle.qp_calls_stimulus.specs.declared.doing.Stimulated.TheVariants as stimulated
 use Rattle.qp_calls.specs.Halting.{HaltsFull}
 use Rattle.qp_kernel_turns.specs.Lanes.{HandsCode, HasFound, SameLane}
-use Rattle.qp_calls_stimulus.specs.Stimulating.{Stimulates, Asserts, Spills, Happens, begun}
+use Rattle.qp_calls_stimulus.specs.Stimulating.{Stimulates, Asserts, Spills, Happens, begun, Exhausts}
 use Rattle.qp_port_lanes.specs.declared.cursor.Cursor.{Cursor}
 use Rattle.qp_port_lanes.specs.CursorAt.{IsCursorAt, IsSourceAt, at_settle_in, begins_settle, left_in, mine}
-use Rattle.qp_port_lanes.specs.SourceTurning.{BreaksOff, CursorGoes, DoesNoSettle, EndsIn, SourceIdles, SourceStops, SourceTurns, UnlessIdle, DoesNext}
+use Rattle.qp_port_lanes.specs.SourceTurning.{BreaksOff, CursorGoes, DoesNoSettle, EndsIn, SourceIdles, SourceStops, SourceTurns, UnlessIdle, DoesNext, SourceStarves}
 use Rattle.qp_port_lanes.proofs.Going.{same-gains, same-stops, went, failed, spilled, full, elsewhere, few-done, unspilled-told}
 
 same-none : (v : LaneView) → SameLane v v
-same-none v = record { sys = refl; lane = refl; world = refl; plan = refl; happened = refl; serves = λ o. refl }
+same-none v = record { sys = refl; lane = refl; world = refl; plan = refl; happened = refl; serves = λ o. refl; advances = advances-none v }
 
 pub same-then : (u v w : LaneView) → SameLane u v → SameLane v w → SameLane u w
-same-then u v w a b = record { sys = b.sys ∙ a.sys; lane = b.lane ∙ a.lane; world = b.world ∙ a.world; plan = b.plan ∙ a.plan; happened = b.happened ∙ a.happened; serves = λ o. b.serves o ∙ a.serves o }
+same-then u v w a b = record { sys = b.sys ∙ a.sys; lane = b.lane ∙ a.lane; world = b.world ∙ a.world; plan = b.plan ∙ a.plan; happened = b.happened ∙ a.happened; serves = λ o. b.serves o ∙ a.serves o; advances = advances-then u v w a.advances b.advances }
 
 -- the stimuli of the same source
 same-stimuli : (x y : Cursor) → y.stim ≡ x.stim → y.source ≡ x.source → mine y ≡ mine x
@@ -167,7 +168,7 @@ module _ (sys : System) (x : Cursor) (v : LaneView) (at : IsCursorAt sys x v) (c
       why = inr (record { found = rw e (omega arith); stops = ap (λ u. u.stops) e });
       ts = [];
       told = ap (λ u. u.told) e ∙ sym (append-nil v.told);
-      keeps = record { sys = ap (λ u. u.sys) e; lane = ap (λ u. u.lane) e; world = ap (λ u. u.world) e; plan = ap (λ u. u.plan) e; happened = ap (λ u. u.happened) e; serves = λ o. ap (λ u. u.serves o) e };
+      keeps = record { sys = ap (λ u. u.sys) e; lane = ap (λ u. u.lane) e; world = ap (λ u. u.world) e; plan = ap (λ u. u.plan) e; happened = ap (λ u. u.happened) e; serves = λ o. ap (λ u. u.serves o) e; advances = advances-same v w (ap (λ u. u.told) e) (ap (λ u. u.mark) e) };
     }
 
     module _ (place : ℕ) (next : place ≡ x.begun + 1) (w : LaneView) where
@@ -245,6 +246,15 @@ module _ (sys : System) (x : Cursor) (v : LaneView) (at : IsCursorAt sys x v) (c
       -- a stimulus that is no `settle` has no tries
       pub never : (s ≡ stim.Settle → ⊥) → Stimulates sys s place 0 v w stimulated.Tried → ⊥
       never other h = other h.settle
+
+-- memory was refused in a stimulus
+pub starves : (v w : LaneView) → Exhausts v w → SourceStarves v w
+starves v w h = record {
+  ts = map (for_object v.by) h.g;
+  told = ap (λ u. u.told) h.dry.stops ∙ h.grows.told;
+  stops = ap (λ u. u.stops) h.dry.stops ∙ ap (λ cs. 7 ∷ cs) h.grows.stops;
+  keeps = same-stops 7 v h.mid w (same-gains (map (for_object v.by) h.g) v h.mid h.grows) h.dry.stops;
+}
 
 -- the end of the stimuli
 pub turn-ends : (sys : System) (x y : Cursor) (v w : LaneView) (k count : ℕ) → CursorGoes sys x y v w → y.begun ≡ k → count ≡ length (mine x) → count ≤ k → SourceIdles sys x y v w

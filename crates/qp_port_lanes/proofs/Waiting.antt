@@ -14,6 +14,7 @@ use Rattle.qp_model.specs.Ends.{is_end, may_cut}
 use Rattle.qp_model.specs.Sources.{SourceEnd, SourceRuns, AfterTry, BeforeStimulus, EndsIn, none_twice, may_end, priorities}
 use Rattle.qp_calls.specs.declared.answers.Counts as counts
 use Rattle.qp_calls.specs.LaneView.{LaneView}
+use Rattle.qp_calls.proofs.Advancing.{advances-none}
 use Rattle.qp_calls.specs.Notes.{last_code}
 use Rattle.qp_calls.specs.Tokens.{hands_after, hands_by}
 use Rattle.qp_calls.specs.Halting.{HaltsDry, HaltsFull}
@@ -203,7 +204,7 @@ halts-stop sys x v u w h at stands g clear is halts = by (subst (TurnHalts u w) 
             why = inr (record { found = rw f.answered (omega arith); stops = ap (λ y. y.stops) f.answered });
             ts = [];
             told = ap (λ y. y.told) f.answered ∙ sym (append-nil u.told);
-            keeps = rw f.answered (record { sys = refl; lane = refl; world = refl; plan = refl; happened = refl; serves = λ o. refl });
+            keeps = rw f.answered (record { sys = refl; lane = refl; world = refl; plan = refl; happened = refl; serves = λ o. refl; advances = advances-none u });
           });
       hands = ap (λ y. y.hands) f.answered ∙ so_far.hands;
       same = refl;

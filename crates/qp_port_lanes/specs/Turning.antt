@@ -23,7 +23,9 @@ use Rattle.qp_kernel_turns.specs.declared.halting.Halt.{Halt}
 use Rattle.qp_kernel_turns.specs.declared.halting.Halt.TheVariants as halt
 use Rattle.qp_kernel_turns.specs.Lanes.{LaneGoes}
 use Rattle.qp_kernel_turns.specs.Ordering.{IsSeenEmpty}
+use Rattle.qp_model_order.specs.SourceRun.{untold_all}
 use Rattle.qp_port_law.specs.Homes.{HomeEnds}
+use Rattle.qp_kernel.specs.Starts.{AreStarts, IsStartAlone}
 use Rattle.qp_port_law.specs.HomeLanes.{looks_in, nils_in}
 use Rattle.qp_port_lanes.specs.declared.home.Home.{Home}
 use Rattle.qp_port_lanes.specs.At.{IsBusyHome, IsHome}
@@ -57,6 +59,13 @@ HomeStarts sys me y w step.Point = ⊥
 HomeStarts sys me y w step.Done = (budget : ℕ) → IsHome sys budget y w
 HomeStarts sys me y w step.Stopped = (budget : ℕ) → HomeStops sys budget me y w
 HomeStarts sys me y w step.Memory = Unit {0}
+
+-- The start alone stands in the lane, to its end, or as far as it came. Nothing is said where memory was refused.
+abbrev pub StartsAlone : LaneView → Step → Type 0
+StartsAlone w step.Point = ⊥
+StartsAlone w step.Done = AreStarts 1 (untold_all w.told)
+StartsAlone w step.Stopped = IsStartAlone 1 (untold_all w.told)
+StartsAlone w step.Memory = Unit {0}
 
 -- at the budget the queue was found empty, or an entry stopped the lane
 abbrev pub LooksTo : System → ℕ → ℕ → Home → LaneView → Result (Unit {0}) Halt → Type 0

@@ -4,7 +4,7 @@ ghost use Rattle.std.specs.Prelude.{◌≡◌, IfOk, not, ◌&&◌};
 ghost use Rattle.qp_model.specs.Sound.{IsSound};
 ghost use Rattle.qp_kernel_turns.specs.Lanes.{LaneStarts};
 ghost use Rattle.qp_port_lanes.specs.At.{HasEmptyLane, IsMade};
-ghost use Rattle.qp_port_lanes.specs.Turning.{HomeStarts};
+ghost use Rattle.qp_port_lanes.specs.Turning.{HomeStarts, StartsAlone};
 
 use qp_base::Memory;
 use qp_calls::Ops;
@@ -46,6 +46,7 @@ impl Home {
         requires made { IsMade sys.now self.old.me self.old }
         requires empty { HasEmptyLane sys.now self.old.me (O.lane ops.old) }
         ensures goes { HomeStarts sys.now self.old.me self.new (O.lane ops.new) result }
+        ensures alone { StartsAlone (O.lane ops.new) result }
         ensures lane { LaneStarts (O.lane ops.old) (O.lane ops.new) result }
         ensures same { self.new.me ≡ self.old.me }
     {

@@ -1,7 +1,7 @@
 use Rattle.std.proofs.Common.{◌+◌, ◌==◌, ◌∙◌, true, false, [], ◌∷◌, arith, refl, subst}
 use Rattle.qp_model.specs.declared.bodies.Body.TheVariants as body
 use Rattle.qp_model.specs.Told.{plain}
-use Rattle.qp_calls.proofs.Growing.{room-then}
+use Rattle.qp_calls.proofs.Growing.{gains-none, room-then}
 use Rattle.qp_calls.proofs.Noting.{may-note}
 use Rattle.qp_kernel.specs.Turning.{look_told}
 use Rattle.qp_kernel_turns.specs.Ordering.{LookedInOrder}
@@ -9,7 +9,7 @@ use Rattle.qp_kernel_turns.specs.TurnRows.{bare_row, idle_rows}
 use Rattle.qp_kernel_turns.specs.Turning.{stand_of, terms_of}
 use Rattle.qp_kernel_turns.proofs.BaseRows.{few-more, idle-is}
 use Rattle.qp_kernel_turns.proofs.Halted.{halts-few, halts-turn}
-use Rattle.qp_kernel_turns.proofs.Lanes.{gains-goes, goes-then, halts-lane, happened-goes, memory-halts, nothing-goes, stopped-halts}
+use Rattle.qp_kernel_turns.proofs.Lanes.{gains-goes, goes-then, halts-lane, happened-goes, memory-halts, nothing-goes, stopped-halts, stops-memory}
 use Rattle.qp_kernel_turns.proofs.Ordered.{halts-in_order, none-in_order, some-in_order, stopped-in_order, unset-still}
 use Rattle.qp_kernel_turns.proofs.Resting.{rests-halted, rests-noted}
 use Rattle.qp_kernel_turns.proofs.Staying.{all-wait}
@@ -121,3 +121,10 @@ returns-in-Memory g c =
       steps = refl;
       rows = tt;
     }
+
+pub returns-then-kernel-clause-lane : goal.returns-then-kernel-clause-lane
+returns-then-kernel-clause-lane g c =
+    let lane = g.W.Ops.lane in
+    let v = lane c.args.world.now in
+    let w = lane c.ready.new.ops in
+    stops-memory g.W.World.acts v w (lane c.stop.new.self) (gains-goes g.W.World.acts [] v w (room-then [] v w w c.in_ok-ready.ensures.roomier (gains-none w))) c.stop.ensures

@@ -1,14 +1,16 @@
-use Rattle.std.proofs.Common.{◌≡◌, ◌+◌, ◌-◌, ◌∙◌, ap, arith, refl, subst, sym}
+use Rattle.std.proofs.Common.{◌≡◌, ◌+◌, ◌-◌, ◌∙◌, Ok, ap, arith, refl, subst, sym}
 use Rattle.qp_kernel_turns.specs.BaseRows.{InRow}
 use Rattle.qp_kernel_turns.specs.Knowing.{IsScanning}
-use Rattle.qp_kernel_turns.specs.Ordering.{AreSeenEmpty, PassedInOrder}
-use Rattle.qp_kernel_turns.specs.Turning.{Passed, Stood, row_below, stand_of, terms_of}
+use Rattle.qp_kernel_turns.specs.Ordering.{AreSeenEmpty, PassedInOrder, VisitsInOrder}
+use Rattle.qp_kernel_turns.specs.Turning.{Passed, Stood, VisitsTo, row_below, stand_of, terms_of}
+use Rattle.qp_kernel_turns.specs.Counting.{BeginsFound}
+use Rattle.qp_kernel_turns.specs.TurnRows.{VisitsRow}
 use Rattle.qp_kernel_turns.proofs.Counting.{begin-none}
-use Rattle.qp_kernel_turns.proofs.Lanes.{goes-none, halts-then}
+use Rattle.qp_kernel_turns.proofs.Lanes.{goes-none, goes-then, halts-then}
 use Rattle.std.proofs.lemmas.Result.{err_from_is_err_and}
 use Rattle.qp_kernel_turns.proofs.Ordered.{seen-none}
 use Rattle.qp_kernel_turns.proofs.Rows.{row-whole}
-use Rattle.qp_kernel_turns.proofs.Rounds.{onward-none, row-none}
+use Rattle.qp_kernel_turns.proofs.Rounds.{onward-none, onward-then, row-none}
 use Rattle.qp_kernel_turns.proofs.turning.scan.Goals as goal
 
 pub loop-place-init : goal.loop-place-init
@@ -86,3 +88,48 @@ returns-then-branch-clause-rows g c =
     let same : c.loop-place.place ≡ c.loop-place.place - 1 + 1 = omega (arith, c.loop-place-test.true) in
     let rows = rw c.if-branch.true at c.in_ok-visit.ensures.rows in
     λ u row. rows u (subst (λ m. InRow sys (terms_of c.args.at.now) (row_below sys c.args.floor m) u (lane c.loop-place.world)) same (c.loop-place.invariant.rows u row))
+
+pub returns-then-branch-clause-lane : goal.returns-then-branch-clause-lane
+returns-then-branch-clause-lane g c =
+    let lane = g.W.Ops.lane in
+    goes-then g.W.World.acts (lane c.args.world.now) (lane c.loop-place.world) (lane c.visit.new.world) c.loop-place.invariant.lane c.in_ok-visit.ensures.lane
+
+pub loop-place-preserved : goal.loop-place-preserved
+loop-place-preserved g c =
+    let sys = c.args.at.now.sys.now in
+    let terms = terms_of c.args.at.now in
+    let lane = g.W.Ops.lane in
+    let floor = c.args.floor in
+    let place = c.loop-place.place - 1 in
+    let v = lane c.loop-place.world in
+    let w = lane c.visit.new.world in
+    let before = stand_of c.loop-place.kernel c.loop-place.objects v in
+    let behind = stand_of c.visit.new.kernel c.visit.new.objects w in
+    let so_far = c.loop-place.invariant in
+    let same : c.loop-place.place ≡ place + 1 = omega (arith, c.loop-place-test.true) in
+    let goes = subst (λ b. VisitsTo (row_below sys floor place) sys terms before behind (Ok b)) c.if-branch.false c.in_ok-visit.ensures.goes in
+    let order = subst (λ b. VisitsInOrder g.W.World.acts sys floor place before behind (Ok b)) c.if-branch.false c.in_ok-visit.ensures.order in
+    let begun = subst (λ b. BeginsFound c.loop-place.kernel c.visit.new.kernel c.loop-place.objects c.visit.new.objects (Ok b)) c.if-branch.false c.in_ok-visit.ensures.begun in
+    let rows = subst (λ b. VisitsRow sys terms (row_below sys floor (place + 1)) (row_below sys floor place) v w (Ok b)) c.if-branch.false c.in_ok-visit.ensures.rows in
+    let steps = begun.steps in
+    let taken = begun.taken in
+    let steps_so_far = so_far.begun.steps in
+    let taken_so_far = so_far.begun.taken in
+    record {
+      passed = record {
+        looks = goes.looks ∙ so_far.passed.looks;
+        stack = goes.stack ∙ so_far.passed.stack;
+        knows = goes.knows;
+        onward = onward-then c.args.objects.now (lane c.args.world.now) c.loop-place.objects v c.visit.new.objects w so_far.passed.onward goes.onward;
+        lanes = goes.lanes ∙ so_far.passed.lanes;
+      };
+      order = record {
+        order = order.order;
+        none = λ base acting h. order.none base acting (so_far.order.none base acting h);
+        empty = order.empty;
+        stays = λ p h. order.stays p (so_far.order.stays p h);
+      };
+      lane = goes-then g.W.World.acts (lane c.args.world.now) v w so_far.lane c.in_ok-visit.ensures.lane;
+      begun = record { steps = omega (arith, steps, steps_so_far); taken = omega (arith, taken, taken_so_far) };
+      rows = λ u row. rows u (subst (λ m. InRow sys terms (row_below sys floor m) u v) same (so_far.rows u row));
+    }

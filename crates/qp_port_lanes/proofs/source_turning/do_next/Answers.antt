@@ -3,10 +3,10 @@ use Rattle.qp_model.specs.declared.stimulus.Stim.{Stim}
 use Rattle.qp_calls.specs.LaneView.{LaneView}
 use Rattle.qp_calls.specs.Notes.{spills_told}
 use Rattle.qp_calls_stimulus.specs.declared.doing.Stimulated.TheVariants as stimulated
-use Rattle.qp_calls_stimulus.specs.Stimulating.{Stimulates}
+use Rattle.qp_calls_stimulus.specs.Stimulating.{Exhausts, Stimulates}
 use Rattle.qp_port_lanes.specs.CursorAt.{mine}
 use Rattle.qp_dispatch.specs.declared.objects.Turn.TheVariants as turn
-use Rattle.qp_port_lanes.proofs.Turned.{any-default, breaks-here, few-begun, finds-stop, goes-on, never, stops-here, unspilled}
+use Rattle.qp_port_lanes.proofs.Turned.{any-default, breaks-here, few-begun, finds-stop, goes-none, goes-on, never, rests-settling, starves, stops-here, unspilled}
 use Rattle.qp_port_lanes.proofs.source_turning.do_next.Goals as goal
 
 pub returns-in-Some-clause-does : goal.returns-in-Some-clause-does
@@ -141,3 +141,11 @@ returns-in-Tried-clause-breaks g c =
     let lt : x.begun < length (mine x) = subst (λ (l : List Stim). x.begun < length l) list (omega (arith, c.if-at-len.false, c.len.ensures, long)) in
     absurd (never c.args.sys.now x _ knows c.if-source.false s lt is (x.begun + 1) refl _ c.in_default.not-Settle
     (subst (λ (u : LaneView). Stimulates c.args.sys.now s (x.begun + 1) 0 u (lane c.stimulus-answer.new.ops) stimulated.Tried) c.in_default-stopped.ensures.0 c.in-Tried.ensures.stimulates))
+
+pub returns-then-source-clause-does : goal.returns-then-source-clause-does
+returns-then-source-clause-does g c = record { goes = goes-none c.args.sys.now c.args.source.now (g.O.Ops.lane c.args.ops.now) c.requires.knows; rests = rests-settling c.args.source.now c.if-source.true }
+
+pub returns-in-Memory-clause-does : goal.returns-in-Memory-clause-does
+returns-in-Memory-clause-does g c =
+    let lane = g.O.Ops.lane in
+    starves (lane c.args.ops.now) (lane c.stimulus-answer.new.ops) (subst (λ (u : LaneView). Exhausts u (lane c.stimulus-answer.new.ops)) c.in_default-stopped.ensures.0 c.in-Memory.ensures.stimulates)

@@ -2,9 +2,10 @@ use Rattle.std.proofs.Common.{◌≡◌, ◌++◌, ◌∷◌, [], ap, arith, fal
 use Rattle.std.proofs.lemmas.Result.{err_from_is_err_and}
 use Rattle.qp_model.specs.Told.{for_object, told_took}
 use Rattle.qp_calls.specs.Clauses.{entry_of}
-use Rattle.qp_kernel_turns.proofs.Lanes.{halts-lane}
+use Rattle.qp_calls.proofs.Growing.{gains-none, room-then}
+use Rattle.qp_kernel_turns.proofs.Lanes.{gains-goes, goes-then, halts-lane}
 use Rattle.qp_port_lanes.specs.Takes.{AddsEmpty, AddsNoTake}
-use Rattle.qp_port_lanes.proofs.Takes.{empty-takes, no-take-halts}
+use Rattle.qp_port_lanes.proofs.Takes.{empty-goes, empty-takes, no-take-halts}
 use Rattle.qp_port_lanes.proofs.Beginning.{begun}
 use Rattle.qp_port_lanes.proofs.Resting.{halts, object-room, resting-room, takes-none}
 use Rattle.qp_port_lanes.proofs.Never.{never-halts, never-room, never-then, never-took}
@@ -89,3 +90,11 @@ returns-in_err-look_only-clause-takes g c =
 pub returns-then-taken-budget-clause-takes : goal.returns-then-taken-budget-clause-takes
 returns-then-taken-budget-clause-takes g c =
     subst (λ ts. AddsEmpty c.args.home.now.me ts (g.O.Ops.lane c.look_only.new.ops).told) (ap (λ u. u.told) c.in_ok-ready.ensures.roomier.same) c.in_ok-look_only.ensures.takes
+
+pub returns-in-Empty-clause-lane : goal.returns-in-Empty-clause-lane
+returns-in-Empty-clause-lane g c =
+    let lane = g.O.Ops.lane in
+    let v = lane c.args.ops.now in
+    let m = lane c.ready.new.ops in
+    goes-then false v m (lane c.take.new.self) (gains-goes false [] v m (room-then [] v m m c.in_ok-ready.ensures.roomier (gains-none m)))
+    (empty-goes c.args.home.now.me c.in-Empty.f c.in-Empty.l c.in-Empty.m m (lane c.take.new.self) c.in-Empty.ensures)
