@@ -51,6 +51,12 @@ module _ {T : Type 0} (numbers : T → Numbers) where
         let rest = keep-settles xs ys keep in
         omega (arith, was, rows, own, rest)
 
+    pub kept-few : (more : ℕ) (xs ys : List T) → KeepEach Ready Same waits remains numbers xs ys → HasFewRows numbers more xs → HasFewRows numbers more ys
+    kept-few more [] [] keep few = tt
+    kept-few more (x ∷ xs) (y ∷ ys) keep few = keep-few more x y xs ys keep.0.numbers_still keep.1 few
+    kept-few more [] (y ∷ ys) keep few = absurd keep
+    kept-few more (x ∷ xs) [] keep few = absurd keep
+
   -- tries to pass a `settle`
   pub tries-none : TriesCount numbers false [] []
   unfolding all_settles

@@ -4,10 +4,10 @@ use Rattle.std.proofs.lemmas.Bool.Decides.{nat_tests}
 use Rattle.qp_calls.specs.Clauses.{Stopped}
 use Rattle.std.specs.List.{AllByRecursion, list_all}
 use Rattle.qp_model.specs.WordLaw.{is_object}
-use Rattle.qp_model.specs.declared.words.Word.TheVariants as word
+use Rattle.qp_model.specs.declared.words.Word.{Word}
 use Rattle.qp_calls.specs.LaneView.{LaneView, is_codeless}
 use Rattle.qp_calls_log.specs.Meeting.{IsTogether}
-use Rattle.qp_port_phases.specs.Lanes.{AreObjects, AreOneTable, AreTogether, KeepEach, SameEach}
+use Rattle.qp_port_phases.specs.Lanes.{AreObjects, AreOneTable, AreTogether, IsTable, KeepEach, Kept, SameEach}
 use Rattle.qp_port_phases.specs.Rows.{Numbers}
 use Rattle.qp_port_phases.specs.Quiet.{AllBelow, FirstFound, HasFound, IsCodeOf}
 use Rattle.qp_port_phases.specs.Stopping.{Hears, SameCodes}
@@ -25,6 +25,23 @@ module _ {T : Type 0} (Ready : T → Type 0) (Same : T → T → Type 0) (waits 
   keep-same (x ∷ xs) (y ∷ ys) h = (h.0.same, keep-same xs ys h.1)
   keep-same [] (y ∷ ys) h = absurd h
   keep-same (x ∷ xs) [] h = absurd h
+
+  pub kept-then : ((a b c : T) → Same a b → Same b c → Same a c) → (x y z : T) → Kept Ready Same waits remains numbers x y → Kept Ready Same waits remains numbers y z → Kept Ready Same waits remains numbers x z
+  kept-then still x y z h k = record {
+    ready = k.ready;
+    same = still x y z h.same k.same;
+    waits_still = k.waits_still ∙ h.waits_still;
+    remains_still = k.remains_still ∙ h.remains_still;
+    numbers_still = k.numbers_still ∙ h.numbers_still;
+  }
+
+  pub keep-then : ((a b c : T) → Same a b → Same b c → Same a c) → (xs ys zs : List T) → KeepEach Ready Same waits remains numbers xs ys → KeepEach Ready Same waits remains numbers ys zs → KeepEach Ready Same waits remains numbers xs zs
+  keep-then still [] [] [] h k = tt
+  keep-then still (x ∷ xs) (y ∷ ys) (z ∷ zs) h k = (kept-then still x y z h.0 k.0, keep-then still xs ys zs h.1 k.1)
+  keep-then still [] (y ∷ ys) zs h k = absurd h
+  keep-then still (x ∷ xs) [] zs h k = absurd h
+  keep-then still [] [] (z ∷ zs) h k = absurd k
+  keep-then still (x ∷ xs) (y ∷ ys) [] h k = absurd k
 
 module _ {T : Type 0} (Same : T → T → Type 0) where
   pub same-each : ((a : T) → Same a a) → (xs : List T) → SameEach Same xs xs
@@ -56,7 +73,7 @@ pub objects-still : (v w : LaneView) (ps : List ℕ) → IsTogether v w → AreO
 objects-still v w ps moved h = subst (λ s. AllByRecursion (λ p. IsTrue (is_object s p)) ps) (sym moved.sys) h
 
 module _ {T : Type 0} (view : T → LaneView) where
-  pub below-rises : (v w : LaneView) → ((p : ℕ) → v.mark (word.Queue p) ≤ w.mark (word.Queue p)) → (xs : List T) → AllBelow view v xs → AllBelow view w xs
+  pub below-rises : (v w : LaneView) → ((x : Word) → v.mark x ≤ w.mark x) → (xs : List T) → AllBelow view v xs → AllBelow view w xs
   below-rises v w up [] h = tt
   below-rises v w up (x ∷ xs) h = ((λ p. let a = h.0 p in let b = up p in omega (arith, a, b)), below-rises v w up xs h.1)
 
@@ -82,6 +99,10 @@ module _ {T : Type 0} (view : T → LaneView) where
     )
     table-still objects [] (y ∷ ys) same h = absurd same
     table-still objects (x ∷ xs) [] same h = absurd same
+
+pub one-table : {T : Type 0} (view : T → LaneView) (objects : List ℕ) (xs : List T) → AreOneTable view objects xs → IsTable view xs
+one-table view objects [] h = tt
+one-table view objects (x ∷ xs) h = h.0
 
 -- what was heard of before is heard of still
 pub found-since : (memory : Bool) (u v w : LaneView) → Hears u v → HasFound memory v w → HasFound memory u w

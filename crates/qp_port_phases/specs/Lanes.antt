@@ -11,6 +11,11 @@ abbrev pub AreTogether : {T : Type 0} → (T → LaneView) → LaneView → List
 AreTogether view v [] = ⊤
 AreTogether view v (x ∷ xs) = IsTogether v (view x) × AreTogether view v xs
 
+-- all lanes of a row are of one table
+abbrev pub IsTable : {T : Type 0} → (T → LaneView) → List T → Type 0
+IsTable view [] = ⊤
+IsTable view (x ∷ xs) = AreTogether view (view x) xs
+
 abbrev pub AreObjects : LaneView → List ℕ → Type 0
 AreObjects v ps = AllByRecursion (λ p. IsTrue (is_object v.sys p)) ps
 

@@ -4,11 +4,11 @@ use Rattle.std.specs.List.{AllByRecursion, list_any}
 use Rattle.qp_model.specs.declared.words.Word.TheVariants as word
 use Rattle.qp_calls.specs.LaneView.{LaneView, Counts}
 use Rattle.qp_calls.specs.Clauses.{Stopped}
+use Rattle.qp_port_phases.specs.Floors.{AllUnder}
 
--- each knows of at most as many operations of each queue as v
+-- each knows of at most as many operations of each word as v
 abbrev pub AllBelow : {T : Type 0} → (T → LaneView) → LaneView → List T → Type 0
-AllBelow view v [] = ⊤
-AllBelow view v (x ∷ xs) = ((p : ℕ) → (view x).mark (word.Queue p) ≤ v.mark (word.Queue p)) × AllBelow view v xs
+AllBelow view v xs = AllUnder view v.mark xs
 
 -- the queue of p was seen empty
 pub record IsEmpty (v : LaneView) (p : ℕ) : Type 0 where

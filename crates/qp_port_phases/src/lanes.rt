@@ -2,7 +2,7 @@
 
 ghost use Rattle.std.specs.Prelude.{ℕ, ◌≡◌, Bool, IsTrue, true};
 ghost use Rattle.qp_model.specs.WordLaw.{is_object};
-ghost use Rattle.qp_calls.specs.LaneView.{LaneView};
+ghost use Rattle.qp_calls.specs.LaneView.{Advances, LaneView};
 ghost use Rattle.qp_calls.specs.Clauses.{Counted, Stopped};
 ghost use Rattle.qp_calls_log.specs.Meeting.{IsTogether, Met};
 ghost use Rattle.qp_port_phases.specs.Lanes.{Kept};
@@ -96,6 +96,9 @@ pub trait PhaseLane: Worker {
 
     /// It forgets no code that it heard of.
     ghost same_hears: { (a b : Self) → same a b → Hears (view a) (view b) };
+
+    /// Its records come behind those that it had, with marks from what it knew of each word to what it knows.
+    ghost same_advances: { (a b : Self) → same a b → Advances (view a) (view b) };
 
     /// A turn leaves a lane that may take another, and the same.
     ghost went: { (a b : Self) → Self.Worker.turned a b → Self.Worker.ready b × same a b };

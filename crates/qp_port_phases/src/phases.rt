@@ -5,9 +5,10 @@ ghost use Rattle.qp_model.specs.WordLaw.{is_object};
 ghost use Rattle.std.specs.List.{list_any};
 ghost use Rattle.qp_port_phases.specs.declared.phases.PhasesEnd.TheVariants as ended;
 ghost use Rattle.qp_port_phases.specs.declared.phases.Next.TheVariants as next;
-ghost use Rattle.qp_model.specs.declared.words.Word.TheVariants as word;
+ghost use Rattle.qp_model.specs.declared.words.Word.{Word};
 ghost use Rattle.qp_calls_log.specs.Meeting.{IsTogether};
-ghost use Rattle.qp_port_phases.specs.Lanes.{AreObjects, AreOneTable, AreTogether, KeepEach, Kept, SameEach};
+ghost use Rattle.qp_port_phases.specs.Floors.{AllOver, HasFloor, IsLevel, SameTold};
+ghost use Rattle.qp_port_phases.specs.Lanes.{AreObjects, AreOneTable, AreTogether, IsTable, KeepEach, Kept, SameEach};
 ghost use Rattle.qp_port_phases.specs.Quiet.{AllBelow, AreEmpty, FirstFound, HasEnded, HasFound, IsEmpty, IsQuiet};
 ghost use Rattle.qp_port_phases.specs.Stopping.{SameCodes};
 ghost use Rattle.qp_port_phases.specs.Rows.{CountsBy, HasCause, HasFewRows, SeesEntry, TriesCount, one_where};
@@ -46,7 +47,9 @@ fn meet_all<T: PhaseLane>(first: &mut T, others: &mut [T])
     requires others_ready { AreReady T.ready others.old }
     requires together { AreTogether T.view (T.view first.old) others.old }
     ensures first { Kept T.ready T.same T.waits T.remains T.numbers first.old first.new }
-    ensures rises { (w : ℕ) → (T.view first.old).mark (word.Queue w) ≤ (T.view first.new).mark (word.Queue w) }
+    ensures rises { (w : Word) → (T.view first.old).mark w ≤ (T.view first.new).mark w }
+    ensures told { (T.view first.new).told ≡ (T.view first.old).told }
+    ensures stay { SameTold T.view others.old others.new }
     ensures codes { SameCodes (T.view first.old) (T.view first.new) }
     ensures others { KeepEach T.ready T.same T.waits T.remains T.numbers others.old others.new }
     ensures met { AllBelow T.view (T.view first.new) others.new }
@@ -58,12 +61,44 @@ fn meet_all<T: PhaseLane>(first: &mut T, others: &mut [T])
     meet_all(first, rest);
 }
 
+/// Each of the others sees what the first has seen.
+fn all_meet<T: PhaseLane>(first: &mut T, others: &mut [T])
+    requires first_ready { T.ready first.old }
+    requires others_ready { AreReady T.ready others.old }
+    requires together { AreTogether T.view (T.view first.old) others.old }
+    ensures first { Kept T.ready T.same T.waits T.remains T.numbers first.old first.new }
+    ensures still { T.view first.new ≡ T.view first.old }
+    ensures others { KeepEach T.ready T.same T.waits T.remains T.numbers others.old others.new }
+    ensures stay { SameTold T.view others.old others.new }
+    ensures over { AllOver T.view (T.view first.old).mark others.new }
+{
+    let Some((one, rest)) = others.split_first_mut() else {
+        return;
+    };
+    one.meet(first);
+    all_meet(first, rest);
+}
+
+/// All lanes see what any of them has seen.
+fn level<T: PhaseLane>(workers: &mut [T])
+    requires ready { AreReady T.ready workers.old }
+    requires together { IsTable T.view workers.old }
+    ensures kept { KeepEach T.ready T.same T.waits T.remains T.numbers workers.old workers.new }
+    ensures level { IsLevel T.view workers.old workers.new }
+{
+    let Some((first, others)) = workers.split_first_mut() else {
+        return;
+    };
+    meet_all(first, others);
+    all_meet(first, others);
+}
+
 /// Whether a queue is seen empty by the lane.
 fn is_empty<T: PhaseLane>(lane: &mut T, p: u8) -> bool
     requires ready { T.ready lane.old }
     requires object { IsTrue (is_object (T.view lane.old).sys p) }
     ensures kept { Kept T.ready T.same T.waits T.remains T.numbers lane.old lane.new }
-    ensures rises { (w : ℕ) → (T.view lane.old).mark (word.Queue w) ≤ (T.view lane.new).mark (word.Queue w) }
+    ensures rises { (w : Word) → (T.view lane.old).mark w ≤ (T.view lane.new).mark w }
     ensures codes { SameCodes (T.view lane.old) (T.view lane.new) }
     ensures empty { result ≡ true → IsEmpty (T.view lane.new) p }
     ensures entry { result ≡ false → SeesEntry (T.view lane.new) p }
@@ -78,7 +113,7 @@ fn are_empty<T: PhaseLane>(lane: &mut T, objects: &[u8]) -> bool
     requires ready { T.ready lane.old }
     requires objects { AreObjects (T.view lane.old) objects.now }
     ensures kept { Kept T.ready T.same T.waits T.remains T.numbers lane.old lane.new }
-    ensures rises { (w : ℕ) → (T.view lane.old).mark (word.Queue w) ≤ (T.view lane.new).mark (word.Queue w) }
+    ensures rises { (w : Word) → (T.view lane.old).mark w ≤ (T.view lane.new).mark w }
     ensures codes { SameCodes (T.view lane.old) (T.view lane.new) }
     ensures empty { result ≡ true → AreEmpty objects.now (T.view lane.new) }
     ensures entry { result ≡ false → (p : ℕ) × IsTrue (is_object (T.view lane.new).sys p) × SeesEntry (T.view lane.new) p }
@@ -176,7 +211,8 @@ fn look<T: PhaseLane>(first: &mut T, others: &mut [T], objects: &[u8]) -> Option
 
 /// Runs the phases: between them the first lane meets all others and looks at the queues, and each lane at a `settle` passes
 /// it or tries to; in them all lanes take a turn, beside one another. But for the first, a phase has a cause: a `settle` was
-/// passed, or the first lane sees an entry. The hook is called where one begins.
+/// passed, or the first lane sees an entry. The hook is called where one begins. Before the first all lanes see what any of them
+/// has seen, so what they add from then on shows no word as it was before.
 pub fn run_phases<R: Threads + Wait + Sync, T: PhaseLane, H: PhaseHook>(
     rt: &R,
     objects: &[u8],
@@ -192,7 +228,9 @@ pub fn run_phases<R: Threads + Wait + Sync, T: PhaseLane, H: PhaseHook>(
     ensures idle { result ≡ ended.Idle → HasEnded T.view T.remains objects.now workers.new }
     ensures stopped { result ≡ ended.Stopped → FirstFound T.view false workers.old workers.new }
     ensures memory { result ≡ ended.Memory → FirstFound T.view true workers.old workers.new }
+    ensures floor { HasFloor T.view workers.old workers.new }
 {
+    level(workers);
     let mut begun = false;
     for _ in rt.forever() {
         match between(objects, workers, begun) {

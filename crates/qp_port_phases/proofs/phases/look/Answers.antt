@@ -1,6 +1,6 @@
 use Rattle.std.proofs.Common.{◌∙◌, sym}
 use Rattle.qp_port_phases.specs.Quiet.{AllBelow}
-use Rattle.qp_port_phases.proofs.Keeping.{below-rises, found-other, found-seven, objects-still, unstopped-still}
+use Rattle.qp_port_phases.proofs.Keeping.{below-rises, found-other, found-seven, kept-then, objects-still, unstopped-still}
 use Rattle.qp_port_phases.proofs.phases.look.Goals as goal
 
 pub are_empty-requires-clause-objects : goal.are_empty-requires-clause-objects
@@ -25,3 +25,15 @@ returns-in-Some-eq7-clause-memory g c said = found-seven _ _ _ c.in-Some-eq7.fie
 
 pub returns-in-Some-clause-stopped : goal.returns-in-Some-clause-stopped
 returns-in-Some-clause-stopped g c said = found-other _ _ _ c.in-Some.field-0 c.meet_all.ensures.codes c.in-Some.ensures.stopped c.in-Some.field-0-test.1
+
+pub returns-then-not-any_left-clause-first : goal.returns-then-not-any_left-clause-first
+returns-then-not-any_left-clause-first g c =
+    let laws = (g.met.T.PhaseLane g.world.𝓛 g.world.𝓜 g.world.𝓡 ((λ s x. x), (λ x. x), (λ x. x), λ x. x)) in
+    let kept = kept-then g.T.Worker.ready g.T.PhaseLane.same g.T.PhaseLane.waits g.T.PhaseLane.remains g.T.PhaseLane.numbers laws.same_still in
+    kept _ _ _ (kept _ _ _ c.meet_all.ensures.first c.stopped.ensures.kept) c.are_empty.ensures.kept
+
+pub returns-clause-first : goal.returns-clause-first
+returns-clause-first g c =
+    let laws = (g.met.T.PhaseLane g.world.𝓛 g.world.𝓜 g.world.𝓡 ((λ s x. x), (λ x. x), (λ x. x), λ x. x)) in
+    let kept = kept-then g.T.Worker.ready g.T.PhaseLane.same g.T.PhaseLane.waits g.T.PhaseLane.remains g.T.PhaseLane.numbers laws.same_still in
+    kept _ _ _ (kept _ _ _ c.meet_all.ensures.first c.stopped.ensures.kept) c.are_empty.ensures.kept
