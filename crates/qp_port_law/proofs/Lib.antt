@@ -18,3 +18,4 @@ pub mod PortLemmas
 pub mod QkLemmas
 pub mod RestLemmas
 pub mod StartsLemmas
+pub mod Apart

@@ -12,6 +12,6 @@ pub mod Lanes
 pub mod PortLanes
 pub mod QkLanes
 pub mod Rests
+pub mod StartsFirst
 pub mod SealedLaws
 pub mod ThreadRun
-pub mod StartsFirst

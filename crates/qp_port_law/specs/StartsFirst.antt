@@ -1,36 +1,30 @@
 -- No source acts, and no object takes, before all objects have started.
-use Rattle.std.specs.Prelude.{◌≡◌, ◌⊎◌, ℕ, zero, suc, ◌≤◌, ◌==◌, Bool, true, false, List, [], ◌∷◌, if◌then◌else◌}
-use Rattle.std.specs.List.{count_by, filter_map}
+use Rattle.std.specs.Prelude.{◌≡◌, ◌⊎◌, ℕ, zero, suc, ◌≤◌, ◌==◌, nat_lt, List, [], ◌∷◌, length, if◌then◌else◌}
+use Rattle.std.specs.List.{AllByRecursion, filter_map}
 use Rattle.std.specs.declared.option.Option.{Option}
 use Rattle.std.specs.declared.option.Option.TheVariants.{None, Some}
-use Rattle.qp_model.specs.declared.bodies.Body.{Body}
-use Rattle.qp_model.specs.declared.bodies.Body.TheVariants as body
 use Rattle.qp_model.specs.declared.journals.Journal.{Journal}
 use Rattle.qp_model.specs.declared.systems.System.{System}
 use Rattle.qp_model.specs.declared.words.Word.{Word}
 use Rattle.qp_model.specs.History.{Touch, lane_items, marks, same_word, touch}
-use Rattle.qp_model.specs.Home.{home_of, lane_at}
+use Rattle.qp_model.specs.Home.{lane_at}
+use Rattle.qp_model.specs.Kernels.{port}
 use Rattle.qp_model.specs.Record.{Item}
+use Rattle.qp_model_order.specs.SourceRun.{untold_all}
+use Rattle.qp_calls.specs.LaneView.{LaneView}
+use Rattle.qp_kernel.specs.Starts.{behind, up_to}
 
-abbrev pub is_done : Body → Bool
-is_done body.Done = true
-is_done _ = false
+-- How many of so many objects start in lane n: under `port` one in each home, and under `qk` all in the first; none in the lane of a source
+abbrev pub starts_at_home : ℕ → ℕ → ℕ
+starts_at_home many zero = 0
+starts_at_home many (suc n) = if nat_lt n many then 1 else 0
 
--- the records of a lane up to the end of the n-th start or step in it, all where there are fewer
-abbrev pub up_to : ℕ → List Item → List Item
-up_to zero is = []
-up_to (suc n) [] = []
-up_to (suc n) (i ∷ is) = i ∷ (if is_done i.body then up_to n is else up_to (suc n) is)
+abbrev pub starts_in_first : ℕ → ℕ → ℕ
+starts_in_first many zero = many
+starts_in_first many (suc n) = 0
 
--- and those behind
-abbrev pub behind : ℕ → List Item → List Item
-behind zero is = is
-behind (suc n) [] = []
-behind (suc n) (i ∷ is) = if is_done i.body then behind n is else behind (suc n) is
-
--- how many objects start in this lane: under `qk` all in the first, under `port` each in its own, and none in that of a source
-abbrev pub starts_in : System → Journal → ℕ → ℕ
-starts_in sys j n = count_by (λ d. home_of sys j d.priority == n) sys.objects
+abbrev pub starts_in : ℕ → Journal → ℕ → ℕ
+starts_in many j n = if j.kernel == port then starts_at_home many n else starts_in_first many n
 
 abbrev pub draw_on : Word → Touch → Option ℕ
 draw_on w (Touch.Draws x mark) = if same_word x w then Some mark else None
@@ -46,6 +40,29 @@ IsAmong n [] = ⊥
 IsAmong n (m ∷ ms) = (n ≡ m) ⊎ IsAmong n ms
 
 -- On each word: what a start did to it stands before all that any lane did to it, or saw of it, behind its own starts.
+abbrev pub SoManyStartFirst : ℕ → Journal → Type 0
+SoManyStartFirst many j =
+    (n m mark later : ℕ) (w : Word) → IsAmong mark (draws w (up_to (starts_in many j n) (lane_items (lane_at j n)))) → IsAmong later (marks w (behind (starts_in many j m) (lane_items (lane_at j m)))) → mark ≤ later
+
 abbrev pub StartsFirst : System → Journal → Type 0
-StartsFirst sys j =
-    (n m mark later : ℕ) (w : Word) → IsAmong mark (draws w (up_to (starts_in sys j n) (lane_items (lane_at j n)))) → IsAmong later (marks w (behind (starts_in sys j m) (lane_items (lane_at j m)))) → mark ≤ later
+StartsFirst sys j = SoManyStartFirst (length sys.objects) j
+
+-- Of a lane with so many starts, by a floor of each word: no number drawn in a start is above it, and no mark behind them below.
+pub record IsApart (floor : Word → ℕ) (starts : ℕ) (items : List Item) : Type 0 where
+  pub below : (w : Word) → AllByRecursion (λ k. k ≤ floor w) (draws w (up_to starts items))
+  pub above : (w : Word) → AllByRecursion (λ k. floor w ≤ k) (marks w (behind starts items))
+
+abbrev pub AreApart : (Word → ℕ) → ℕ → List LaneView → Type 0
+AreApart floor starts vs = AllByRecursion (λ v. IsApart floor starts (untold_all v.told)) vs
+
+-- each object has started in a lane of its own before any source acts
+pub record HomesStartFirst (homes sources : List LaneView) : Type 0 where
+  pub floor : Word → ℕ
+  pub homes_apart : AreApart floor 1 homes
+  pub sources_apart : AreApart floor 0 sources
+
+-- so many objects have started in the first lane
+pub record ZeroStartsFirst (starts : ℕ) (first : LaneView) (sources : List LaneView) : Type 0 where
+  pub floor : Word → ℕ
+  pub zero_apart : IsApart floor starts (untold_all first.told)
+  pub sources_apart : AreApart floor 0 sources
