@@ -41,13 +41,14 @@ lanes-long sys stimuli [] h = absurd h
 lanes-long sys stimuli (v ∷ vs) h = let others = new-long sys v.world sys.objects stimuli vs h.1 in omega (arith, others)
 
 module _ (sys : System) (stimuli : List (List Stim)) (budget : ℕ) (sound : IsSound sys) (fit : StimuliFit sys stimuli) (few : budget ≤ 1000000) where
-  fresh-begin : (s : System) (b : ℕ) (t : Turn) (x : Job) (v : LaneView) → IsFreshWorker sys budget s b t → JobBegins sys x v → v.stops ≡ [] → MayBegin s b t x v
-  fresh-begin s b t x v fresh h none = record {
+  fresh-begin : (s : System) (b : ℕ) (t : Turn) (x : Job) (v : LaneView) → IsFreshWorker sys budget s b t → JobBegins sys x v → v.told ≡ [] → v.stops ≡ [] → MayBegin s b t x v
+  fresh-begin s b t x v fresh h none stops = record {
     sound = subst IsSound (sym fresh.sys_is) sound;
     few = let same = fresh.budget_is in omega (arith, same, few);
     idle = fresh.idle;
     begins = subst (λ u. JobBegins u x v) (sym fresh.sys_is) h;
-    fed = fed-new v none;
+    none = none;
+    fed = fed-new v stops;
   }
 
   nothing-begins : (world : List ℕ) (x : Job) (v : LaneView) → IsNothing x → IsNewOf sys world v → JobBegins sys x v
@@ -118,7 +119,7 @@ module _ (sys : System) (stimuli : List (List Stim)) (budget : ℕ) (sound : IsS
         let one = source-begins world n ss more (work w) (view w) made.0.its at new.0 in
         let behind = sources-begin (n + 1) more ws (drop-head n stimuli ss more at).1 made.1 new.1 in
         record {
-          begin = (fresh-begin (s w) (b w) (t w) (work w) (view w) made.0.fresh one.0 new.0.new.stops, behind.begin);
+          begin = (fresh-begin (s w) (b w) (t w) (work w) (view w) made.0.fresh one.0 new.0.new.told new.0.new.stops, behind.begin);
           row = (one.1, behind.row);
           terms = ((made.0.fresh.sys_is, made.0.fresh.budget_is), behind.terms);
           here = ((new.0.world_is, new.0.of), behind.here);
@@ -132,7 +133,7 @@ module _ (sys : System) (stimuli : List (List Stim)) (budget : ℕ) (sound : IsS
         let one = home-begins world d (work w) (view w) made.0.its new.0 new.1 in
         let behind = homes-begin ds ws sources made.1 others new.2 in
         record {
-          begin = (fresh-begin (s w) (b w) (t w) (work w) (view w) made.0.fresh one.0 new.0.new.stops, behind.begin);
+          begin = (fresh-begin (s w) (b w) (t w) (work w) (view w) made.0.fresh one.0 new.0.new.told new.0.new.stops, behind.begin);
           row = (one.1, behind.row);
           terms = ((made.0.fresh.sys_is, made.0.fresh.budget_is), behind.terms);
           here = ((new.0.world_is, new.0.of), behind.here);
@@ -166,7 +167,7 @@ module _ (sys : System) (stimuli : List (List Stim)) (budget : ℕ) (sound : IsS
         first = made.first;
         others = made.homes ++ made.sources;
         are = made.workers_are;
-        begin = rw made.workers_are (fresh-begin (s made.first) (b made.first) (t made.first) (work made.first) (see (lane made.first)) made.nothing.fresh one all.0.new.stops, behind.begin);
+        begin = rw made.workers_are (fresh-begin (s made.first) (b made.first) (t made.first) (work made.first) (see (lane made.first)) made.nothing.fresh one all.0.new.told all.0.new.stops, behind.begin);
         row = rw made.workers_are (made.nothing.its, behind.row);
         terms = rw made.workers_are ((made.nothing.fresh.sys_is, made.nothing.fresh.budget_is), behind.terms);
         together_are = together s b t work (λ w. see (lane w)) world (see (lane made.first)) refl all.0.of (made.homes ++ made.sources) behind.here;

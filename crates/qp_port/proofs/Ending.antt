@@ -8,6 +8,7 @@ use Rattle.qp_chart.specs.declared.checked.Chart.{Chart}
 use Rattle.qp_model.specs.declared.stimulus.Stim.{Stim}
 use Rattle.qp_model.specs.declared.systems.System.{System}
 use Rattle.qp_model.specs.declared.systems.ObjectDef.{ObjectDef}
+use Rattle.qp_model.specs.declared.words.Word.{Word}
 use Rattle.qp_model.specs.declared.words.Word.TheVariants as word
 use Rattle.qp_model.specs.Acts.{Config}
 use Rattle.qp_model.specs.Course.{actor, chart_at, first_config}
@@ -47,13 +48,16 @@ use Rattle.qp_port_lanes.specs.At.{IsHome}
 use Rattle.qp_port_lanes.proofs.Resting.{home-of}
 use Rattle.qp_port_law.specs.Lanes.{AreAtRest, HaveNone, HomesAre, SourcesAre}
 use Rattle.qp_port_law.specs.Rests.{AreTold}
+use Rattle.qp_port_law.specs.StartsFirst.{AreApart, IsApart}
+use Rattle.qp_port_law.proofs.Apart.{AreAllApart}
 use Rattle.qp_port_lanes.proofs.Standing.{done-end}
 use Rattle.qp_port.specs.declared.job.Job.{Job}
 use Rattle.qp_port.specs.declared.job.Job.TheVariants as job
 use Rattle.qp_port.specs.Ends.{HasRun}
-use Rattle.qp_port.specs.Jobs.{JobRests, JobStops, is_left_in}
+use Rattle.qp_port.specs.Jobs.{JobRests, JobStops, is_left_in, starts_of}
 use Rattle.qp_port.specs.Resting.{AreShown, IsShownBy, IsShownIn}
 use Rattle.qp_port.specs.Rows.{AreWorkers, IsHomeOf, IsNothing, IsRow, IsSourceOf}
+use Rattle.qp_model_order.specs.SourceRun.{untold_all}
 use Rattle.qp_port.proofs.QuietHomes.{quiet-home}
 use Rattle.qp_port.proofs.Rows.{ready-none}
 use Rattle.qp_port.proofs.Standing.{priority-is}
@@ -304,12 +308,37 @@ module _ {T : Type 0} (work : T → Job) (view : T → LaneView) where
         one (inl here) = absurd (by (work w) is here)
         one (inr behind) = behind
 
+    -- Their starts.
+
+    homes-apart : (floor : Word → ℕ) (ds : List ObjectDef) (more : List (List Stim)) (ws : List T) → AreWorkers work ds more ws → AreReady (λ w. IsApart floor (starts_of (work w)) (untold_all (view w).told)) ws → AreApart floor 1 (homes_in ds ws)
+    homes-apart floor [] more ws row h = tt
+    homes-apart floor (d ∷ ds) more [] row h = absurd row
+    homes-apart floor (d ∷ ds) more (w ∷ ws) row h = (by (work w) row.0 h.0, homes-apart floor ds more ws row.1 h.1)
+      where
+        by : (x : Job) → IsHomeOf d x → IsApart floor (starts_of x) (untold_all (view w).told) → IsApart floor 1 (untold_all (view w).told)
+        by (job.Home x) is apart = apart
+        by job.Nothing is apart = absurd is
+        by (job.Source x) is apart = absurd is
+
+    sources-apart : (floor : Word → ℕ) (ds : List ObjectDef) (more : List (List Stim)) (ws : List T) → AreWorkers work ds more ws → AreReady (λ w. IsApart floor (starts_of (work w)) (untold_all (view w).told)) ws → AreApart floor 0 (sources_in ds ws)
+    sources-apart floor [] [] [] row h = tt
+    sources-apart floor [] [] (w ∷ ws) row h = absurd row
+    sources-apart floor [] (ss ∷ more) [] row h = absurd row
+    sources-apart floor [] (ss ∷ more) (w ∷ ws) row h = (by (work w) row.0 h.0, sources-apart floor [] more ws row.1 h.1)
+      where
+        by : (x : Job) → IsSourceOf ss x → IsApart floor (starts_of x) (untold_all (view w).told) → IsApart floor 0 (untold_all (view w).told)
+        by (job.Source x) is apart = apart
+        by job.Nothing is apart = absurd is
+        by (job.Home x) is apart = absurd is
+    sources-apart floor (d ∷ ds) more [] row h = absurd row
+    sources-apart floor (d ∷ ds) more (w ∷ ws) row h = sources-apart floor ds more ws row.1 h.1
+
     -- The last look.
 
     below-at : (v : LaneView) (ws : List T) → AllBelow view v ws → (a n : ℕ) (u : LaneView) → IsLaneAt (map view ws) n u → u.mark (word.Queue a) ≤ v.mark (word.Queue a)
     below-at v [] h a zero u at = absurd (cc)
     below-at v [] h a (suc n) u at = absurd (cc)
-    below-at v (w ∷ ws) h a zero u at = let same : view w ≡ u = some-same at in subst (λ (x : LaneView). x.mark (word.Queue a) ≤ v.mark (word.Queue a)) same (h.0 a)
+    below-at v (w ∷ ws) h a zero u at = let same : view w ≡ u = some-same at in subst (λ (x : LaneView). x.mark (word.Queue a) ≤ v.mark (word.Queue a)) same (h.0 (word.Queue a))
     below-at v (w ∷ ws) h a (suc n) u at = below-at v ws h.1 a n u at
 
     below-all : (w : T) (ws : List T) → AllBelow view (view w) ws → (a n : ℕ) (u : LaneView) → IsLaneAt (view w ∷ map view ws) n u → u.mark (word.Queue a) ≤ (view w).mark (word.Queue a)
@@ -337,9 +366,9 @@ module _ {T : Type 0} (work : T → Job) (view : T → LaneView) where
     -- All of it.
 
     pub has-run : (sound : IsSound sys) (stimuli : List (List Stim)) (done : Bool) (rests : List Rest) (all : List T) → IsRow work sys.objects stimuli all → AreReady Stops all
-        → (done ≡ true → AreReady Rests all × HasEnded view (λ w. is_left_in (work w)) (priorities sys) all) → AreShown work all rests → HasRun sys stimuli budget done rests (map view all)
-    has-run sound stimuli done rests [] row h quietly shown = absurd row
-    has-run sound stimuli done rests (w ∷ ws) row h quietly shown =
+        → (done ≡ true → AreReady Rests all × HasEnded view (λ w. is_left_in (work w)) (priorities sys) all) → AreShown work all rests → AreAllApart (λ w. starts_of (work w)) view all → HasRun sys stimuli budget done rests (map view all)
+    has-run sound stimuli done rests [] row h quietly shown apart = absurd row
+    has-run sound stimuli done rests (w ∷ ws) row h quietly shown apart =
         let found = all-found sys sound in
         let empty = nothing-empty sys budget (view w) (work w) row.0 h.0 in
         let homes = homes_in sys.objects ws in
@@ -371,6 +400,7 @@ module _ {T : Type 0} (work : T → Job) (view : T → LaneView) where
                 };
               };
           told = told-from 0 sys.objects stimuli ws rests found (above-none sys.objects sound.ascend) sound.ascend row.1 h.1 (shown-none w ws rests row.0 shown);
+          starts = record { floor = apart.floor; homes_apart = homes-apart apart.floor sys.objects stimuli ws row.1 apart.each.1; sources_apart = sources-apart apart.floor sys.objects stimuli ws row.1 apart.each.1 };
         }
       where
         none-left : (ws : List T) → list_any (λ w. is_left_in (work w)) ws ≡ false → AreReady Nothing_left ws

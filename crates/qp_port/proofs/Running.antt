@@ -27,10 +27,15 @@ use Rattle.qp_port_phases.specs.Stopping.{AnyStopped, HasStopped}
 use Rattle.qp_port.specs.declared.job.Job.{Job}
 use Rattle.qp_port.specs.Ends.{HasRun}
 use Rattle.qp_port_lanes.specs.Answers.{IsFed, is_idle, is_short}
-use Rattle.qp_port.specs.Jobs.{JobRests, JobStops, is_left_in}
+use Rattle.qp_port.specs.Jobs.{JobIsAlone, JobRests, JobStops, is_left_in, starts_of}
 use Rattle.qp_port.specs.Resting.{AreShown}
 use Rattle.qp_port.specs.Rows.{AreSameLanes, IsRow}
+use Rattle.qp_model_order.specs.SourceRun.{untold_all}
+use Rattle.qp_kernel.specs.Starts.{AreStarts}
+use Rattle.qp_port_phases.specs.Starting.{StartFirst}
+use Rattle.qp_port.specs.Alone.{same-starts}
 use Rattle.qp_port.specs.Workers.{IsSameWorker, MayBegin, MayEnd, MayTurn}
+use Rattle.qp_port_law.proofs.Apart.{apart-each}
 use Rattle.qp_port.proofs.Beginning.{AreReadyAll}
 use Rattle.qp_port.proofs.Ending.{has-run}
 use Rattle.qp_port.proofs.Rows.{ends-stop, lanes-still, ready-all, ready-both, ready-map, ready-none, ready-same, row-still, turns-rest}
@@ -79,10 +84,12 @@ module _ (sys : System) (stimuli : List (List Stim)) (budget : ℕ) (sound : IsS
 
     pub ran : (how : PhasesEnd) (done : Bool) (rests : List Rest) (objects : List ℕ) → objects ≡ priorities sys → AreReady (λ w. MayEnd (s w) (b w) (t w) (work w) (view w)) ys
         → (how ≡ ended.Idle → AreReady (λ w. MayTurn (s w) (b w) (t w) (work w) (view w)) ys) → (how ≡ ended.Idle → HasEnded view (λ w. is_left_in (work w)) objects ys)
-        → AreShown work ys rests → list_any (λ w. is_short (t w)) ys ≡ false → (done ≡ true → (how ≡ ended.Idle) × (list_all (λ w. is_idle (t w)) ys ≡ true)) → HasRun sys stimuli budget done rests (map view ys)
-    ran how done rests objects are ends ready idle shown long quiet =
+        → AreShown work ys rests → list_any (λ w. is_short (t w)) ys ≡ false → (done ≡ true → (how ≡ ended.Idle) × (list_all (λ w. is_idle (t w)) ys ≡ true))
+        → StartFirst view (λ w. JobIsAlone (t w) (work w) (view w)) (λ w. AreStarts (starts_of (work w)) (untold_all (view w).told)) Same xs ys → HasRun sys stimuli budget done rests (map view ys)
+    ran how done rests objects are ends ready idle shown long quiet starts =
         has-run work view sys budget sound stimuli done rests ys row (stops ends long)
         (λ is. (rests-all (ready (quiet is).0) (quiet is).1, subst (λ os. HasEnded view (λ w. is_left_in (work w)) os ys) are (idle (quiet is).0))) shown
+        (apart-each (λ w. starts_of (work w)) (λ w. is_short (t w)) view Same (λ x y h. same-starts (work x) (work y) h.job) (λ x y h. h.lane.advances) xs ys (ready-map (λ w. MayBegin (s w) (b w) (t w) (work w) (view w)) (λ w. (view w).told ≡ []) (λ w h. h.none) xs all.begin) same (ready-none (λ w. is_short (t w)) ys long) starts)
 
 -- Why something is left to be done.
 
@@ -149,11 +156,13 @@ module _ (sys : System) (stimuli : List (List Stim)) (budget : ℕ) (sound : IsS
   pub run-left : {R E : Type 0} (result : Result R E) (of : R → List L) (rests_in : R → List Rest) (done_in : R → Bool) → IfOk result (λ run. of run ≡ map lane ys) → (how : PhasesEnd) (objects : List ℕ) → objects ≡ priorities sys
       → AreReady (λ w. MayEnd (s w) (b w) (t w) (work w) (see (lane w))) ys → (how ≡ ended.Idle → AreReady (λ w. MayTurn (s w) (b w) (t w) (work w) (see (lane w))) ys)
       → (how ≡ ended.Idle → HasEnded (λ w. see (lane w)) (λ w. is_left_in (work w)) objects ys) → IfOk result (λ run. AreShown work ys (rests_in run)) → OnOk result (list_any (λ w. is_short (t w)) ys ≡ false)
-      → IfOk result (λ run. done_in run ≡ true → (how ≡ ended.Idle) × (list_all (λ w. is_idle (t w)) ys ≡ true)) → IfOk result (λ run. HasRun sys stimuli budget (done_in run) (rests_in run) (map see (of run)))
-  run-left (Err e) of rests_in done_in h how objects are ends ready idle shown long quiet = tt
-  run-left (Ok run) of rests_in done_in h how objects are ends ready idle shown long quiet =
+      → IfOk result (λ run. done_in run ≡ true → (how ≡ ended.Idle) × (list_all (λ w. is_idle (t w)) ys ≡ true))
+      → StartFirst (λ w. see (lane w)) (λ w. JobIsAlone (t w) (work w) (see (lane w))) (λ w. AreStarts (starts_of (work w)) (untold_all (see (lane w)).told))
+      (λ x y. IsSameWorker (s x) (s y) (b x) (b y) (work x) (work y) (see (lane x)) (see (lane y))) xs ys → IfOk result (λ run. HasRun sys stimuli budget (done_in run) (rests_in run) (map see (of run)))
+  run-left (Err e) of rests_in done_in h how objects are ends ready idle shown long quiet starts = tt
+  run-left (Ok run) of rests_in done_in h how objects are ends ready idle shown long quiet starts =
       subst (HasRun sys stimuli budget (done_in run) (rests_in run)) (sym (ap (map see) h ∙ map-both lane see ys))
-      (ran sys stimuli budget sound fit few s b t work (λ w. see (lane w)) xs all ys same how (done_in run) (rests_in run) objects are ends ready idle shown long quiet)
+      (ran sys stimuli budget sound fit few s b t work (λ w. see (lane w)) xs all ys same how (done_in run) (rests_in run) objects are ends ready idle shown long quiet starts)
 
   pub cause-left : {R E : Type 0} (result : Result R E) (of : R → List L) (done_in : R → Bool) → IfOk result (λ run. of run ≡ map lane ys) → (how : PhasesEnd)
       → (how ≡ ended.Stopped → (list_all (λ w. is_idle (t w)) ys ≡ false) ⊎ FirstFound (λ w. see (lane w)) false xs ys)

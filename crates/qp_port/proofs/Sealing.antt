@@ -13,7 +13,9 @@ use Rattle.qp_kernel_end.specs.Rests.{AreRestsIn}
 use Rattle.qp_port_law.specs.Sealed.{SealsLanes}
 use Rattle.qp_port_law.specs.Lanes.{HomesAre, SourcesAre}
 use Rattle.qp_port_law.specs.PortLanes.{ArePortLanes}
+use Rattle.qp_port_law.proofs.LaneLemmas.{homes-count}
 use Rattle.qp_port_law.proofs.PortLemmas.{sealed-port}
+use Rattle.qp_port_law.proofs.StartsLemmas.{homes-first}
 use Rattle.qp_port_law.proofs.RestLemmas.{port-rests}
 use Rattle.qp_port_law.specs.ThreadRun.{IsThreadRun}
 use Rattle.qp_port.specs.Laws.{SealedRunsAreLawful}
@@ -44,7 +46,7 @@ sealed sys stimuli budget done rests vs j sound run seals whole = by (end-is j s
 
     by-lanes : ArePortLanes sys stimuli budget run.first run.homes run.sources j → IsThreadRun port sys stimuli budget j × AreRestsIn sys j rests
     by-lanes are = (
-      record { kernel_is = seals.kernel_is; budget_is = seals.budget_is; lawful = sealed-port sys stimuli budget run.first run.homes run.sources j are },
+      record { kernel_is = seals.kernel_is; budget_is = seals.budget_is; lawful = sealed-port sys stimuli budget run.first run.homes run.sources j are; first = homes-first sys budget run.first run.homes run.sources j its run.empty (homes-count sys budget j.end sys.objects run.homes are.ends) run.starts },
       told,
     )
 

@@ -9,6 +9,7 @@ use Rattle.qp_kernel_end.specs.declared.rest.Rest.{Rest}
 use Rattle.qp_port_law.specs.Lanes.{HomesAre, SourcesAre}
 use Rattle.qp_port_law.specs.PortLanes.{PortRests}
 use Rattle.qp_port_law.specs.Rests.{AreTold}
+use Rattle.qp_port_law.specs.StartsFirst.{HomesStartFirst}
 
 -- those of objects and sources, for each end of a run that stopped early
 pub record MayEndEarly (sys : System) (stimuli : List (List Stim)) (budget : ℕ) (homes sources : List LaneView) : Type 0 where
@@ -31,3 +32,4 @@ pub record HasRun (sys : System) (stimuli : List (List Stim)) (budget : ℕ) (do
   pub early : MayEndEarly sys stimuli budget homes sources
   pub quietly : done ≡ true → MayEndQuietly sys stimuli budget first homes sources
   pub told : AreTold sys rests sys.objects homes
+  pub starts : HomesStartFirst homes sources

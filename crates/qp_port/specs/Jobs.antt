@@ -7,12 +7,14 @@ use Rattle.qp_calls.specs.LaneView.{LaneView}
 use Rattle.qp_dispatch.specs.declared.objects.Turn.{Turn}
 use Rattle.qp_dispatch.specs.declared.objects.Turn.TheVariants as turn
 use Rattle.qp_kernel_turns.specs.Lanes.{LaneTurns}
+use Rattle.qp_model_order.specs.SourceRun.{untold_all}
 use Rattle.qp_port_law.specs.SourcesLeft.{SourceLeaves}
+use Rattle.qp_kernel.specs.Starts.{AreStarts, IsStartAlone}
 use Rattle.qp_port_lanes.specs.At.{HasEmptyLane, IsHome, IsMade}
 use Rattle.qp_port_phases.specs.declared.lanes.Passed.{Passed}
 use Rattle.qp_port_phases.specs.Stopping.{HasStarved, HasStopped}
 use Rattle.qp_port_lanes.specs.Turning.{HomeStops, HomeTurns}
-use Rattle.qp_port_lanes.specs.Answers.{turn_by}
+use Rattle.qp_port_lanes.specs.Answers.{is_short, turn_by}
 use Rattle.qp_port_lanes.specs.CursorAt.{IsCursorAt, at_settle_in, left_in, mine}
 use Rattle.qp_port_lanes.specs.SourceTurning.{SourceTurns}
 use Rattle.qp_port.specs.declared.job.Job.{Job}
@@ -78,6 +80,22 @@ abbrev pub TurnsFrom : System → ℕ → Turn → Job → LaneView → Turn →
 TurnsFrom sys budget turn.Idle x v t y w = JobTurns sys budget x y v w t
 TurnsFrom sys budget turn.Stopped x v t y w = (t ≡ turn.Stopped) × (y ≡ x) × (w ≡ v)
 TurnsFrom sys budget turn.Memory x v t y w = (t ≡ turn.Memory) × (y ≡ x) × (w ≡ v)
+
+-- how many objects start in the lane
+abbrev pub starts_of : Job → ℕ
+starts_of job.Nothing = 0
+starts_of (job.Home x) = 1
+starts_of (job.Source x) = 0
+
+-- Its start alone stands in the lane: to its end, where that is the answer, or as far as it came.
+abbrev pub JobStartsAlone : Turn → Job → LaneView → Type 0
+JobStartsAlone turn.Idle x v = AreStarts (starts_of x) (untold_all v.told)
+JobStartsAlone turn.Stopped x v = IsStartAlone (starts_of x) (untold_all v.told)
+JobStartsAlone turn.Memory x v = Unit {0}
+
+-- or as far as it came, where memory wasn't refused
+abbrev pub JobIsAlone : Turn → Job → LaneView → Type 0
+JobIsAlone t x v = is_short t ≡ false → IsStartAlone (starts_of x) (untold_all v.told)
 
 -- behind a `settle` that was passed, or tried
 abbrev pub JobPasses : System → ℕ → Passed → Job → LaneView → Type 0

@@ -1,5 +1,6 @@
 pub mod Jobs
 pub mod Numbers
+pub mod Alone
 pub mod Workers
 pub mod Resting
 pub mod Rows

@@ -1,12 +1,13 @@
 -- A worker: a lane with what runs in it.
 use Rattle.std.proofs.Common.{◌∙◌}
-use Rattle.std.specs.Prelude.{◌≡◌, ℕ, ◌≤◌, false, refl}
+use Rattle.std.specs.Prelude.{◌≡◌, ℕ, ◌≤◌, [], false, refl}
 use Rattle.qp_port_phases.specs.Stopping.{Hears}
 use Rattle.qp_port_lanes.specs.Answers.{IsFed, is_short}
 use Rattle.qp_port_lanes.proofs.Hearing.{hears-itself, hears-then}
 use Rattle.qp_model.specs.declared.systems.System.{System}
 use Rattle.qp_model.specs.Sound.{IsSound}
 use Rattle.qp_calls.specs.LaneView.{LaneView}
+use Rattle.qp_calls.proofs.Advancing.{advances-none, advances-then}
 use Rattle.qp_calls_log.specs.Meeting.{IsTogether}
 use Rattle.qp_dispatch.specs.declared.objects.Turn.{Turn}
 use Rattle.qp_dispatch.specs.declared.objects.Turn.TheVariants as turn
@@ -21,6 +22,7 @@ pub record MayBegin (sys : System) (budget : ℕ) (t : Turn) (x : Job) (v : Lane
   pub few : budget ≤ 1000000
   pub idle : t ≡ turn.Idle
   pub begins : JobBegins sys x v
+  pub none : v.told ≡ []
   pub fed : IsFed v
 
 -- It may take a turn, or be met and looked at like another. Where its last turn stopped, it does nothing more. It has handed in 7 for want of memory
@@ -71,7 +73,7 @@ same-itself s b x v = record {
   sys = refl;
   budget = refl;
   job = same-job x;
-  lane = record { sys = refl; lane = refl; world = refl; plan = refl; happened = refl; serves = λ o. refl };
+  lane = record { sys = refl; lane = refl; world = refl; plan = refl; happened = refl; serves = λ o. refl; advances = advances-none v };
   hears = hears-itself v;
 }
 
@@ -87,6 +89,7 @@ same-still s t u b c d x y z v w m h k = record {
     plan = k.lane.plan ∙ h.lane.plan;
     happened = k.lane.happened ∙ h.lane.happened;
     serves = λ o. k.lane.serves o ∙ h.lane.serves o;
+    advances = advances-then v w m h.lane.advances k.lane.advances;
   };
   hears = hears-then v w m h.hears k.hears;
 }

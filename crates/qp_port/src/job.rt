@@ -1,13 +1,13 @@
 //! What runs in a lane: its start, its turn, and how it passes a `settle`.
 
-ghost use Rattle.std.specs.Prelude.{◌≡◌, ◌≤◌, true};
+ghost use Rattle.std.specs.Prelude.{◌≡◌, ◌≤◌, true, []};
 ghost use Rattle.qp_port_phases.specs.Passing.{PassesTo};
 ghost use Rattle.qp_port_phases.specs.Stopping.{Hears};
 ghost use Rattle.qp_model.specs.Sound.{IsSound};
 ghost use Rattle.qp_kernel_turns.specs.Lanes.{SameLane};
 ghost use Rattle.qp_port_lanes.specs.Answers.{Feeds, turn_by};
 ghost use Rattle.qp_port.specs.declared.job.Job.TheVariants as job;
-ghost use Rattle.qp_port.specs.Jobs.{IsSameJob, JobBegins, JobPasses, JobRests, JobStands, JobTurns, is_left_in, stands_at_settle};
+ghost use Rattle.qp_port.specs.Jobs.{IsSameJob, JobBegins, JobPasses, JobRests, JobStands, JobStartsAlone, JobTurns, is_left_in, stands_at_settle};
 
 use crate::turns::Turns;
 use qp_base::Tells;
@@ -33,6 +33,7 @@ fn start_home<O: Ops>(ops: &mut O, sys: &System, home: &mut Home, budget: u32) -
     requires sound { IsSound sys.now }
     requires begins { JobBegins sys.now (job.Home home.old) (O.lane ops.old) }
     ensures stands { JobStands sys.now budget result (job.Home home.new) (O.lane ops.new) }
+    ensures alone { JobStartsAlone result (job.Home home.new) (O.lane ops.new) }
     ensures same { home.new.me ≡ home.old.me }
     ensures lane { SameLane (O.lane ops.old) (O.lane ops.new) }
     ensures hears { Hears (O.lane ops.old) (O.lane ops.new) }
@@ -51,7 +52,9 @@ fn start_home<O: Ops>(ops: &mut O, sys: &System, home: &mut Home, budget: u32) -
 pub(crate) fn start_job<O: Ops>(ops: &mut O, sys: &System, job: &mut Job<'_>, budget: u32) -> Turn
     requires sound { IsSound sys.now }
     requires begins { JobBegins sys.now job.old (O.lane ops.old) }
+    requires none { (O.lane ops.old).told ≡ [] }
     ensures stands { JobStands sys.now budget result job.new (O.lane ops.new) }
+    ensures alone { JobStartsAlone result job.new (O.lane ops.new) }
     ensures same { IsSameJob job.old job.new }
     ensures lane { SameLane (O.lane ops.old) (O.lane ops.new) }
     ensures hears { Hears (O.lane ops.old) (O.lane ops.new) }

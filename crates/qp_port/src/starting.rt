@@ -6,6 +6,7 @@ ghost use Rattle.qp_port_phases.specs.declared.phases.PhasesEnd.TheVariants as e
 ghost use Rattle.qp_port_phases.specs.Lanes.{AreOneTable, SameEach};
 ghost use Rattle.qp_port_phases.specs.Quiet.{FirstFound, HasEnded};
 ghost use Rattle.qp_port_phases.specs.Turns.{AreReady};
+ghost use Rattle.qp_port_phases.specs.Starting.{StartFirst, StartInOrder};
 
 use qp_port_phases::{PhaseHook, PhaseLane, PhasesEnd, run_phases};
 use std::sync::Wait;
@@ -19,12 +20,22 @@ pub trait Starts: PhaseLane {
     /// Whether its last turn, or its start, came to its end.
     ghost rests: { Self → Bool };
 
+    /// Its lane has no more than its start, or what came of it.
+    ghost alone: { Self → Type 0 };
+
+    /// Its start came to its end, and its lane has no more.
+    ghost started: { Self → Type 0 };
+
     /// Starts. Whether the start came to its end; if it didn't, the worker has ended.
     fn start(&mut self) -> bool
         requires { fresh self.old }
         ensures ready { Self.Worker.ready self.new }
         ensures same { Self.PhaseLane.same self.old self.new }
-        ensures rests { rests self.new ≡ result };
+        ensures rests { rests self.new ≡ result }
+        ensures alone { alone self.new }
+        ensures started { result ≡ true → started self.new };
+
+    ghost fresh_alone: { (a : Self) → fresh a → alone a };
 
     /// It looks at no queue twice without a step.
     ghost rows_none: { (a : Self) → (Self.PhaseLane.numbers a).rows ≡ 0 };
@@ -43,6 +54,9 @@ fn start_all<T: Starts>(workers: &mut [T]) -> bool
     ensures same { SameEach T.same workers.old workers.new }
     ensures all { result ≡ true → AreReady T.ready workers.new }
     ensures some { result ≡ false → list_all T.rests workers.new ≡ false }
+    ensures alone { AreReady T.alone workers.new }
+    ensures started { result ≡ true → AreReady T.started workers.new }
+    ensures order { StartInOrder T.started T.fresh workers.new }
 {
     let Some((one, rest)) = workers.split_first_mut() else {
         return true;
@@ -68,6 +82,7 @@ fn run_all<R: Threads + Wait + Sync, T: Starts, H: PhaseHook>(
     ensures idle { result ≡ ended.Idle → HasEnded T.view T.remains objects.now workers.new }
     ensures stopped { result ≡ ended.Stopped → (list_all T.rests workers.new ≡ false) ⊎ FirstFound T.view false workers.old workers.new }
     ensures memory { result ≡ ended.Memory → FirstFound T.view true workers.old workers.new }
+    ensures first { StartFirst T.view T.alone T.started T.same workers.old workers.new }
 {
     if !start_all(workers) {
         return PhasesEnd::Stopped;
@@ -90,6 +105,7 @@ pub(crate) fn run_workers<R: Threads + Wait + Sync, T: Starts, H: PhaseHook>(
     ensures idle { result.how ≡ ended.Idle → HasEnded T.view T.remains objects.now result.workers.items }
     ensures stopped { result.how ≡ ended.Stopped → (list_all T.rests result.workers.items ≡ false) ⊎ FirstFound T.view false workers.items result.workers.items }
     ensures memory { result.how ≡ ended.Memory → FirstFound T.view true workers.items result.workers.items }
+    ensures first { StartFirst T.view T.alone T.started T.same workers.items result.workers.items }
 {
     let how = run_all(rt, objects, workers.as_mut_slice(), hook);
     Over { workers, how }

@@ -2,7 +2,10 @@
 
 ghost use Rattle.std.specs.Prelude.{◌≡◌, refl, true};
 ghost use Rattle.qp_port_lanes.specs.Answers.{is_idle, is_short};
-ghost use Rattle.qp_port.specs.Jobs.{JobTurns, TurnsFrom, is_left_in, stands_at_settle};
+ghost use Rattle.qp_model_order.specs.SourceRun.{untold_all};
+ghost use Rattle.qp_kernel.specs.Starts.{AreStarts};
+ghost use Rattle.qp_port.specs.Jobs.{JobIsAlone, JobTurns, TurnsFrom, is_left_in, stands_at_settle, starts_of};
+ghost use Rattle.qp_port.specs.Alone.{none-alone};
 ghost use Rattle.qp_port.specs.Numbers.{counts-none, uncounted};
 ghost use Rattle.qp_port.specs.Workers.{IsSameWorker, MayBegin, MayTurn, same-itself, same-still, same-table};
 
@@ -143,6 +146,8 @@ impl<O: Meets + Send, G: Tells + Sync, T: Turns<O> + Sync> PhaseLane for PortWor
 
     ghost same_hears = { λ a b h. h.hears };
 
+    ghost same_advances = { λ a b h. h.lane.advances };
+
     ghost went = { λ a b h. (h.0, h.1) };
 
     ghost went_on = { λ a b h. counts-none (O.lane a.lane) };
@@ -153,10 +158,16 @@ impl<O: Meets + Send, G: Tells + Sync, T: Turns<O> + Sync> Starts for PortWorker
 
     ghost fresh = { λ w. MayBegin w.sys.now w.budget w.turn w.job (O.lane w.lane) };
 
+    ghost alone = { λ w. JobIsAlone w.turn w.job (O.lane w.lane) };
+
+    ghost started = { λ w. AreStarts (starts_of w.job) (untold_all (O.lane w.lane).told) };
+
     fn start(&mut self) -> bool {
         self.turn = start_job(&mut self.lane, self.sys, &mut self.job, self.budget);
         is_idle(&self.turn)
     }
+
+    ghost fresh_alone = { λ w h. none-alone w.turn w.job (O.lane w.lane) h.none };
 
     ghost rows_none = { λ w. refl };
 }

@@ -17,10 +17,10 @@ use Rattle.qp_port_lanes.proofs.Feeding.{fed-new}
 use Rattle.qp_port_lanes.proofs.Standing.{new-stand}
 use Rattle.qp_port_qk.specs.declared.job.QkJob.{QkJob}
 use Rattle.qp_port_qk.specs.declared.job.QkJob.TheVariants as job
-use Rattle.qp_port_qk.specs.Jobs.{JobBegins, JobRests, JobStands}
+use Rattle.qp_port_qk.specs.Jobs.{JobBegins, JobRests, JobStands, starts_of}
 use Rattle.qp_port_qk.specs.Making.{AreAllMade, IsFreshWorker, IsKernelMade, IsSourceMade, MadesKernel, MadesSource, SourcesMade}
 use Rattle.qp_port_qk.specs.Rows.{AreNew, AreNewLanes, AreSources, IsKernel, IsNewOf, IsRow, IsSourceOf}
-use Rattle.qp_port_qk.specs.Workers.{FirstBegins, MayBegin, MayTurn}
+use Rattle.qp_port_qk.specs.Workers.{FirstBegins, MayBegin, MayTurn, IsBlank, OthersAre}
 
 got : (xs : List (List Stim)) (n : ℕ) (x : List Stim) → slice_get xs n ≡ Some x → (get_or xs n [] ≡ x) × (n < length xs)
 got [] n x h = absurd (cc)
@@ -28,14 +28,15 @@ got (y ∷ ys) zero x h = let same : y ≡ x = cc in (same, omega arith)
 got (y ∷ ys) (suc n) x h = let more = got ys n x h in let few = more.1 in (more.0, omega (arith, few))
 
 module _ (acts : Bool) (alone : acts ≡ false) (sys : System) (stimuli : List (List Stim)) (budget : ℕ) (sound : IsSound sys) (fit : StimuliFit sys stimuli) (few : budget ≤ 1000000) where
-  fresh-begin : (s : System) (b : ℕ) (t : Turn) (x : QkJob) (v : LaneView) → IsFreshWorker sys budget s b t → JobBegins sys x v → v.stops ≡ [] → MayBegin acts s b t x v
-  fresh-begin s b t x v fresh h none = record {
+  fresh-begin : (s : System) (b : ℕ) (t : Turn) (x : QkJob) (v : LaneView) → IsFreshWorker sys budget s b t → JobBegins sys x v → v.told ≡ [] → v.stops ≡ [] → MayBegin acts s b t x v
+  fresh-begin s b t x v fresh h none stops = record {
     alone = alone;
     sound = subst IsSound (sym fresh.sys_is) sound;
     few = let same = fresh.budget_is in omega (arith, same, few);
     idle = fresh.idle;
     begins = subst (λ u. JobBegins u x v) (sym fresh.sys_is) h;
-    fed = fed-new v none;
+    none = none;
+    fed = fed-new v stops;
   }
 
   fresh-turn : (s : System) (b : ℕ) (t : Turn) (x : QkJob) (v : LaneView) → IsFreshWorker sys budget s b t → JobRests sys budget x v → v.stops ≡ [] → MayTurn acts s b t x v
@@ -90,12 +91,17 @@ module _ (acts : Bool) (alone : acts ≡ false) (sys : System) (stimuli : List (
       pub row : AreSources work more ws
       pub terms : AreReady HasTerms ws
       pub here : AreReady IsHere ws
+      pub blank : AreReady (λ w. IsBlank (s w) (work w) (view w)) ws
 
     abbrev MadeSource : ℕ → T → Type 0
     MadeSource k w = MadesSource sys budget stimuli k (s w) (b w) (t w) (work w)
 
+    no-starts : (u : System) (ss : List Stim) (x : QkJob) → IsSourceOf ss x → starts_of u x ≡ 0
+    no-starts u ss (job.Source x) is = refl
+    no-starts u ss (job.Kernel xs k) is = absurd is
+
     sources-begin : (n : ℕ) (more : List (List Stim)) (ws : List T) → drop n stimuli ≡ more → SourcesMade MadeSource (n + 1) more ws → AreNew sys world more (map view ws) → MayAllTurn more ws
-    sources-begin n [] [] at made new = record { ready = tt; row = tt; terms = tt; here = tt }
+    sources-begin n [] [] at made new = record { ready = tt; row = tt; terms = tt; here = tt; blank = tt }
     sources-begin n [] (w ∷ ws) at made new = absurd made
     sources-begin n (ss ∷ more) [] at made new = absurd made
     sources-begin n (ss ∷ more) (w ∷ ws) at made new =
@@ -106,6 +112,7 @@ module _ (acts : Bool) (alone : acts ≡ false) (sys : System) (stimuli : List (
           row = (one.1, behind.row);
           terms = ((made.0.fresh.sys_is, made.0.fresh.budget_is), behind.terms);
           here = ((new.0.world_is, new.0.of), behind.here);
+          blank = (record { starts = no-starts (s w) ss (work w) one.1; none = new.0.new.told }, behind.blank);
         }
 
     together : (v : LaneView) → v.world ≡ world → v.sys ≡ sys → (ws : List T) → AreReady IsHere ws → AreTogether view v ws
@@ -118,6 +125,7 @@ module _ (acts : Bool) (alone : acts ≡ false) (sys : System) (stimuli : List (
     pub others : List T
     pub are : ws ≡ first ∷ others
     pub begin : FirstBegins (λ w. MayBegin acts (s w) (b w) (t w) (work w) (view w)) (λ w. MayTurn acts (s w) (b w) (t w) (work w) (view w)) ws
+    pub blank : OthersAre (λ w. IsBlank (s w) (work w) (view w)) ws
     pub row : IsRow work stimuli ws
     pub terms : AreReady (λ w. (s w ≡ sys) × (b w ≡ budget)) ws
     pub together_are : AreTogether view (view first) others
@@ -136,7 +144,8 @@ module _ (acts : Bool) (alone : acts ≡ false) (sys : System) (stimuli : List (
         first = made.first;
         others = made.sources;
         are = made.workers_are;
-        begin = rw made.workers_are (fresh-begin (s made.first) (b made.first) (t made.first) (work made.first) (see (lane made.first)) made.kernel.fresh one.0 all.0.new.stops, behind.ready);
+        begin = rw made.workers_are (fresh-begin (s made.first) (b made.first) (t made.first) (work made.first) (see (lane made.first)) made.kernel.fresh one.0 all.0.new.told all.0.new.stops, behind.ready);
+        blank = rw made.workers_are behind.blank;
         row = rw made.workers_are (one.1, behind.row);
         terms = rw made.workers_are ((made.kernel.fresh.sys_is, made.kernel.fresh.budget_is), behind.terms);
         together_are = together s b t work (λ w. see (lane w)) world (see (lane made.first)) refl all.0.of made.sources behind.here;

@@ -1,5 +1,5 @@
 -- What runs in a lane may end there, where the run stops early.
-use Rattle.std.proofs.Common.{◌≡◌, ℕ, Bool, false, [], refl, sym, ◌∙◌, ap, subst, ◌⊎◌, inl, inr, arith}
+use Rattle.std.proofs.Common.{◌≡◌, ◌++◌, ℕ, Bool, false, [], length, refl, sym, ◌∙◌, ap, subst, ◌⊎◌, inl, inr, arith}
 use Rattle.qp_model.specs.declared.systems.System.{System}
 use Rattle.qp_model.specs.KernelLane.{is_over}
 use Rattle.qp_model.specs.Kernels.{qk}
@@ -13,6 +13,8 @@ use Rattle.qp_kernel.specs.declared.kernel.Kernel.{Kernel}
 use Rattle.qp_kernel.specs.Turning.{under_qk}
 use Rattle.qp_kernel_turns.specs.declared.objects.Objects.{Objects}
 use Rattle.qp_kernel_turns.specs.Knowing.{KnowsAt}
+use Rattle.qp_model_order.specs.SourceRun.{untold_all}
+use Rattle.qp_kernel.specs.Starts.{AreStarts, IsStartAlone}
 use Rattle.qp_kernel_turns.specs.Lanes.{KeepsLane, LaneStarts, SameLane}
 use Rattle.qp_kernel_turns.specs.Starting.{AllStarted, HasBegun, StartStopped}
 use Rattle.qp_kernel_turns.specs.Turning.{stand_of}
@@ -95,7 +97,7 @@ pub started-none : (sys : System) (budget : ℕ) (xs ys : Objects) (v w : LaneVi
 started-none sys budget xs ys v w all = let b = all.base (under_qk budget) in idle-is sys (under_qk budget) w b.knows.state b.knows.stands b.knows.told b.knows.now ∙ b.at.idle
 
 keeps-same : (v w : LaneView) → KeepsLane false v w → SameLane v w
-keeps-same v w k = record { sys = k.same.sys; lane = k.same.lane; world = k.same.world; plan = k.same.plan; happened = k.still refl; serves = k.same.serves }
+keeps-same v w k = record { sys = k.same.sys; lane = k.same.lane; world = k.same.world; plan = k.same.plan; happened = k.still refl; serves = k.same.serves; advances = k.same.advances }
 
 pub starts-same : (v w : LaneView) (s : Step) → LaneStarts v w s → SameLane v w
 starts-same v w step.Point h = absurd h
@@ -108,3 +110,13 @@ stopped-ends sys budget v w h end early = (h.turn (under_qk budget)).zero end ea
 
 pub stopped-none : (sys : System) (budget : ℕ) (v w : LaneView) → StartStopped sys v w → idle_rows sys (under_qk budget) w ≡ 0
 stopped-none sys budget v w h = let few = h.none (under_qk budget) refl in omega (arith, few)
+
+-- Nothing but starts stands in the lane.
+
+pub kernel-alone : (sys : System) (xs ys : Objects) (k : Kernel) (v w : LaneView) → KernelBegins sys xs k v → AllStarted sys xs ys v w → AreStarts (length sys.objects) (untold_all w.told)
+kernel-alone sys xs ys k v w h all = subst (λ ts. AreStarts (length sys.objects) (untold_all ts)) (sym (all.grows.gains.told ∙ ap (λ ts. ts ++ all.grows.ts) h.fresh.new.told)) all.grows.are
+
+pub stopped-alone : (sys : System) (xs : Objects) (k : Kernel) (v w : LaneView) → KernelBegins sys xs k v → StartStopped sys v w → IsStartAlone (length sys.objects) (untold_all w.told)
+stopped-alone sys xs k v w h s =
+    subst (λ ts. IsStartAlone (length sys.objects) (untold_all ts)) (sym (ap (λ u. u.told) s.grows.stops ∙ s.grows.gains.told ∙ ap (λ ts. ts ++ s.grows.ts) h.fresh.new.told))
+    (s.alone (length sys.objects) s.left)

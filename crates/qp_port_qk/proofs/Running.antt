@@ -6,6 +6,7 @@ use Rattle.std.specs.List.{AllByRecursion, list_all, list_any}
 use Rattle.qp_model.specs.declared.stimulus.Stim.{Stim}
 use Rattle.qp_model.specs.declared.systems.System.{System}
 use Rattle.qp_model.specs.declared.systems.ObjectDef.{ObjectDef}
+use Rattle.qp_model.specs.declared.words.Word.{Word}
 use Rattle.qp_model.specs.declared.words.Word.TheVariants as word
 use Rattle.qp_model.specs.Ends.{may_cut, quiet}
 use Rattle.qp_model.specs.Kernels.{qk}
@@ -47,12 +48,18 @@ use Rattle.qp_port_qk.specs.declared.job.QkJob.{QkJob}
 use Rattle.qp_port_qk.specs.declared.job.QkJob.TheVariants as job
 use Rattle.qp_port_qk.specs.Ends.{HasRun, is_over}
 use Rattle.qp_port_lanes.specs.Answers.{IsFed, is_idle, is_short}
-use Rattle.qp_port_qk.specs.Jobs.{JobMayEnd, JobRests, JobStands, is_left_in}
+use Rattle.qp_model_order.specs.SourceRun.{untold_all}
+use Rattle.qp_kernel.specs.Starts.{AreStarts}
+use Rattle.qp_port_phases.specs.Starting.{StartFirst}
+use Rattle.qp_port_law.specs.StartsFirst.{AreApart, IsApart}
+use Rattle.qp_port_law.proofs.Apart.{AreAllApart, apart-each}
+use Rattle.qp_port_qk.specs.Alone.{same-starts}
+use Rattle.qp_port_qk.specs.Jobs.{JobMayEnd, JobRests, JobStands, is_left_in, JobIsAlone, starts_of}
 use Rattle.qp_port_qk.specs.KernelRests.{KernelEnds}
 use Rattle.qp_port_qk.specs.Numbers.{job_rows, numbers_of}
 use Rattle.qp_port_qk.specs.Resting.{AreLeft, AreShownBy, AreShownFirst}
 use Rattle.qp_port_qk.specs.Rows.{AreSameLanes, AreSources, IsKernel, IsRow, IsSourceOf}
-use Rattle.qp_port_qk.specs.Workers.{IsSameWorker, MayEnd, MayTurn}
+use Rattle.qp_port_qk.specs.Workers.{IsSameWorker, MayBegin, MayEnd, MayTurn, FirstBegins, IsBlank, OthersAre}
 use Rattle.qp_port_qk.proofs.Beginning.{AreReadyAll}
 use Rattle.qp_port_qk.proofs.Ending.{has-turned}
 use Rattle.qp_port_qk.proofs.Resting.{based-rest, no-rests, shown-rests}
@@ -105,7 +112,7 @@ module _ {T : Type 0} (view : T → LaneView) where
   below-at : (v : LaneView) (ws : List T) → AllBelow view v ws → (a n : ℕ) (u : LaneView) → IsLaneAt (map view ws) n u → u.mark (word.Queue a) ≤ v.mark (word.Queue a)
   below-at v [] h a zero u at = absurd (cc)
   below-at v [] h a (suc n) u at = absurd (cc)
-  below-at v (w ∷ ws) h a zero u at = let same : view w ≡ u = some-same at in subst (λ (x : LaneView). x.mark (word.Queue a) ≤ v.mark (word.Queue a)) same (h.0 a)
+  below-at v (w ∷ ws) h a zero u at = let same : view w ≡ u = some-same at in subst (λ (x : LaneView). x.mark (word.Queue a) ≤ v.mark (word.Queue a)) same (h.0 (word.Queue a))
   below-at v (w ∷ ws) h a (suc n) u at = below-at v ws h.1 a n u at
 
   below-all : (w : T) (ws : List T) → AllBelow view (view w) ws → (a n : ℕ) (u : LaneView) → IsLaneAt (view w ∷ map view ws) n u → u.mark (word.Queue a) ≤ (view w).mark (word.Queue a)
@@ -145,10 +152,24 @@ module _ {T : Type 0} (work : T → QkJob) (view : T → LaneView) (sys : System
   sources-quiet [] (w ∷ ws) row h none = absurd row
   sources-quiet (ss ∷ more) [] row h none = absurd row
 
+  sources-apart : (floor : Word → ℕ) (more : List (List Stim)) (ws : List T) → AreSources work more ws → AreReady (λ w. IsApart floor (starts_of sys (work w)) (untold_all (view w).told)) ws → AreApart floor 0 (map view ws)
+  sources-apart floor [] [] row h = tt
+  sources-apart floor (ss ∷ more) (w ∷ ws) row h = (by (work w) row.0 h.0, sources-apart floor more ws row.1 h.1)
+    where
+      by : (x : QkJob) → IsSourceOf ss x → IsApart floor (starts_of sys x) (untold_all (view w).told) → IsApart floor 0 (untold_all (view w).told)
+      by (job.Source x) is apart = apart
+      by (job.Kernel xs k) is apart = absurd is
+  sources-apart floor [] (w ∷ ws) row h = absurd row
+  sources-apart floor (ss ∷ more) [] row h = absurd row
+
+  first-apart : (floor : Word → ℕ) (x : QkJob) (v : LaneView) → IsKernel x → IsApart floor (starts_of sys x) (untold_all v.told) → IsApart floor (length sys.objects) (untold_all v.told)
+  first-apart floor (job.Kernel xs k) v is apart = apart
+  first-apart floor (job.Source x) v is apart = absurd is
+
   pub ends-all : (sound : IsSound sys) (stimuli : List (List Stim)) (done : Bool) (rests : List Rest) (w : T) (ws : List T) → IsRow work stimuli (w ∷ ws) → AreReady (λ w. JobMayEnd sys budget (work w) (view w)) (w ∷ ws)
       → (done ≡ true → AreReady (λ w. JobRests sys budget (work w) (view w)) (w ∷ ws) × HasEnded view (λ w. is_left_in (work w)) (priorities sys) (w ∷ ws))
-      → job_rows sys budget (work w) (view w) ≤ settles_in (map view (w ∷ ws)) + 1 → AreRests sys (λ o. own_told o (view w).told) rests → HasRun sys stimuli budget done rests (map view (w ∷ ws))
-  ends-all sound stimuli done rests w ws row h quietly few told = record {
+      → job_rows sys budget (work w) (view w) ≤ settles_in (map view (w ∷ ws)) + 1 → AreRests sys (λ o. own_told o (view w).told) rests → AreAllApart (λ u. starts_of sys (work u)) view (w ∷ ws) → HasRun sys stimuli budget done rests (map view (w ∷ ws))
+  ends-all sound stimuli done rests w ws row h quietly few told apart = record {
     first = view w;
     sources = map view ws;
     are = refl;
@@ -160,6 +181,7 @@ module _ {T : Type 0} (work : T → QkJob) (view : T → LaneView) (sys : System
         record { ends = record { zero = first.0; leave = none.0 }; rests = first.1 };
     rows = subst (λ n. n ≤ settles_in (map view (w ∷ ws)) + 1) (first-rows sys budget (work w) (view w) row.0) few;
     told = told;
+    starts = record { floor = apart.floor; zero_apart = first-apart apart.floor (work w) (view w) row.0 apart.each.0; sources_apart = sources-apart apart.floor stimuli ws row.1 apart.each.1 };
   }
 
 module _ (acts : Bool) (alone : acts ≡ false) (sys : System) (stimuli : List (List Stim)) (budget : ℕ) (sound : IsSound sys) (fit : StimuliFit sys stimuli) (few : budget ≤ 1000000)
@@ -199,9 +221,26 @@ module _ (acts : Bool) (alone : acts ≡ false) (sys : System) (stimuli : List (
     pub ran : (how : Option PhasesEnd) (done : Bool) (rests : List Rest) (objects : List ℕ) → objects ≡ priorities sys → AreReady (λ w. MayEnd (s w) (b w) (t w) (work w) (view w)) ys
         → ((e : PhasesEnd) → how ≡ Some e → AreReady (λ w. MayTurn acts (s w) (b w) (t w) (work w) (view w)) ys) → HasFewRows (λ w. numbers_of (s w) (b w) (t w) (work w) (view w)) 1 ys
         → (how ≡ Some ended.Idle → HasEnded view (λ w. is_left_in (work w)) objects ys)
-        → AreLeft work how ys rests → list_any (λ w. is_short (t w)) ys ≡ false → (done ≡ true → (how ≡ Some ended.Idle) × (list_all (λ w. is_idle (t w)) ys ≡ true)) → HasRun sys stimuli budget done rests (map view ys)
-    ran how done rests objects are ends ready rows idle shown long quietly = by ys refl
+        → AreLeft work how ys rests → list_any (λ w. is_short (t w)) ys ≡ false → (done ≡ true → (how ≡ Some ended.Idle) × (list_all (λ w. is_idle (t w)) ys ≡ true))
+        → StartFirst view (λ w. JobIsAlone (s w) (t w) (work w) (view w)) (λ w. AreStarts (starts_of (s w) (work w)) (untold_all (view w).told)) Same xs ys → HasRun sys stimuli budget done rests (map view ys)
+    ran how done rests objects are ends ready rows idle shown long quietly starts = by ys refl
       where
+        nothing-told : AreReady (λ w. (view w).told ≡ []) xs
+        nothing-told = subst (AreReady (λ w. (view w).told ≡ [])) (sym all.are) (
+          (subst (FirstBegins (λ w. MayBegin acts (s w) (b w) (t w) (work w) (view w)) (λ w. MayTurn acts (s w) (b w) (t w) (work w) (view w))) all.are all.begin).0.none,
+          ready-map (λ w. IsBlank (s w) (work w) (view w)) (λ w. (view w).told ≡ []) (λ w h. h.none) all.others (subst (OthersAre (λ w. IsBlank (s w) (work w) (view w))) all.are all.blank),
+        )
+
+        -- of the system of all
+        apart-at : (zs : List T) (floor : Word → ℕ) → AreReady (λ w. (s w ≡ sys) × (b w ≡ budget)) zs → AreReady (λ w. IsApart floor (starts_of (s w) (work w)) (untold_all (view w).told)) zs → AreReady (λ w. IsApart floor (starts_of sys (work w)) (untold_all (view w).told)) zs
+        apart-at [] floor at h = tt
+        apart-at (z ∷ zs) floor at h = (subst (λ u. IsApart floor (starts_of u (work z)) (untold_all (view z).told)) at.0.0 h.0, apart-at zs floor at.1 h.1)
+
+        apart : AreAllApart (λ u. starts_of sys (work u)) view ys
+        apart =
+            let a = apart-each (λ w. starts_of (s w) (work w)) (λ w. is_short (t w)) view Same (λ x y h. same-starts (s x) (s y) (work x) (work y) h.sys h.job) (λ x y h. h.lane.advances) xs ys nothing-told same (ready-none (λ w. is_short (t w)) ys long) starts in
+            record { floor = a.floor; each = apart-at ys a.floor terms a.each }
+
         told-by : (h : Option PhasesEnd) → how ≡ h → (w : T) (ws : List T) → ys ≡ w ∷ ws → is_short (t w) ≡ false → s w ≡ sys → AreRests sys (λ o. own_told o (view w).told) rests
         told-by None is w ws at free of = subst (AreRests sys (λ o. own_told o (view w).told)) (sym (subst (λ h. AreLeft work h ys rests) is shown)) (no-rests sys (λ o. own_told o (view w).told))
         told-by (Some e) is w ws at free of =
@@ -227,7 +266,7 @@ module _ (acts : Bool) (alone : acts ≡ false) (sys : System) (stimuli : List (
               subst (AreReady (λ w. JobRests sys budget (work w) (view w))) at (rests-all (ready ended.Idle (quietly is).0) (quietly is).1),
               subst (HasEnded view (λ w. is_left_in (work w)) (priorities sys)) at (subst (λ os. HasEnded view (λ w. is_left_in (work w)) os ys) are (idle (quietly is).0)),
             ))
-            mine (told-by how refl w ws at long-here.0 here.0.0))
+            mine (told-by how refl w ws at long-here.0 here.0.0) (subst (AreAllApart (λ u. starts_of sys (work u)) view) at apart))
 
 -- Why something is left to be done.
 

@@ -20,6 +20,7 @@ use Rattle.qp_port_law.specs.Lanes.{SourcesAre, settles_in}
 use Rattle.qp_port_law.specs.QkLanes.{AreQkLanes}
 use Rattle.qp_port_law.proofs.QkLemmas.{sealed-qk}
 use Rattle.qp_port_law.proofs.RestLemmas.{qk-rests}
+use Rattle.qp_port_law.proofs.StartsLemmas.{zero-first}
 use Rattle.qp_port_law.specs.ThreadRun.{IsThreadRun}
 use Rattle.qp_port_qk.specs.Laws.{SealedQkRunsAreLawful}
 
@@ -52,7 +53,7 @@ sealed sys stimuli budget done rests vs j sound run seals whole = by (end-is j s
 
     by-lanes : AreQkLanes sys stimuli budget run.first run.sources j → IsThreadRun qk sys stimuli budget j × AreRestsIn sys j rests
     by-lanes are = (
-      record { kernel_is = seals.kernel_is; budget_is = seals.budget_is; lawful = sealed-qk sys stimuli budget run.first run.sources j are },
+      record { kernel_is = seals.kernel_is; budget_is = seals.budget_is; lawful = sealed-qk sys stimuli budget run.first run.sources j are; first = zero-first sys budget run.first run.sources j its run.starts },
       told,
     )
 

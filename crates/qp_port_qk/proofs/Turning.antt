@@ -108,7 +108,7 @@ kernel-turned acts sys budget xs ys k l v w turn.Stopped h goes order rests coun
 kernel-turned acts sys budget xs ys k l v w turn.Memory h goes order rests counted lane = why-starved v w lane.handed
 
 keeps-same : (acts : Bool) (v w : LaneView) → acts ≡ false → KeepsLane acts v w → SameLane v w
-keeps-same acts v w alone k = record { sys = k.same.sys; lane = k.same.lane; world = k.same.world; plan = k.same.plan; happened = k.still alone; serves = k.same.serves }
+keeps-same acts v w alone k = record { sys = k.same.sys; lane = k.same.lane; world = k.same.world; plan = k.same.plan; happened = k.still alone; serves = k.same.serves; advances = k.same.advances }
 
 pub kernel-same : (acts : Bool) (v w : LaneView) (t : Turn) → acts ≡ false → LaneTurns acts v w t → SameLane v w
 kernel-same acts v w turn.Idle alone h = keeps-same acts v w alone h.keeps

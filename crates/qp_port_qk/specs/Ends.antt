@@ -1,5 +1,5 @@
 -- The lanes of a run that has ended.
-use Rattle.std.specs.Prelude.{◌≡◌, ℕ, ◌+◌, ◌≤◌, Bool, true, false, List, ◌∷◌, None, Some}
+use Rattle.std.specs.Prelude.{◌≡◌, ℕ, ◌+◌, ◌≤◌, Bool, true, false, List, ◌∷◌, length, None, Some}
 use Rattle.std.specs.declared.option.Option.{Option}
 use Rattle.qp_model.specs.declared.stimulus.Stim.{Stim}
 use Rattle.qp_model.specs.declared.systems.System.{System}
@@ -18,6 +18,7 @@ use Rattle.qp_port_phases.specs.declared.phases.PhasesEnd.{PhasesEnd}
 use Rattle.qp_port_phases.specs.declared.phases.PhasesEnd.TheVariants as ended
 use Rattle.qp_port_law.specs.Lanes.{SourcesAre, settles_in}
 use Rattle.qp_port_law.specs.QkLanes.{QkRests}
+use Rattle.qp_port_law.specs.StartsFirst.{ZeroStartsFirst}
 
 -- all starts came to their end, and the phases ended idle
 abbrev pub is_over : Option PhasesEnd → Bool
@@ -46,3 +47,4 @@ pub record HasRun (sys : System) (stimuli : List (List Stim)) (budget : ℕ) (do
   pub quietly : done ≡ true → MayEndQuietly sys stimuli budget first sources
   pub rows : idle_rows sys (under_qk budget) first ≤ settles_in vs + 1
   pub told : AreRests sys (λ o. own_told o first.told) rests
+  pub starts : ZeroStartsFirst (length sys.objects) first sources

@@ -1,5 +1,5 @@
 -- What runs in a lane, and where it stands there.
-use Rattle.std.specs.Prelude.{◌≡◌, ℕ, Bool, true, false, ⊤}
+use Rattle.std.specs.Prelude.{◌≡◌, ℕ, Bool, true, false, length, ⊤}
 use Rattle.qp_model.specs.declared.systems.System.{System}
 use Rattle.qp_model.specs.Kernels.{may_try}
 use Rattle.qp_model.specs.Ends.{may_cut}
@@ -7,6 +7,8 @@ use Rattle.qp_calls.specs.LaneView.{LaneView}
 use Rattle.qp_dispatch.specs.declared.objects.Turn.{Turn}
 use Rattle.qp_dispatch.specs.declared.objects.Turn.TheVariants as turn
 use Rattle.qp_kernel.specs.declared.kernel.Kernel.{Kernel}
+use Rattle.qp_model_order.specs.SourceRun.{untold_all}
+use Rattle.qp_kernel.specs.Starts.{AreStarts, IsStartAlone}
 use Rattle.qp_kernel.specs.Turning.{under_qk}
 use Rattle.qp_kernel_turns.specs.declared.objects.Objects.{Objects}
 use Rattle.qp_kernel_turns.specs.Lanes.{LaneTurns}
@@ -14,6 +16,7 @@ use Rattle.qp_kernel_turns.specs.Ordering.{TurnsInOrder}
 use Rattle.qp_kernel_turns.specs.Turning.{TurnsTo, stand_of}
 use Rattle.qp_port_phases.specs.Stopping.{HasStarved, HasStopped}
 use Rattle.qp_port_law.specs.SourcesLeft.{SourceLeaves}
+use Rattle.qp_port_lanes.specs.Answers.{is_short}
 use Rattle.qp_port_lanes.specs.CursorAt.{IsCursorAt, at_settle_in, left_in, mine}
 use Rattle.qp_port_lanes.specs.SourceTurning.{SourceTurns}
 use Rattle.qp_port_qk.specs.declared.job.QkJob.{QkJob}
@@ -35,6 +38,21 @@ abbrev pub IsSameJob : QkJob → QkJob → Type 0
 IsSameJob (job.Kernel xs k) (job.Kernel ys l) = ⊤
 IsSameJob (job.Source x) (job.Source y) = mine y ≡ mine x
 IsSameJob _ _ = ⊥
+
+-- how many objects start in the lane
+abbrev pub starts_of : System → QkJob → ℕ
+starts_of sys (job.Kernel xs k) = length sys.objects
+starts_of sys (job.Source x) = 0
+
+-- Its starts alone stand in the lane: to their end, where that is the answer, or as far as they came.
+abbrev pub JobStartsAlone : System → Turn → QkJob → LaneView → Type 0
+JobStartsAlone sys turn.Idle x v = AreStarts (starts_of sys x) (untold_all v.told)
+JobStartsAlone sys turn.Stopped x v = IsStartAlone (starts_of sys x) (untold_all v.told)
+JobStartsAlone sys turn.Memory x v = Unit {0}
+
+-- or as far as they came, where memory wasn't refused
+abbrev pub JobIsAlone : System → Turn → QkJob → LaneView → Type 0
+JobIsAlone sys t x v = is_short t ≡ false → IsStartAlone (starts_of sys x) (untold_all v.told)
 
 -- between two turns
 abbrev pub JobRests : System → ℕ → QkJob → LaneView → Type 0

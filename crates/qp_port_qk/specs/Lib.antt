@@ -2,6 +2,7 @@ pub mod KernelRests
 pub mod Jobs
 pub mod Numbers
 pub mod Workers
+pub mod Alone
 pub mod Rows
 pub mod Making
 pub mod Resting

@@ -1,9 +1,10 @@
 -- A worker: a lane with what runs in it.
 use Rattle.std.proofs.Common.{◌∙◌}
-use Rattle.std.specs.Prelude.{◌≡◌, ℕ, ◌≤◌, Bool, false, List, [], ◌∷◌, refl}
+use Rattle.std.specs.Prelude.{◌≡◌, ℕ, ◌≤◌, Bool, false, List, [], ◌∷◌, ⊤, refl}
 use Rattle.qp_model.specs.declared.systems.System.{System}
 use Rattle.qp_model.specs.Sound.{IsSound}
 use Rattle.qp_calls.specs.LaneView.{LaneView}
+use Rattle.qp_calls.proofs.Advancing.{advances-none, advances-then}
 use Rattle.qp_calls_log.specs.Meeting.{IsTogether}
 use Rattle.qp_dispatch.specs.declared.objects.Turn.{Turn}
 use Rattle.qp_kernel_turns.specs.Lanes.{SameLane}
@@ -14,7 +15,7 @@ use Rattle.qp_port_lanes.proofs.Hearing.{hears-itself, hears-then}
 use Rattle.qp_port_qk.specs.declared.job.QkJob.{QkJob}
 use Rattle.qp_port_qk.specs.declared.job.QkJob.TheVariants as job
 use Rattle.qp_dispatch.specs.declared.objects.Turn.TheVariants as turn
-use Rattle.qp_port_qk.specs.Jobs.{IsSameJob, JobBegins, JobEnds, JobStands}
+use Rattle.qp_port_qk.specs.Jobs.{IsSameJob, JobBegins, JobEnds, JobStands, starts_of}
 
 -- It may take a turn, or be met and looked at like another. Where its last turn stopped, it does nothing more. It has handed in 7 for want of memory
 -- alone. In the looks of its world nothing happens.
@@ -32,6 +33,7 @@ pub record MayBegin (acts : Bool) (sys : System) (budget : ℕ) (t : Turn) (x : 
   pub few : budget ≤ 1000000
   pub idle : t ≡ turn.Idle
   pub begins : JobBegins sys x v
+  pub none : v.told ≡ []
   pub fed : IsFed v
 
 -- the run has ended
@@ -65,7 +67,7 @@ same-itself s b x v = record {
   sys = refl;
   budget = refl;
   job = same-job x;
-  lane = record { sys = refl; lane = refl; world = refl; plan = refl; happened = refl; serves = λ o. refl };
+  lane = record { sys = refl; lane = refl; world = refl; plan = refl; happened = refl; serves = λ o. refl; advances = advances-none v };
   hears = hears-itself v;
 }
 
@@ -81,12 +83,23 @@ same-still s t u b c d x y z v w m h k = record {
     plan = k.lane.plan ∙ h.lane.plan;
     happened = k.lane.happened ∙ h.lane.happened;
     serves = λ o. k.lane.serves o ∙ h.lane.serves o;
+    advances = advances-then v w m h.lane.advances k.lane.advances;
   };
   hears = hears-then v w m h.hears k.hears;
 }
 
 pub same-table : (s t : System) (b c : ℕ) (x y : QkJob) (v w : LaneView) → IsSameWorker s t b c x y v w → IsTogether v w
 same-table s t b c x y v w h = record { world = h.lane.world; sys = h.lane.sys }
+
+-- nothing starts in its lane, and nothing stands there
+pub record IsBlank (sys : System) (x : QkJob) (v : LaneView) : Type 0 where
+  pub starts : starts_of sys x ≡ 0
+  pub none : v.told ≡ []
+
+-- but for the first, these are so
+abbrev pub OthersAre : {T : Type 0} → (T → Type 0) → List T → Type 0
+OthersAre P [] = ⊤
+OthersAre P (w ∷ ws) = AreReady P ws
 
 -- the first hasn't started, and the others may take turns
 abbrev pub FirstBegins : {T : Type 0} → (T → Type 0) → (T → Type 0) → List T → Type 0

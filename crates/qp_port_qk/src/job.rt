@@ -1,6 +1,6 @@
 //! What runs in a lane: its turn, and how it passes a `settle`.
 
-ghost use Rattle.std.specs.Prelude.{◌≡◌, ◌≤◌, true, false};
+ghost use Rattle.std.specs.Prelude.{◌≡◌, ◌≤◌, true, false, []};
 ghost use Rattle.qp_dispatch.specs.declared.objects.Turn.TheVariants as turn;
 ghost use Rattle.qp_port_qk.specs.declared.job.QkJob.TheVariants as job;
 ghost use Rattle.qp_model.specs.Sound.{IsSound};
@@ -9,7 +9,7 @@ ghost use Rattle.qp_port_phases.specs.Passing.{PassesTo};
 ghost use Rattle.qp_port_phases.specs.Rows.{CountsOn, PassCounts};
 ghost use Rattle.qp_port_phases.specs.Stopping.{Hears};
 ghost use Rattle.qp_port_lanes.specs.Answers.{Feeds, is_short, turn_by};
-ghost use Rattle.qp_port_qk.specs.Jobs.{IsSameJob, JobBegins, JobRests, JobStands, JobStarts, JobTurns, KernelStands, KernelTurns, is_left_in, stands_at_settle};
+ghost use Rattle.qp_port_qk.specs.Jobs.{IsSameJob, JobBegins, JobRests, JobStands, JobStarts, JobStartsAlone, JobTurns, KernelStands, KernelTurns, is_left_in, stands_at_settle};
 ghost use Rattle.qp_port_qk.specs.KernelRests.{KernelBegins, KernelRests};
 ghost use Rattle.qp_port_qk.specs.Numbers.{job_rows, numbers_of};
 
@@ -42,6 +42,7 @@ fn start_kernel<O: Ops>(
     requires sound { IsSound sys.now }
     requires begins { KernelBegins sys.now objects.old kernel.now (O.lane ops.old) }
     ensures starts { JobStarts sys.now budget result (job.Kernel objects.new kernel.now) (O.lane ops.new) }
+    ensures alone { JobStartsAlone sys.now result (job.Kernel objects.new kernel.now) (O.lane ops.new) }
     ensures lane { SameLane (O.lane ops.old) (O.lane ops.new) }
     ensures hears { Hears (O.lane ops.old) (O.lane ops.new) }
     ensures feeds { Feeds (O.lane ops.old) (O.lane ops.new) result }
@@ -61,7 +62,9 @@ fn start_kernel<O: Ops>(
 pub(crate) fn start_job<O: Ops>(ops: &mut O, sys: &System, job: &mut QkJob<'_>, budget: u32) -> Turn
     requires sound { IsSound sys.now }
     requires begins { JobBegins sys.now job.old (O.lane ops.old) }
+    requires none { (O.lane ops.old).told ≡ [] }
     ensures starts { JobStarts sys.now budget result job.new (O.lane ops.new) }
+    ensures alone { JobStartsAlone sys.now result job.new (O.lane ops.new) }
     ensures same { IsSameJob job.old job.new }
     ensures lane { SameLane (O.lane ops.old) (O.lane ops.new) }
     ensures hears { Hears (O.lane ops.old) (O.lane ops.new) }

@@ -8,7 +8,8 @@ ghost use Rattle.qp_port_phases.specs.Lanes.{AreOneTable, SameEach};
 ghost use Rattle.qp_port_phases.specs.Quiet.{FirstFound, HasEnded};
 ghost use Rattle.qp_port_phases.specs.Rows.{HasFewRows};
 ghost use Rattle.qp_port_phases.specs.Turns.{AreReady};
-ghost use Rattle.qp_port_qk.specs.Workers.{FirstBegins};
+ghost use Rattle.qp_port_phases.specs.Starting.{StartFirst};
+ghost use Rattle.qp_port_qk.specs.Workers.{FirstBegins, OthersAre};
 
 use qp_port_phases::{NoHook, PhaseLane, PhasesEnd, run_phases};
 use std::sync::Wait;
@@ -25,6 +26,15 @@ pub trait QkStarts: PhaseLane {
     /// Whether its last turn, or its start, came to its end.
     ghost rests: { Self → Bool };
 
+    /// Nothing starts in its lane, and nothing stands there.
+    ghost blank: { Self → Type 0 };
+
+    /// Its lane has no more than its starts, or what came of them.
+    ghost alone: { Self → Type 0 };
+
+    /// Its starts came to their end, and its lane has no more.
+    ghost started: { Self → Type 0 };
+
     /// Starts. Whether the start came to its end.
     fn start(&mut self) -> bool
         requires { begins self.old }
@@ -32,12 +42,21 @@ pub trait QkStarts: PhaseLane {
         ensures ready { result ≡ true → Self.Worker.ready self.new }
         ensures same { Self.PhaseLane.same self.old self.new }
         ensures rests { rests self.new ≡ result }
-        ensures none { (Self.PhaseLane.numbers self.new).lost ≡ false → (Self.PhaseLane.numbers self.new).rows ≡ 0 };
+        ensures none { (Self.PhaseLane.numbers self.new).lost ≡ false → (Self.PhaseLane.numbers self.new).rows ≡ 0 }
+        ensures alone { alone self.new }
+        ensures started { result ≡ true → started self.new };
+
+    ghost blank_alone: { (a : Self) → blank a → alone a };
+
+    ghost blank_started: { (a : Self) → blank a → started a };
 }
 
 /// Starts the first of these. Whether its start came to its end.
 fn start_first<T: QkStarts>(workers: &mut [T]) -> bool
-    requires { FirstBegins T.begins T.ready workers.old }
+    requires begins { FirstBegins T.begins T.ready workers.old }
+    requires blank { OthersAre T.blank workers.old }
+    ensures alone { AreReady T.alone workers.new }
+    ensures started { result ≡ true → AreReady T.started workers.new }
     ensures each { AreReady (λ w. T.ready w ⊎ T.ended w) workers.new }
     ensures same { SameEach T.same workers.old workers.new }
     ensures ready { result ≡ true → AreReady T.ready workers.new }
@@ -57,7 +76,9 @@ pub(crate) fn start_and_run<R: Threads + Wait + Sync, T: QkStarts>(
     workers: &mut [T],
 ) -> Option<PhasesEnd>
     requires begins { FirstBegins T.begins T.ready workers.old }
+    requires blank { OthersAre T.blank workers.old }
     requires table { AreOneTable T.view objects.now workers.old }
+    ensures first { StartFirst T.view T.alone T.started T.same workers.old workers.new }
     ensures each { AreReady (λ w. T.ready w ⊎ T.ended w) workers.new }
     ensures same { SameEach T.same workers.old workers.new }
     ensures ready { (how : PhasesEnd) → result ≡ Some how → AreReady T.ready workers.new }

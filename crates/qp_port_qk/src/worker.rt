@@ -3,9 +3,12 @@
 ghost use Rattle.std.specs.Prelude.{◌≡◌, false, true};
 ghost use Rattle.qp_port_phases.specs.Rows.{CountsOn};
 ghost use Rattle.qp_port_lanes.specs.Answers.{is_idle, is_short};
-ghost use Rattle.qp_port_qk.specs.Jobs.{JobTurns, TurnsFrom, is_left_in, stands_at_settle};
+ghost use Rattle.qp_model_order.specs.SourceRun.{untold_all};
+ghost use Rattle.qp_kernel.specs.Starts.{AreStarts};
+ghost use Rattle.qp_port_qk.specs.Alone.{blank-alone, blank-started};
+ghost use Rattle.qp_port_qk.specs.Jobs.{JobTurns, TurnsFrom, is_left_in, stands_at_settle, JobIsAlone, starts_of};
 ghost use Rattle.qp_port_qk.specs.Numbers.{numbers_of};
-ghost use Rattle.qp_port_qk.specs.Workers.{IsSameWorker, MayBegin, MayEnd, MayTurn, same-itself, same-still, same-table};
+ghost use Rattle.qp_port_qk.specs.Workers.{IsSameWorker, MayBegin, MayEnd, MayTurn, same-itself, same-still, same-table, IsBlank};
 
 use crate::job::{QkJob, pass_job, run_job, start_job};
 use crate::starting::QkStarts;
@@ -132,6 +135,8 @@ impl<W: World + Meets + Send, G: Tells + Sync> PhaseLane for QkWorker<'_, W, G> 
 
     ghost same_hears = { λ a b h. h.hears };
 
+    ghost same_advances = { λ a b h. h.lane.advances };
+
     ghost went = { λ a b h. (h.0, h.1) };
 
     ghost went_on = { λ a b h. h.2 };
@@ -143,6 +148,16 @@ impl<W: World + Meets + Send, G: Tells + Sync> QkStarts for QkWorker<'_, W, G> {
     ghost begins = { λ w. MayBegin W.acts w.sys.now w.budget w.turn w.job (W.lane w.lane) };
 
     ghost ended = { λ w. MayEnd w.sys.now w.budget w.turn w.job (W.lane w.lane) };
+
+    ghost blank = { λ w. IsBlank w.sys.now w.job (W.lane w.lane) };
+
+    ghost alone = { λ w. JobIsAlone w.sys.now w.turn w.job (W.lane w.lane) };
+
+    ghost started = { λ w. AreStarts (starts_of w.sys.now w.job) (untold_all (W.lane w.lane).told) };
+
+    ghost blank_alone = { λ w h. blank-alone w.sys.now w.turn w.job (W.lane w.lane) h };
+
+    ghost blank_started = { λ w h. blank-started w.sys.now w.job (W.lane w.lane) h };
 
     fn start(&mut self) -> bool {
         self.turn = start_job(&mut self.lane, self.sys, &mut self.job, self.budget);

@@ -22,7 +22,7 @@ module _ (law : SealedQkRunsAreLawful) (sys : System) (stimuli : List (List Stim
   qk-run (Err e) seals whole = tt
   qk-run (Ok x) seals whole =
       let is = (law sys stimuli budget done rests vs x.sealed.journal sound run seals whole).0 in
-      record { kernel_is = is.kernel_is; budget_is = is.budget_is; lawful = is.lawful }
+      record { kernel_is = is.kernel_is; budget_is = is.budget_is; lawful = is.lawful; first = is.first }
 
   pub qk-rests : {E : Type 0} (result : Result Threaded E) → IfOk result (λ x. SealsLanes sys qk budget vs x.sealed.journal) → IfOk result (λ x. x.sealed.journal.end ≡ quiet → done ≡ true)
       → IfOk result (λ x. x.rests.items ≡ rests) → IfOk result (λ x. AreRestsIn sys x.sealed.journal x.rests.items)

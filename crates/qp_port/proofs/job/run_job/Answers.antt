@@ -1,4 +1,5 @@
-use Rattle.std.proofs.Common.{false}
+use Rattle.std.proofs.Common.{false, refl}
+use Rattle.qp_calls.proofs.Advancing.{advances-none}
 use Rattle.qp_port_lanes.proofs.Feeding.{lane-feeds, source-feeds}
 use Rattle.qp_port.proofs.Standing.{source-turned}
 use Rattle.qp_port.proofs.job.run_job.Goals as goal
@@ -15,3 +16,6 @@ pub returns-in-Source-clause-feeds : goal.returns-in-Source-clause-feeds
 returns-in-Source-clause-feeds g c =
     let lane = g.O.Ops.lane in
     source-feeds c.args.sys.now c.in-Source.source c.source_turn.new.source (lane c.args.ops.now) (lane c.source_turn.new.ops) c.source_turn.result c.source_turn.ensures.turns
+
+pub returns-in-Nothing-clause-lane : goal.returns-in-Nothing-clause-lane
+returns-in-Nothing-clause-lane g c = record { sys = refl; lane = refl; world = refl; plan = refl; happened = refl; serves = λ o. refl; advances = advances-none (g.O.Ops.lane c.args.ops.now) }

@@ -55,7 +55,7 @@ returns-clause-run g c =
     run-left c.args.at.now.sys.now c.args.at.now.stim.now c.args.at.now.budget c.requires.sound c.requires.fit c.requires.few (λ w. w.sys.now) (λ w. w.budget) (λ w. w.turn) (λ w. w.job) (λ w. w.lane) lane c.in_ok-workers.workers.items begun
     c.run_workers-over.result.workers.items c.run_workers-over.ensures.same c.left_of.result (λ run. run.lanes.items) (λ run. run.rests.items) (λ run. run.done) c.left_of.ensures.lanes c.run_workers-over.result.how c.as_slice.result.now (c.as_slice.ensures.value ∙ c.in-Ok.ensures)
     (ready-map _ _ (λ w h. end-either w.sys.now w.budget w.turn w.job (lane w.lane) h) c.run_workers-over.result.workers.items c.run_workers-over.ensures.each)
-    c.run_workers-over.ensures.ready c.run_workers-over.ensures.idle c.left_of.ensures.rests c.left_of.ensures.short c.left_of.ensures.idle
+    c.run_workers-over.ensures.ready c.run_workers-over.ensures.idle c.left_of.ensures.rests c.left_of.ensures.short c.left_of.ensures.idle c.run_workers-over.ensures.first
 
 pub returns-clause-cause : goal.returns-clause-cause
 returns-clause-cause g c =

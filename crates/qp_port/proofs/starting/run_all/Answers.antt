@@ -1,4 +1,4 @@
-use Rattle.std.proofs.Common.{true, false, inr}
+use Rattle.std.proofs.Common.{true, false, inl, inr}
 use Rattle.qp_port_phases.proofs.Keeping.{first-since}
 use Rattle.qp_port.proofs.Rows.{few-rows, ready-left, same-then, table-still}
 use Rattle.qp_port.proofs.starting.run_all.Goals as goal
@@ -30,3 +30,16 @@ pub returns-clause-memory : goal.returns-clause-memory
 returns-clause-memory g c said =
     let laws = (g.met.T.PhaseLane g.world.𝓛 g.world.𝓜 g.world.𝓡 ((λ s x. x), (λ x. x), (λ x. x), λ x. x)) in
     first-since g.T.PhaseLane.view g.T.PhaseLane.same laws.same_hears true _ _ _ c.start_all.ensures.same (c.run_phases.ensures.memory said)
+
+pub returns-clause-first : goal.returns-clause-first
+returns-clause-first g c =
+    inr (record {
+      between = c.start_all.new.workers;
+      started = c.start_all.ensures.started c.if-not-start_all.false;
+      before = c.start_all.ensures.same;
+      behind = c.run_phases.ensures.same;
+      floor = c.run_phases.ensures.floor;
+    })
+
+pub returns-then-not-start_all-clause-first : goal.returns-then-not-start_all-clause-first
+returns-then-not-start_all-clause-first g c = inl c.start_all.ensures.alone

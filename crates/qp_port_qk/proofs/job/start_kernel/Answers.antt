@@ -3,7 +3,7 @@ use Rattle.qp_dispatch.specs.declared.objects.Turn.TheVariants as turn
 use Rattle.qp_dispatch.specs.declared.steps.Step.TheVariants as step
 use Rattle.qp_port_lanes.proofs.Feeding.{lane-feeds}
 use Rattle.qp_port_lanes.proofs.Hearing.{why-stopped}
-use Rattle.qp_port_qk.proofs.Ending.{kernel-started, started-none, starts-same, stopped-ends, stopped-none}
+use Rattle.qp_port_qk.proofs.Ending.{kernel-alone, kernel-started, started-none, starts-same, stopped-alone, stopped-ends, stopped-none}
 use Rattle.qp_port_qk.proofs.job.start_kernel.Goals as goal
 
 pub returns-in-Done-clause-starts : goal.returns-in-Done-clause-starts
@@ -23,6 +23,12 @@ returns-in-Stopped-clause-starts g c =
 
 pub returns-in-Stopped-clause-none : goal.returns-in-Stopped-clause-none
 returns-in-Stopped-clause-none g c = λ free. stopped-none c.args.sys.now c.args.budget (g.O.Ops.lane c.args.ops.now) (g.O.Ops.lane c.start.new.ops) c.in-Stopped.ensures.goes
+
+pub returns-in-Done-clause-alone : goal.returns-in-Done-clause-alone
+returns-in-Done-clause-alone g c = kernel-alone c.args.sys.now c.args.objects.now c.start.new.self c.args.kernel.now (g.O.Ops.lane c.args.ops.now) (g.O.Ops.lane c.start.new.ops) c.requires.begins c.in-Done.ensures.goes
+
+pub returns-in-Stopped-clause-alone : goal.returns-in-Stopped-clause-alone
+returns-in-Stopped-clause-alone g c = stopped-alone c.args.sys.now c.args.objects.now c.args.kernel.now (g.O.Ops.lane c.args.ops.now) (g.O.Ops.lane c.start.new.ops) c.requires.begins c.in-Stopped.ensures.goes
 
 pub returns-in-Done-clause-feeds : goal.returns-in-Done-clause-feeds
 returns-in-Done-clause-feeds g c = lane-feeds false (g.O.Ops.lane c.args.ops.now) (g.O.Ops.lane c.start.new.ops) turn.Idle c.in-Done.ensures.lane

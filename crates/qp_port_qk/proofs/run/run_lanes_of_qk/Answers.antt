@@ -11,8 +11,12 @@ use Rattle.std.proofs.lemmas.List.{length-map}
 use Rattle.qp_port_phases.specs.Lanes.{AreOneTable, SameEach}
 use Rattle.qp_port_phases.specs.Stopping.{AnyStopped}
 use Rattle.qp_port_qk.specs.Ends.{HasRun, is_over}
+use Rattle.qp_model_order.specs.SourceRun.{untold_all}
+use Rattle.qp_kernel.specs.Starts.{AreStarts}
+use Rattle.qp_port_phases.specs.Starting.{StartFirst}
+use Rattle.qp_port_qk.specs.Jobs.{JobIsAlone, starts_of}
 use Rattle.qp_port_qk.specs.Rows.{AreSameLanes}
-use Rattle.qp_port_qk.specs.Workers.{FirstBegins, IsSameWorker, MayBegin, MayEnd, MayTurn}
+use Rattle.qp_port_qk.specs.Workers.{FirstBegins, IsSameWorker, MayBegin, MayEnd, MayTurn, IsBlank, OthersAre}
 use Rattle.qp_port_qk.proofs.Ending.{either-end}
 use Rattle.qp_port_qk.proofs.Rows.{ready-map}
 use Rattle.qp_port_qk.proofs.Beginning.{all-begin, new-many}
@@ -36,6 +40,12 @@ start_and_run-how-requires-clause-begins g c κs within =
     let all = all-begin g.W.World.acts c.requires.alone c.args.sys.now c.args.stim.now c.args.budget c.requires.sound c.requires.fit c.requires.few (λ w. w.sys.now) (λ w. w.budget) (λ w. w.turn) (λ w. w.job) (λ w. w.lane) g.W.Ops.lane
     c.args.lanes.items c.in_ok-workers.workers.items c.in_ok-workers.ensures c.requires.lanes in
     subst (FirstBegins (λ w. MayBegin g.W.World.acts w.sys.now w.budget w.turn w.job (g.W.Ops.lane w.lane)) (λ w. MayTurn g.W.World.acts w.sys.now w.budget w.turn w.job (g.W.Ops.lane w.lane))) (sym c.as_mut_slice.ensures.value) all.begin
+
+pub start_and_run-how-requires-clause-blank : goal.start_and_run-how-requires-clause-blank
+start_and_run-how-requires-clause-blank g c κs within =
+    let all = all-begin g.W.World.acts c.requires.alone c.args.sys.now c.args.stim.now c.args.budget c.requires.sound c.requires.fit c.requires.few (λ w. w.sys.now) (λ w. w.budget) (λ w. w.turn) (λ w. w.job) (λ w. w.lane) g.W.Ops.lane
+    c.args.lanes.items c.in_ok-workers.workers.items c.in_ok-workers.ensures c.requires.lanes in
+    subst (OthersAre (λ w. IsBlank w.sys.now w.job (g.W.Ops.lane w.lane))) (sym c.as_mut_slice.ensures.value) all.blank
 
 pub start_and_run-how-requires-clause-table : goal.start_and_run-how-requires-clause-table
 start_and_run-how-requires-clause-table g c κs within =
@@ -72,12 +82,15 @@ returns-clause-run g c =
     let a = c.as_mut_slice.ensures.len in
     let b = each-long (λ a b. IsSameWorker a.sys.now b.sys.now a.budget b.budget a.job b.job (g.W.Ops.lane a.lane) (g.W.Ops.lane b.lane)) c.as_mut_slice.result.now ys c.start_and_run-how.ensures.same in
     let whole = taken-whole c.in_ok-workers.workers.len ys _ (omega (arith, a, b)) in
+    let first =
+    subst (λ us. StartFirst (λ w. g.W.Ops.lane w.lane) (λ w. JobIsAlone w.sys.now w.turn w.job (g.W.Ops.lane w.lane)) (λ w. AreStarts (starts_of w.sys.now w.job) (untold_all (g.W.Ops.lane w.lane).told))
+    (λ a b. IsSameWorker a.sys.now b.sys.now a.budget b.budget a.job b.job (g.W.Ops.lane a.lane) (g.W.Ops.lane b.lane)) us ys) c.as_mut_slice.ensures.value went.first in
     ok-all (list_any (λ w. is_short w.turn) ys ≡ false) (λ run. run.lanes.items ≡ map (λ w. w.lane) ys) (λ run. AreLeft (λ w. w.job) c.start_and_run-how.result ys run.rests.items)
     (λ run. run.done ≡ true → (c.start_and_run-how.result ≡ Some ended.Idle) × (list_all (λ w. is_idle w.turn) ys ≡ true)) (λ run. HasRun c.args.sys.now c.args.stim.now c.args.budget run.done run.rests.items (map g.W.Ops.lane run.lanes.items))
     (λ run lanes rests short idle. run-left (λ w. w.lane) g.W.Ops.lane c.args.sys.now c.args.stim.now c.args.budget run.done run.rests.items run.lanes.items ys lanes
     (ran g.W.World.acts c.requires.alone c.args.sys.now c.args.stim.now c.args.budget c.requires.sound c.requires.fit c.requires.few (λ w. w.sys.now) (λ w. w.budget) (λ w. w.turn) (λ w. w.job) (λ w. g.W.Ops.lane w.lane)
     c.in_ok-workers.workers.items all ys same c.start_and_run-how.result run.done run.rests.items c.as_slice.result.now (c.as_slice.ensures.value ∙ c.in-Ok.ensures) (ready-map (λ w. MayTurn g.W.World.acts w.sys.now w.budget w.turn w.job (g.W.Ops.lane w.lane) ⊎ MayEnd w.sys.now w.budget w.turn w.job (g.W.Ops.lane w.lane)) (λ w. MayEnd w.sys.now w.budget w.turn w.job (g.W.Ops.lane w.lane))
-    (λ w h. either-end g.W.World.acts w.sys.now w.budget w.turn w.job (g.W.Ops.lane w.lane) h) ys went.each) went.ready went.rows went.idle rests short idle))
+    (λ w h. either-end g.W.World.acts w.sys.now w.budget w.turn w.job (g.W.Ops.lane w.lane) h) ys went.each) went.ready went.rows went.idle rests short idle first))
     c.left_of.result (subst (λ us. IfOk c.left_of.result (λ run. run.lanes.items ≡ map (λ w. w.lane) us)) whole c.left_of.ensures.lanes)
     (subst (λ us. IfOk c.left_of.result (λ run. AreLeft (λ w. w.job) c.start_and_run-how.result us run.rests.items)) whole c.left_of.ensures.rests)
     (subst (λ us. OnOk c.left_of.result (list_any (λ w. is_short w.turn) us ≡ false)) whole c.left_of.ensures.short)

@@ -1,4 +1,4 @@
-use Rattle.std.proofs.Common.{inl, true, false}
+use Rattle.std.proofs.Common.{inl, inr, refl, true, false}
 use Rattle.qp_model.proofs.AbleLemmas.{some-same}
 use Rattle.qp_port_phases.proofs.Keeping.{first-since, same-then, table-still}
 use Rattle.qp_port_qk.proofs.Rows.{ready-map}
@@ -32,3 +32,15 @@ pub returns-then-start_first-clause-memory : goal.returns-then-start_first-claus
 returns-then-start_first-clause-memory g c said =
     let laws = (g.met.T.PhaseLane g.world.𝓛 g.world.𝓜 g.world.𝓡 ((λ s x. x), (λ x. x), (λ x. x), λ x. x)) in
     first-since g.T.PhaseLane.view g.T.PhaseLane.same laws.same_hears true c.args.workers.now c.start_first.new.workers c.run_phases.new.workers c.if-start_first.ensures.same (c.run_phases.ensures.memory (some-same said))
+
+pub returns-then-start_first-clause-first : goal.returns-then-start_first-clause-first
+returns-then-start_first-clause-first g c = inr (record {
+  between = c.start_first.new.workers;
+  started = c.if-start_first.ensures.started refl;
+  before = c.if-start_first.ensures.same;
+  behind = c.run_phases.ensures.same;
+  floor = c.run_phases.ensures.floor;
+})
+
+pub returns-else-start_first-clause-first : goal.returns-else-start_first-clause-first
+returns-else-start_first-clause-first g c = inl c.start_first.ensures.alone

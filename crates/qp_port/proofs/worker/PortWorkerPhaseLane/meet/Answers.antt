@@ -1,5 +1,7 @@
-use Rattle.std.proofs.Common.{refl}
+use Rattle.std.proofs.Common.{refl, subst, sym}
+use Rattle.qp_calls.specs.LaneView.{LaneView}
 use Rattle.qp_port_lanes.proofs.Seeing.{seen-met}
+use Rattle.qp_port.specs.Workers.{IsSameWorker, MayTurn, same-itself}
 use Rattle.qp_port.proofs.Staying.{may-turn_still, same-worker}
 use Rattle.qp_port.proofs.worker.PortWorkerPhaseLane.meet.Goals as goal
 
@@ -13,6 +15,18 @@ returns-clause-kept g c =
     record {
       ready = may-turn_still x.sys.now x.budget x.turn x.job v w more c.requires.ready;
       same = same-worker x.sys.now x.budget x.job v w more;
+      waits_still = refl;
+      remains_still = refl;
+      numbers_still = refl;
+    }
+
+pub returns-clause-other_kept : goal.returns-clause-other_kept
+returns-clause-other_kept g c =
+    let y = c.args.other.now in
+    let v : LaneView = g.O.Ops.lane y.lane in
+    record {
+      ready = subst (λ (u : LaneView). MayTurn y.sys.now y.budget y.turn y.job u) (sym c.meet.ensures.other) c.requires.other_ready;
+      same = subst (λ (u : LaneView). IsSameWorker y.sys.now y.sys.now y.budget y.budget y.job y.job v u) (sym c.meet.ensures.other) (same-itself y.sys.now y.budget y.job v);
       waits_still = refl;
       remains_still = refl;
       numbers_still = refl;

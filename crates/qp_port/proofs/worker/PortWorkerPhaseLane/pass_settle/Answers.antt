@@ -1,4 +1,5 @@
 use Rattle.std.proofs.Common.{sym}
+use Rattle.qp_port.specs.Workers.{same-itself}
 use Rattle.qp_port.proofs.Standing.{may-pass}
 use Rattle.qp_port.proofs.worker.PortWorkerPhaseLane.pass_settle.Goals as goal
 
@@ -8,3 +9,9 @@ returns-then-is_idle-clause-ready g c =
     let x = c.args.self.now in
     let passed = c.pass_job-passed in
     may-pass x.sys.now x.budget x.turn c.turn_by-self.result passed.result x.job passed.new.job (lane x.lane) (lane passed.new.ops) c.requires.ready (sym c.if-is_idle.ensures) passed.ensures.passes passed.ensures.feeds c.turn_by-self.ensures
+
+pub returns-then-is_short-clause-same : goal.returns-then-is_short-clause-same
+returns-then-is_short-clause-same g c = let x = c.args.self.now in same-itself x.sys.now x.budget x.job (g.O.Ops.lane x.lane)
+
+pub returns-clause-same : goal.returns-clause-same
+returns-clause-same g c = let x = c.args.self.now in same-itself x.sys.now x.budget x.job (g.O.Ops.lane x.lane)
