@@ -125,7 +125,8 @@ impl<'a> BellLane<'a> {
 
     /// Whether its last look, or take, was at the queue of object `me`, and found it empty.
     pub fn has_found(&self, me: u8) -> bool
-        ensures { result ≡ true → self.now.ringing.found ≡ Some me }
+        ensures found { result ≡ true → self.now.ringing.found ≡ Some me }
+        ensures told { self.now.ringing.found ≡ Some me → result ≡ true }
     {
         self.ringing.has_found(me)
     }

@@ -85,7 +85,8 @@ impl<'a> RingingLane<'a> {
 
     /// Whether its last look, or take, was at the queue of object `me`, and found it empty.
     pub fn has_found(&self, me: u8) -> bool
-        ensures { result ≡ true → self.now.found ≡ Some me }
+        ensures found { result ≡ true → self.now.found ≡ Some me }
+        ensures told { self.now.found ≡ Some me → result ≡ true }
     {
         match self.found {
             Some(a) => a == me,

@@ -1,10 +1,10 @@
 -- That a root is one of these bells is a proposition.
 use Rattle.std.specs.Prelude.{List, [], ◌∷◌}
 use Rattle.std.proofs.Props.{props}
-use Rattle.qp_wait.specs.Handed.{Bells}
-use Rattle.qp_wait.specs.Handed.{BellRoot}
-use Rattle.qp_wait.specs.Handed.{Waking}
-use Rattle.qp_wait.specs.Handed.{Rope}
+use Rattle.qp_wait.specs.declared.bells.Bells.{Bells}
+use Rattle.qp_wait.specs.declared.bells.BellRoot.{BellRoot}
+use Rattle.qp_wait.specs.declared.hanging.Waking.{Waking}
+use Rattle.qp_wait.specs.declared.hanging.Rope.{Rope}
 use Rattle.qp_wait.specs.Handed.{AreRopes, IsRopeOf}
 use Rattle.qp_wait.specs.Handed.{IsRootOf}
 
