@@ -1,8 +1,9 @@
 """Whether the starts of a run come first, by its journal.
 
 It is `StartsFirst` of crates/qp_port_law: on each word, each number that a start drew is below each mark of any lane behind its own starts.
-A mark is how many operations the word had behind the record: one more than a number drawn, or the number shown. So no look, no stimulus and no
-take comes before all objects have started. `check` doesn't ask for it, since other lawful journals lack it; every run keeps to it.
+A mark is how many operations the word had behind the record: one more than a number drawn, or the number shown. So what a look, a stimulus or a
+take does to a word comes behind each start that drew a number of it; of other words nothing is asked. `check` doesn't ask for it, since other
+lawful journals lack it. It is proved of each run with threads.
 """
 
 from typing import NamedTuple
