@@ -19,8 +19,8 @@ use Rattle.qp_shared.specs.declared.shared.Shared.{Shared}
 use Rattle.qp_shared.specs.Starting.{AreFirst, serves_one}
 use Rattle.qp_wait_rings.specs.declared.ringing.RingingLane.{RingingLane}
 use Rattle.qp_wait.specs.Handed.{ringing_view}
-use Rattle.qp_wait.specs.Handed.{Bells}
-use Rattle.qp_wait.specs.Handed.{BellLane}
+use Rattle.qp_wait.specs.declared.bells.Bells.{Bells}
+use Rattle.qp_wait.specs.declared.lane.BellLane.{BellLane}
 use Rattle.qp_wait.specs.Handed.{BeginsAt, bell_view}
 use Rattle.qp_wait.specs.Handed.{HasParked}
 use Rattle.qp_wait.specs.Handed.{AreBellsOf}

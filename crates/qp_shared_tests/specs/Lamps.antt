@@ -6,7 +6,7 @@ use Rattle.qp_model.specs.Parts.{is_static}
 use Rattle.qp_model.specs.Told.{ToldItem}
 use Rattle.qp_model.specs.WordLaw.{is_object}
 use Rattle.qp_calls.specs.LaneView.{LaneView}
-use Rattle.qp_wait.specs.Handed.{BellLane}
+use Rattle.qp_wait.specs.declared.lane.BellLane.{BellLane}
 use Rattle.qp_wait.specs.Handed.{bell_view}
 
 -- its first object has priority 1, and its first signal is static
