@@ -9,7 +9,7 @@ import unittest
 from qptools.program import TOP
 
 #: The packages, by the folder in which each stands.
-PACKAGES = {"view": "qpviewer", "tools": "qptools", "recorder": "qpjournal", "board": "qpboard"}
+PACKAGES = {"view": "qpviewer", "tools": "qptools", "recorder": "qpjournal", "board": "qpboard", "bench": "qpbench"}
 #: It takes some seven of processor time.
 SECONDS = 600
 

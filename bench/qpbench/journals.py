@@ -1,0 +1,37 @@
+"""What the benches read of a journal's text: how many records it has. What a journal is the program decides."""
+
+from pathlib import Path
+
+#: Lines that are no records.
+HEADS = (b"qp ", b"lane ", b"end ")
+
+
+def records_in(journal: Path) -> int:
+    """How many records a journal's text has: its lines, without the heads of its lanes, its first and its last line."""
+    with open(journal, "rb") as lines:
+        return sum(not line.startswith(HEADS) for line in lines)
+
+
+def faulty_copy(journal: Path, target: Path) -> int:
+    """Writes the same text with a fault in its last line. Answers the number of that line."""
+    number, last = 0, b""
+    with open(journal, "rb") as lines, open(target, "wb") as copy:
+        for line in lines:
+            copy.write(last)
+            number, last = number + 1, line
+        copy.write(b"end 7\n")
+    return number
+
+
+def need_order(order: Path, records: int) -> str:
+    """What isn't right of a printed order of so many records, or nothing: its first line, or its count of lines."""
+    with open(order, "rb") as lines:
+        head = lines.readline()
+        count = sum(1 for _ in lines)
+    return "" if head == f"order {records}\n".encode() and count == records else f"no order of each record, but {head!r} and {count} lines"
+
+
+def lanes_in(journal: Path) -> int:
+    """How many lanes a journal's text has."""
+    with open(journal, "rb") as lines:
+        return sum(line.startswith(b"lane ") for line in lines)
