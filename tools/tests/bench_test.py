@@ -12,10 +12,12 @@ from qpbench.asking import Unread, words_of
 from qpbench.calls import LONG, Took, Wrong, call, least, peak
 from qpbench.figures import Figures, short
 from qpbench.journals import faulty_copy, lanes_in, need_order, records_in
+from qpbench.mixing import sources_mix
 from qpbench.peers import C_COMPILERS, compiler, count_of, counted_in, counting, peer
 from qpbench.rings import EVENTS
 from qpbench.workloads import WORKLOADS, Workload, adding, countdown, ring, sixteen
 from qptools.program import TOP, is_built, program
+from qpviewer.journal import read_journal
 
 RECORDS = 3_000
 JOURNAL = "qp 1 0 9\nlane 0\nbegin 1\nenter 1 1\ndone 1\nlane 1\nstim 0 1 1\nend 0\n"
@@ -94,6 +96,26 @@ class Readers(unittest.TestCase):
             with self.subTest(text):
                 (self.folder / "order").write_text(text)
                 self.assertEqual(need_order(self.folder / "order", 2) == "", is_right)
+
+
+class Mixing(unittest.TestCase):
+    """Whether posts of one source stand between those of another."""
+
+    @staticmethod
+    def journal(kernel: int, *sources: tuple[int, ...]) -> bytes:
+        """A journal in which each source posts to queue 1, as its so many-th entries."""
+        homes = "lane 1\n" if kernel == 2 else ""
+        first = 2 if kernel == 2 else 1
+        lanes = "".join(f"lane {lane}\n" + "".join(f"stim 0 {k} 0\npost 0 1 {number} 0 0 0 4 0\n" for k, number in enumerate(of, 1))
+                        for lane, of in enumerate(sources, first))
+        return f"qp 1 {kernel} 9\nlane 0\n{homes}{lanes}end 0\n".encode()
+
+    def test_mixing(self) -> None:
+        for sources, mixes in ((((1, 3), (2, 4)), True), (((1, 4), (2, 3)), True), (((1, 2), (3, 4)), False), (((3, 4), (1, 2)), False),
+                               (((1, 2, 3),), False), (((1,), (2,), (3,)), False), (((), (1, 2)), False), (((1, 2), (5, 6), (3, 7)), True)):
+            for kernel in (1, 2):
+                with self.subTest(sources, kernel=kernel):
+                    self.assertEqual(sources_mix(read_journal(self.journal(kernel, *sources)), 1), mixes)
 
 
 class Kind(NamedTuple):
