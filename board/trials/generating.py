@@ -39,6 +39,19 @@ THEMES = (
 )
 
 
+class Size(NamedTuple):
+    """How large systems are: of objects, where it isn't the theme's, of the states of a chart, of sources and of the stimuli of each."""
+
+    objects: tuple[int, int] | None = None
+    states: int = 9
+    sources: int = 4
+    stimuli: tuple[int, int] = (2, 14)
+
+
+#: Of systems all of whose orders can be gone through.
+SMALL = Size((2, 3), 3, 3, (1, 4))
+
+
 class Made(NamedTuple):
     """A system's file, its stimuli and a budget."""
 
@@ -48,13 +61,13 @@ class Made(NamedTuple):
     budget: int
 
 
-def make(number: int) -> Made:
-    return _Maker(number).made()
+def make(number: int, size: Size = Size()) -> Made:
+    return _Maker(number, size).made()
 
 
 class _Maker:
-    def __init__(self, number: int):
-        self._number = number
+    def __init__(self, number: int, size: Size):
+        self._number, self._size = number, size
         self._random = Random(number * 7919 + 17)
         self._theme = THEMES[number % len(THEMES)]
         self._texts = Texts(self._random)
@@ -66,7 +79,7 @@ class _Maker:
         random = self._random
         pools = self._pools()
         signals = self._signals(pools[-1][0] if pools else None)
-        objects = [f"o{place}" for place in range(1, self._between(self._theme.objects) + 1)]
+        objects = [f"o{place}" for place in range(1, self._between(self._size.objects or self._theme.objects) + 1)]
         charts = [f"c{place}" for place in range(1, random.randint(1, min(4, len(objects))) + 1)]
         lines = ["qp = 1"]
         for size, blocks in pools:
@@ -78,7 +91,7 @@ class _Maker:
             words = self._words(objects, signals)
             variables[chart] = words.variables
             timed = [signal for signal in signals if signal.is_static]
-            lines += Charts(random, self._texts).lines(chart, words, random.randint(1, 9), self._theme.is_deep, timed)
+            lines += Charts(random, self._texts).lines(chart, words, random.randint(1, self._size.states), self._theme.is_deep, timed)
         lines += self._objects(objects, charts, variables)
         budget = random.choice((3, 20, 60)) if len(objects) < 10 else random.choice((2, 5))
         return Made(self._number, "\n".join([*lines, ""]), self._stimuli(objects, signals), budget)
@@ -120,9 +133,9 @@ class _Maker:
 
     def _stimuli(self, objects: list[str], signals: list[Signal]) -> str:
         lines: list[str] = []
-        for source in range(1, self._random.randint(1, 4) + 1):
+        for source in range(1, self._random.randint(1, self._size.sources) + 1):
             lines.append(f"source {source}")
-            lines += [self._stimulus(objects, signals) for _ in range(self._random.randint(2, 14))]
+            lines += [self._stimulus(objects, signals) for _ in range(self._between(self._size.stimuli))]
         return "\n".join([*lines, ""])
 
     def _stimulus(self, objects: list[str], signals: list[Signal]) -> str:
