@@ -15,7 +15,6 @@ use Rattle.qp_kernel_turns.proofs.SoundObjects.{sound-object}
 use Rattle.qp_port_law.specs.Homes.{HomeEnds}
 use Rattle.qp_port_law.specs.SourcesLeft.{SourceLeaves}
 use Rattle.qp_port_law.proofs.HomeLaws.{unstarted_home_ends}
-use Rattle.qp_port_lanes.specs.declared.home.Home.{Home}
 use Rattle.qp_port_lanes.proofs.Resting.{home-of, stops-found}
 use Rattle.qp_port_lanes.specs.declared.cursor.Cursor.{Cursor}
 use Rattle.qp_port_phases.specs.declared.lanes.Passed.{Passed}

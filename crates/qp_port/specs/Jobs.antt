@@ -81,6 +81,18 @@ TurnsFrom sys budget turn.Idle x v t y w = JobTurns sys budget x y v w t
 TurnsFrom sys budget turn.Stopped x v t y w = (t ≡ turn.Stopped) × (y ≡ x) × (w ≡ v)
 TurnsFrom sys budget turn.Memory x v t y w = (t ≡ turn.Memory) × (y ≡ x) × (w ≡ v)
 
+-- what is done in a lane behind a turn with this answer: something in that of a source alone
+abbrev pub IsOver : {O : Type 0} → (Turn → O → O → Type 0) → Job → Turn → O → O → Type 0
+IsOver Over job.Nothing t a b = b ≡ a
+IsOver Over (job.Home x) t a b = b ≡ a
+IsOver Over (job.Source x) t a b = Over t a b
+
+-- that is the last that was done in a lane
+pub record EndsSo {O : Type 0} (lane : O → LaneView) (Over : Turn → O → O → Type 0) (x : Job) (t : Turn) (b : O) : Type 0 where
+  pub before : O
+  pub still : lane b ≡ lane before
+  pub over : IsOver Over x t before b
+
 -- how many objects start in the lane
 abbrev pub starts_of : Job → ℕ
 starts_of job.Nothing = 0

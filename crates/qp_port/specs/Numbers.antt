@@ -1,5 +1,5 @@
 -- What is counted of a worker.
-use Rattle.std.specs.Prelude.{true}
+use Rattle.std.specs.Prelude.{◌≤◌, true}
 use Rattle.std.proofs.Common.{arith}
 use Rattle.qp_calls.specs.LaneView.{LaneView}
 use Rattle.qp_port_phases.specs.Rows.{CountsOn, Numbers}
@@ -15,3 +15,6 @@ counts-none v = record {
   rows = λ e. omega arith;
   pending = λ e p is sees. omega arith;
 }
+
+pub none-more : (n : Numbers) → n.rows ≤ n.rows
+none-more n = omega arith

@@ -7,7 +7,7 @@ ghost use Rattle.qp_model.specs.Sound.{IsSound};
 ghost use Rattle.qp_kernel_turns.specs.Lanes.{SameLane};
 ghost use Rattle.qp_port_lanes.specs.Answers.{Feeds, turn_by};
 ghost use Rattle.qp_port.specs.declared.job.Job.TheVariants as job;
-ghost use Rattle.qp_port.specs.Jobs.{IsSameJob, JobBegins, JobPasses, JobRests, JobStands, JobStartsAlone, JobTurns, is_left_in, stands_at_settle};
+ghost use Rattle.qp_port.specs.Jobs.{IsOver, IsSameJob, JobBegins, JobPasses, JobRests, JobStands, JobStartsAlone, JobTurns, is_left_in, stands_at_settle};
 
 use crate::turns::Turns;
 use qp_base::Tells;
@@ -15,6 +15,7 @@ use qp_calls::Ops;
 use qp_dispatch::{Step, Turn};
 use qp_model::System;
 use qp_port_lanes::{Cursor, Home, Passed, pass_settle, source_turn};
+use qp_port_phases::Serves;
 use std::sync::Wait;
 
 /// What runs in a lane.
@@ -96,7 +97,8 @@ pub(crate) fn run_job<R: Wait, O: Ops, G: Tells, T: Turns<O>>(
 
 /// What the lane does behind a turn with this answer, where a source runs in it.
 pub(crate) fn end_turn<O: Ops, T: Turns<O>>(turns: &T, ops: &mut O, job: &Job<'_>, turn: &Turn)
-    ensures { O.lane ops.new ≡ O.lane ops.old }
+    ensures over { IsOver T.over job.now turn.now ops.old ops.new }
+    ensures still { O.lane ops.new ≡ O.lane ops.old }
 {
     match job {
         Job::Source(_) => turns.source_over(ops, turn),
@@ -132,6 +134,14 @@ impl Job<'_> {
         match self {
             Job::Source(source) => source.at_settle(),
             Job::Nothing | Job::Home(_) => false,
+        }
+    }
+
+    /// Whose entries it takes.
+    pub(crate) fn serves(&self) -> Serves {
+        match self {
+            Job::Home(home) => Serves::One(home.priority()),
+            Job::Nothing | Job::Source(_) => Serves::Nobody,
         }
     }
 

@@ -15,7 +15,7 @@ pub use crossing::jobs_cross_threads;
 pub use job::Job;
 pub use making::Terms;
 pub use qp_port_lanes::{Cursor, Home, object_turn, pass_settle, source_turn};
-pub use qp_port_phases::{Passed, PhaseLane, PhasesEnd, Worker, run_lanes, run_phases};
+pub use qp_port_phases::{Passed, PhaseLane, PhasesEnd, Rounds, Worker, run_lanes, run_phases};
 pub use run::{PortRun, run_lanes_of, run_lanes_of_port};
 pub use starting::Starts;
 pub use turns::{PortTurns, Turns};

@@ -1,6 +1,6 @@
 //! The run over given lanes: starts, phases, and what is left.
 
-ghost use Rattle.std.specs.Prelude.{◌≡◌, ◌≤◌, ◌⊎◌, IfOk, OnOk, map, true, false};
+ghost use Rattle.std.specs.Prelude.{◌≡◌, ◌≤◌, ◌⊎◌, IfOk, OnOk, length, map, true, false};
 ghost use Rattle.std.specs.List.{AllByRecursion, list_all, list_any};
 ghost use Rattle.qp_model.specs.Sound.{IsSound};
 ghost use Rattle.qp_stim.specs.Rules.{StimuliFit};
@@ -20,7 +20,7 @@ use qp_base::{Gate, Memory};
 use qp_calls_log::Meets;
 use qp_kernel_end::Rest;
 use qp_model::{Stimuli, System};
-use qp_port_phases::{NoHook, PhaseHook, PhasesEnd, objects_of};
+use qp_port_phases::{PhasesEnd, Rounds, objects_of};
 use std::alloc::Global;
 use std::sync::Wait;
 use std::thread::Threads;
@@ -103,25 +103,20 @@ fn left_of<O: Meets + Drop, G: Gate, T: Turns<O>>(
 }
 
 /// Runs the system on its stimuli over these lanes, which are new: the first stays empty, each object has one, by ascending priority,
-/// and so has each source. Objects take their turns as the terms say, and no object takes more events than the budget. The hook is
-/// called where a phase begins. Want of memory alone leaves nothing, and what is left no lane has cut for it. Something is left to be
+/// and so has each source. They take their turns by these rounds, objects as the terms say, and no object takes more events than the budget.
+/// Want of memory alone leaves nothing, and what is left no lane has cut for it. Something is left to be
 /// done only where a lane has stopped.
-pub fn run_lanes_of<
-    R: Threads + Wait + Sync,
-    O: Meets + Send + Drop,
-    G: Gate,
-    T: Turns<O> + Sync,
-    H: PhaseHook,
->(
+pub fn run_lanes_of<R: Threads + Wait + Sync, O: Meets + Send + Drop, G: Gate, T: Turns<O> + Sync>(
     rt: &R,
     alloc: Global,
     at: &Terms<'_, G, T>,
-    hook: &mut H,
+    rounds: &Rounds,
     lanes: Vec<O>,
 ) -> Result<PortRun<O>, Memory>
     requires sound { IsSound at.now.sys.now }
     requires fit { StimuliFit at.now.sys.now at.now.stim.now }
     requires few { at.now.budget ≤ 1000000 }
+    requires sources { rounds.now.sources ≡ length at.now.stim.now }
     requires lanes { AreNewLanes at.now.sys.now at.now.stim.now (map O.lane lanes.items) }
     ensures lanes { IfOk result (λ run. AreSameLanes (map O.lane lanes.items) (map O.lane run.lanes.items)) }
     ensures run { IfOk result (λ run. HasRun at.now.sys.now at.now.stim.now at.now.budget run.done run.rests.items (map O.lane run.lanes.items)) }
@@ -132,7 +127,7 @@ pub fn run_lanes_of<
         return Err(Memory);
     };
     let workers = new_workers(alloc, at, lanes)?;
-    let over = run_workers(rt, objects.as_slice(), workers, hook);
+    let over = run_workers(rt, objects.as_slice(), workers, rounds);
     left_of(alloc, over)
 }
 
@@ -162,5 +157,9 @@ pub fn run_lanes_of_port<R: Threads + Wait + Sync, O: Meets + Send + Drop, G: Ga
         gate,
         turns: &PortTurns,
     };
-    run_lanes_of(rt, alloc, &at, &mut NoHook, lanes)
+    let sources = stim.sources.len() as u32;
+    let Ok(rounds) = Rounds::new(alloc, lanes.len(), sources, false) else {
+        return Err(Memory);
+    };
+    run_lanes_of(rt, alloc, &at, &rounds, lanes)
 }

@@ -1,6 +1,6 @@
 //! Starts, one after another, and then the phases.
 
-ghost use Rattle.std.specs.Prelude.{◌≡◌, ◌⊎◌, ℕ, Bool, true, false};
+ghost use Rattle.std.specs.Prelude.{◌≡◌, ◌⊎◌, ℕ, true, false};
 ghost use Rattle.std.specs.List.{list_all};
 ghost use Rattle.qp_port_phases.specs.declared.phases.PhasesEnd.TheVariants as ended;
 ghost use Rattle.qp_port_phases.specs.Lanes.{AreOneTable, SameEach};
@@ -8,7 +8,7 @@ ghost use Rattle.qp_port_phases.specs.Quiet.{FirstFound, HasEnded};
 ghost use Rattle.qp_port_phases.specs.Turns.{AreReady};
 ghost use Rattle.qp_port_phases.specs.Starting.{StartFirst, StartInOrder};
 
-use qp_port_phases::{PhaseHook, PhaseLane, PhasesEnd, run_phases};
+use qp_port_phases::{PhaseLane, PhasesEnd, Rounds, run_phases};
 use std::sync::Wait;
 use std::thread::Threads;
 
@@ -16,9 +16,6 @@ use std::thread::Threads;
 pub trait Starts: PhaseLane {
     /// It hasn't started.
     ghost fresh: { Self → Type 0 };
-
-    /// Whether its last turn, or its start, came to its end.
-    ghost rests: { Self → Bool };
 
     /// Its lane has no more than its start, or what came of it.
     ghost alone: { Self → Type 0 };
@@ -31,7 +28,7 @@ pub trait Starts: PhaseLane {
         requires { fresh self.old }
         ensures ready { Self.Worker.ready self.new }
         ensures same { Self.PhaseLane.same self.old self.new }
-        ensures rests { rests self.new ≡ result }
+        ensures rests { Self.PhaseLane.rests self.new ≡ result }
         ensures alone { alone self.new }
         ensures started { result ≡ true → started self.new };
 
@@ -68,11 +65,11 @@ fn start_all<T: Starts>(workers: &mut [T]) -> bool
 }
 
 /// Starts all of them, and runs the phases where all starts came to their end.
-fn run_all<R: Threads + Wait + Sync, T: Starts, H: PhaseHook>(
+fn run_all<R: Threads + Wait + Sync, T: Starts + Send>(
     rt: &R,
     objects: &[u8],
     workers: &mut [T],
-    hook: &mut H,
+    rounds: &Rounds,
 ) -> PhasesEnd
     requires fresh { AreReady T.fresh workers.old }
     requires table { AreOneTable T.view objects.now workers.old }
@@ -87,15 +84,15 @@ fn run_all<R: Threads + Wait + Sync, T: Starts, H: PhaseHook>(
     if !start_all(workers) {
         return PhasesEnd::Stopped;
     }
-    run_phases(rt, objects, workers, hook)
+    run_phases(rt, objects, workers, rounds)
 }
 
 /// The same of workers that are handed in and come back, in their order.
-pub(crate) fn run_workers<R: Threads + Wait + Sync, T: Starts, H: PhaseHook>(
+pub(crate) fn run_workers<R: Threads + Wait + Sync, T: Starts + Send>(
     rt: &R,
     objects: &[u8],
     mut workers: Vec<T>,
-    hook: &mut H,
+    rounds: &Rounds,
 ) -> Over<T>
     requires fresh { AreReady T.fresh workers.items }
     requires table { AreOneTable T.view objects.now workers.items }
@@ -107,6 +104,6 @@ pub(crate) fn run_workers<R: Threads + Wait + Sync, T: Starts, H: PhaseHook>(
     ensures memory { result.how ≡ ended.Memory → FirstFound T.view true workers.items result.workers.items }
     ensures first { StartFirst T.view T.alone T.started T.same workers.items result.workers.items }
 {
-    let how = run_all(rt, objects, workers.as_mut_slice(), hook);
+    let how = run_all(rt, objects, workers.as_mut_slice(), rounds);
     Over { workers, how }
 }

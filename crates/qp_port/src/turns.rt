@@ -1,6 +1,7 @@
 //! How objects take their turns over lanes of a kind.
 
-ghost use Rattle.std.specs.Prelude.{◌≡◌, ◌≤◌, false};
+ghost use Rattle.std.specs.Prelude.{ℕ, ◌≡◌, ◌≤◌, false};
+ghost use Rattle.qp_dispatch.specs.declared.objects.Turn.{Turn};
 ghost use Rattle.qp_model.specs.Sound.{IsSound};
 ghost use Rattle.qp_kernel_turns.specs.Lanes.{LaneTurns};
 ghost use Rattle.qp_port_lanes.specs.At.{IsHome};
@@ -15,6 +16,12 @@ use std::sync::Wait;
 
 /// How an object takes its turn over lanes of this kind, and what the lane of a source does behind one.
 pub trait Turns<O: Ops> {
+    /// What a lane does where so many sources take a turn next.
+    ghost called: { ℕ → O → O → Type 0 };
+
+    /// What the lane of a source does behind a turn with this answer.
+    ghost over: { Turn → O → O → Type 0 };
+
     /// The turn of an object, with the conditions of `object_turn` and all of its clauses but `never`, which turns that wait lack.
     fn object<R: Wait, G: Tells>(
         &self,
@@ -33,10 +40,16 @@ pub trait Turns<O: Ops> {
         ensures lane { LaneTurns false (O.lane ops.old) (O.lane ops.new) result }
         ensures same { home.new.me ≡ home.old.me };
 
-    /// A source has taken part in a phase, and this is its turn's answer, or that of the turn in which it had stopped before. The
+    /// So many sources take a turn next, and no lane runs. The lane stands as it stood.
+    fn on_round(&self, ops: &mut O, sources: u32)
+        ensures called { called sources ops.old ops.new }
+        ensures still { O.lane ops.new ≡ O.lane ops.old };
+
+    /// A source has taken part in a round, and this is its turn's answer, or that of the turn in which it had stopped before. The
     /// lane stands as it stood.
     fn source_over(&self, ops: &mut O, turn: &Turn)
-        ensures { O.lane ops.new ≡ O.lane ops.old };
+        ensures over { over turn.now ops.old ops.new }
+        ensures still { O.lane ops.new ≡ O.lane ops.old };
 }
 
 /// Turns of the port: an object's ends where its queue is found empty, and nothing comes behind a source's.
@@ -44,6 +57,10 @@ pub trait Turns<O: Ops> {
 pub struct PortTurns;
 
 impl<O: Ops> Turns<O> for PortTurns {
+    ghost called = { λ n a b. b ≡ a };
+
+    ghost over = { λ t a b. b ≡ a };
+
     fn object<R: Wait, G: Tells>(
         &self,
         rt: &R,
@@ -55,6 +72,11 @@ impl<O: Ops> Turns<O> for PortTurns {
         gate: &G,
     ) -> Turn {
         object_turn(rt, ops, sys, home, lane, budget, gate)
+    }
+
+    fn on_round(&self, ops: &mut O, sources: u32) {
+        let _ = ops;
+        let _ = sources;
     }
 
     fn source_over(&self, ops: &mut O, turn: &Turn) {

@@ -4,9 +4,9 @@ ghost use Rattle.std.specs.Prelude.{◌≡◌, refl, true};
 ghost use Rattle.qp_port_lanes.specs.Answers.{is_idle, is_short};
 ghost use Rattle.qp_model_order.specs.SourceRun.{untold_all};
 ghost use Rattle.qp_kernel.specs.Starts.{AreStarts};
-ghost use Rattle.qp_port.specs.Jobs.{JobIsAlone, JobTurns, TurnsFrom, is_left_in, stands_at_settle, starts_of};
+ghost use Rattle.qp_port.specs.Jobs.{EndsSo, JobIsAlone, JobTurns, TurnsFrom, is_left_in, stands_at_settle, starts_of};
 ghost use Rattle.qp_port.specs.Alone.{none-alone};
-ghost use Rattle.qp_port.specs.Numbers.{counts-none, uncounted};
+ghost use Rattle.qp_port.specs.Numbers.{counts-none, none-more, uncounted};
 ghost use Rattle.qp_port.specs.Workers.{IsSameWorker, MayBegin, MayTurn, same-itself, same-still, same-table};
 
 use crate::job::{Job, end_turn, pass_job, run_job, start_job};
@@ -18,7 +18,7 @@ use qp_calls_log::Meets;
 use qp_dispatch::Turn;
 use qp_model::System;
 use qp_port_lanes::{is_idle, is_short, turn_by};
-use qp_port_phases::{Passed, PhaseLane, Worker};
+use qp_port_phases::{Passed, PhaseLane, Serves, Worker};
 use std::sync::Wait;
 
 /// A lane with its number, what runs in it, and the answer of its last turn. One whose turn has stopped takes no more: it is a lane
@@ -87,7 +87,7 @@ impl<O: Meets + Send, G: Tells + Sync, T: Turns<O> + Sync> Worker for PortWorker
     ghost ready = { λ w. MayTurn w.sys.now w.budget w.turn w.job (O.lane w.lane) };
 
     ghost turned = { λ a b. MayTurn b.sys.now b.budget b.turn b.job (O.lane b.lane) × IsSameWorker a.sys.now b.sys.now a.budget b.budget a.job b.job (O.lane a.lane) (O.lane b.lane)
-        × TurnsFrom a.sys.now a.budget a.turn a.job (O.lane a.lane) b.turn b.job (O.lane b.lane) };
+        × TurnsFrom a.sys.now a.budget a.turn a.job (O.lane a.lane) b.turn b.job (O.lane b.lane) × EndsSo O.lane T.over b.job b.turn b.lane };
 
     fn turn<R: Wait>(&mut self, rt: &R) {
         self.take_turn(rt);
@@ -106,6 +106,12 @@ impl<O: Meets + Send, G: Tells + Sync, T: Turns<O> + Sync> PhaseLane for PortWor
 
     ghost same = { λ a b. IsSameWorker a.sys.now b.sys.now a.budget b.budget a.job b.job (O.lane a.lane) (O.lane b.lane) };
 
+    ghost rests = { λ w. is_idle w.turn };
+
+    ghost rowless = { λ w. true };
+
+    ghost called = { λ n a b. T.called n a.lane b.lane };
+
     fn meet(&mut self, other: &mut Self) {
         self.lane.meet(&mut other.lane);
     }
@@ -116,6 +122,22 @@ impl<O: Meets + Send, G: Tells + Sync, T: Turns<O> + Sync> PhaseLane for PortWor
 
     fn left(&self) -> bool {
         self.job.is_left()
+    }
+
+    fn at_rest(&self) -> bool {
+        self.is_idle()
+    }
+
+    fn is_rowless(&self) -> bool {
+        true
+    }
+
+    fn serves(&self) -> Serves {
+        self.job.serves()
+    }
+
+    fn on_round(&mut self, sources: u32) {
+        self.turns.on_round(&mut self.lane, sources);
     }
 
     fn pass_settle(&mut self) -> Passed {
@@ -151,11 +173,11 @@ impl<O: Meets + Send, G: Tells + Sync, T: Turns<O> + Sync> PhaseLane for PortWor
     ghost went = { λ a b h. (h.0, h.1) };
 
     ghost went_on = { λ a b h. counts-none (O.lane a.lane) };
+
+    ghost went_rowless = { λ a b h is l. none-more uncounted };
 }
 
 impl<O: Meets + Send, G: Tells + Sync, T: Turns<O> + Sync> Starts for PortWorker<'_, O, G, T> {
-    ghost rests = { λ w. is_idle w.turn };
-
     ghost fresh = { λ w. MayBegin w.sys.now w.budget w.turn w.job (O.lane w.lane) };
 
     ghost alone = { λ w. JobIsAlone w.turn w.job (O.lane w.lane) };

@@ -1,5 +1,5 @@
 -- Rows without a step and passed `settle`s, through looks, tries and turns.
-use Rattle.std.proofs.Common.{◌≡◌, ℕ, ◌+◌, ◌≤◌, Bool, true, false, not, ◌||◌, List, [], ◌∷◌, refl, sym, ◌∙◌, ap, inl, inr, arith}
+use Rattle.std.proofs.Common.{◌≡◌, ℕ, ◌+◌, ◌≤◌, Bool, true, false, not, ◌||◌, List, [], ◌∷◌, refl, sym, ◌∙◌, ap, subst, inl, inr, arith}
 use Rattle.std.specs.Prelude.{IsTrue}
 use Rattle.qp_model.specs.WordLaw.{is_object}
 use Rattle.qp_calls.specs.LaneView.{LaneView}
@@ -56,6 +56,15 @@ module _ {T : Type 0} (numbers : T → Numbers) where
     kept-few more (x ∷ xs) (y ∷ ys) keep few = keep-few more x y xs ys keep.0.numbers_still keep.1 few
     kept-few more [] (y ∷ ys) keep few = absurd keep
     kept-few more (x ∷ xs) [] keep few = absurd keep
+
+  few-same : (more : ℕ) (x y : T) (xs : List T) → numbers y ≡ numbers x → HasFewRows numbers more (x ∷ xs) → HasFewRows numbers more (y ∷ xs)
+  unfolding all_settles
+  few-same more x y xs same few = subst (λ (n : Numbers). (n.lost || any_lost numbers xs) ≡ false → n.rows ≤ (n.settles + all_settles numbers xs) + more) (sym same) few
+
+  -- the first has the same numbers, and sees what it saw
+  pub cause-same : (view : T → LaneView) (objects : List ℕ) (x y : T) (xs : List T) → numbers y ≡ numbers x → view y ≡ view x → HasCause numbers view objects (x ∷ xs) → HasCause numbers view objects (y ∷ xs)
+  cause-same view objects x y xs same still (inl few) = inl (few-same 0 x y xs same few)
+  cause-same view objects x y xs same still (inr (few, sees)) = inr (few-same 1 x y xs same few, subst (λ (v : LaneView). (p : ℕ) × IsTrue (is_object v.sys p) × SeesEntry v p) (sym still) sees)
 
   -- tries to pass a `settle`
   pub tries-none : TriesCount numbers false [] []

@@ -26,6 +26,10 @@ module _ {T : Type 0} (Ready : T → Type 0) (Same : T → T → Type 0) (waits 
   keep-same [] (y ∷ ys) h = absurd h
   keep-same (x ∷ xs) [] h = absurd h
 
+  pub keep-none : ((a : T) → Same a a) → (xs : List T) → AreReady Ready xs → KeepEach Ready Same waits remains numbers xs xs
+  keep-none itself [] h = tt
+  keep-none itself (x ∷ xs) h = (record { ready = h.0; same = itself x; waits_still = refl; remains_still = refl; numbers_still = refl }, keep-none itself xs h.1)
+
   pub kept-then : ((a b c : T) → Same a b → Same b c → Same a c) → (x y z : T) → Kept Ready Same waits remains numbers x y → Kept Ready Same waits remains numbers y z → Kept Ready Same waits remains numbers x z
   kept-then still x y z h k = record {
     ready = k.ready;
@@ -99,6 +103,16 @@ module _ {T : Type 0} (view : T → LaneView) where
     )
     table-still objects [] (y ∷ ys) same h = absurd same
     table-still objects (x ∷ xs) [] same h = absurd same
+
+-- each of them is of a table with these objects
+module _ {T : Type 0} (Ready : T → Type 0) (view : T → LaneView) (objects : List ℕ) where
+  objects-others : (v : LaneView) (ys : List T) → AreObjects v objects → AreReady Ready ys → AreTogether view v ys → AreReady (λ y. Ready y × AreObjects (view y) objects) ys
+  objects-others v [] h ready together = tt
+  objects-others v (y ∷ ys) h ready together = ((ready.0, objects-still v (view y) objects together.0 h), objects-others v ys h ready.1 together.1)
+
+  pub objects-each : (xs : List T) → AreReady Ready xs → AreOneTable view objects xs → AreReady (λ x. Ready x × AreObjects (view x) objects) xs
+  objects-each [] ready h = tt
+  objects-each (x ∷ xs) ready h = ((ready.0, h.1), objects-others (view x) xs h.1 ready.1 h.0)
 
 pub one-table : {T : Type 0} (view : T → LaneView) (objects : List ℕ) (xs : List T) → AreOneTable view objects xs → IsTable view xs
 one-table view objects [] h = tt

@@ -6,3 +6,4 @@ pub mod Floors
 pub mod Starting
 pub mod Quiet
 pub mod Turns
+pub mod Staying

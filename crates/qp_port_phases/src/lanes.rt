@@ -1,6 +1,6 @@
 //! What the starting thread asks of lanes between phases.
 
-ghost use Rattle.std.specs.Prelude.{ℕ, ◌≡◌, Bool, IsTrue, true};
+ghost use Rattle.std.specs.Prelude.{ℕ, ◌≡◌, ◌≤◌, Bool, IsTrue, true, false};
 ghost use Rattle.qp_model.specs.WordLaw.{is_object};
 ghost use Rattle.qp_calls.specs.LaneView.{Advances, LaneView};
 ghost use Rattle.qp_calls.specs.Clauses.{Counted, Stopped};
@@ -11,6 +11,7 @@ ghost use Rattle.qp_port_phases.specs.Rows.{CountsOn, Numbers, PassCounts};
 ghost use Rattle.qp_port_phases.specs.Stopping.{Hears};
 
 use crate::running::Worker;
+use crate::seats::Serves;
 use qp_calls::Counts;
 
 /// What became of a `settle`.
@@ -45,6 +46,15 @@ pub trait PhaseLane: Worker {
     /// The same lane, of the same object or source.
     ghost same: { Self → Self → Type 0 };
 
+    /// Whether its last turn, or its start, came to its end. If not, it takes no more.
+    ghost rests: { Self → Bool };
+
+    /// Whether its turns come to the end of no row of looks without a step.
+    ghost rowless: { Self → Bool };
+
+    /// What it does where so many sources take a turn next.
+    ghost called: { ℕ → Self → Self → Type 0 };
+
     /// This lane sees what the other has seen, which is of the same table.
     fn meet(&mut self, other: &mut Self)
         requires ready { Self.ready self.old }
@@ -62,6 +72,24 @@ pub trait PhaseLane: Worker {
     /// Whether it has a stimulus left.
     fn left(&self) -> bool
         ensures { result ≡ remains self.now };
+
+    /// Whether its last turn, or its start, came to its end.
+    fn at_rest(&self) -> bool
+        ensures { result ≡ rests self.now };
+
+    /// Whether its turns come to the end of no row of looks without a step.
+    fn is_rowless(&self) -> bool
+        ensures { result ≡ rowless self.now };
+
+    /// Whose entries it takes.
+    fn serves(&self) -> Serves;
+
+    /// So many sources take a turn next. No lane runs.
+    fn on_round(&mut self, sources: u32)
+        requires ready { Self.ready self.old }
+        ensures called { called sources self.old self.new }
+        ensures still { view self.new ≡ view self.old }
+        ensures kept { Kept Self.ready same waits remains numbers self.old self.new };
 
     /// Passes the `settle`, or tries to. `Yes` exactly where it is done, `Found` exactly where a look of this call showed that queue at these
     /// counts.
@@ -105,4 +133,6 @@ pub trait PhaseLane: Worker {
 
     /// It comes to the end of one row of looks without a step at most, and of none where the lane has just seen an entry.
     ghost went_on: { (a b : Self) → Self.Worker.turned a b → CountsOn (view a) (numbers a) (numbers b) };
+
+    ghost went_rowless: { (a b : Self) → Self.Worker.turned a b → rowless a ≡ true → (numbers b).lost ≡ false → (numbers b).rows ≤ (numbers a).rows };
 }

@@ -14,9 +14,11 @@ ghost use Rattle.qp_port_phases.specs.Stopping.{SameCodes};
 ghost use Rattle.qp_port_phases.specs.Rows.{CountsBy, HasCause, HasFewRows, SeesEntry, TriesCount, one_where};
 ghost use Rattle.qp_port_phases.specs.Turns.{AreReady};
 
-use crate::hook::PhaseHook;
 use crate::lanes::{Passed, PhaseLane};
+use crate::looking::are_empty;
+use crate::rounds::Rounds;
 use crate::running::run_lanes;
+use crate::staying::Staying;
 use std::sync::Wait;
 use std::thread::Threads;
 
@@ -91,38 +93,6 @@ fn level<T: PhaseLane>(workers: &mut [T])
     };
     meet_all(first, others);
     all_meet(first, others);
-}
-
-/// Whether a queue is seen empty by the lane.
-fn is_empty<T: PhaseLane>(lane: &mut T, p: u8) -> bool
-    requires ready { T.ready lane.old }
-    requires object { IsTrue (is_object (T.view lane.old).sys p) }
-    ensures kept { Kept T.ready T.same T.waits T.remains T.numbers lane.old lane.new }
-    ensures rises { (w : Word) → (T.view lane.old).mark w ≤ (T.view lane.new).mark w }
-    ensures codes { SameCodes (T.view lane.old) (T.view lane.new) }
-    ensures empty { result ≡ true → IsEmpty (T.view lane.new) p }
-    ensures entry { result ≡ false → SeesEntry (T.view lane.new) p }
-    ensures others { result ≡ true → (q : ℕ) → IsEmpty (T.view lane.old) q → IsEmpty (T.view lane.new) q }
-{
-    let c = lane.counts(p);
-    u64::from(c.f) + u64::from(c.l) == u64::from(c.m)
-}
-
-/// Whether all these queues are seen empty by the lane; others that were stay so. It ends at the first that isn't.
-fn are_empty<T: PhaseLane>(lane: &mut T, objects: &[u8]) -> bool
-    requires ready { T.ready lane.old }
-    requires objects { AreObjects (T.view lane.old) objects.now }
-    ensures kept { Kept T.ready T.same T.waits T.remains T.numbers lane.old lane.new }
-    ensures rises { (w : Word) → (T.view lane.old).mark w ≤ (T.view lane.new).mark w }
-    ensures codes { SameCodes (T.view lane.old) (T.view lane.new) }
-    ensures empty { result ≡ true → AreEmpty objects.now (T.view lane.new) }
-    ensures entry { result ≡ false → (p : ℕ) × IsTrue (is_object (T.view lane.new).sys p) × SeesEntry (T.view lane.new) p }
-    ensures others { result ≡ true → (q : ℕ) → IsEmpty (T.view lane.old) q → IsEmpty (T.view lane.new) q }
-{
-    let Some((one, rest)) = objects.split_first() else {
-        return true;
-    };
-    is_empty(lane, *one) && are_empty(lane, rest)
 }
 
 /// Whether a lane has a stimulus left.
@@ -210,14 +180,14 @@ fn look<T: PhaseLane>(first: &mut T, others: &mut [T], objects: &[u8]) -> Option
 }
 
 /// Runs the phases: between them the first lane meets all others and looks at the queues, and each lane at a `settle` passes
-/// it or tries to; in them all lanes take a turn, beside one another. But for the first, a phase has a cause: a `settle` was
-/// passed, or the first lane sees an entry. The hook is called where one begins. Before the first all lanes see what any of them
-/// has seen, so what they add from then on shows no word as it was before.
-pub fn run_phases<R: Threads + Wait + Sync, T: PhaseLane, H: PhaseHook>(
+/// it or tries to. In a phase all lanes take turns, beside one another, each in a thread of its own, over as many rounds as there are
+/// ([`Rounds`]). But for the first, a phase has a cause: a `settle` was passed, or the first lane sees an entry. Before the first all
+/// lanes see what any of them has seen, so what they add from then on shows no word as it was before.
+pub fn run_phases<R: Threads + Wait + Sync, T: PhaseLane + Send>(
     rt: &R,
     objects: &[u8],
     workers: &mut [T],
-    hook: &mut H,
+    rounds: &Rounds,
 ) -> PhasesEnd
     requires ready { AreReady T.ready workers.old }
     requires table { AreOneTable T.view objects.now workers.old }
@@ -236,8 +206,8 @@ pub fn run_phases<R: Threads + Wait + Sync, T: PhaseLane, H: PhaseHook>(
         match between(objects, workers, begun) {
             Next::Over(how) => return how,
             Next::Phase => {
-                hook.on_phase();
-                run_lanes(rt, workers);
+                let manner = Staying::begin(objects, workers, rounds);
+                run_lanes(rt, &manner, workers);
                 begun = true;
             }
             Next::Again => {}

@@ -23,6 +23,10 @@ use Rattle.qp_port_qk.specs.declared.job.QkJob.{QkJob}
 use Rattle.qp_port_qk.specs.declared.job.QkJob.TheVariants as job
 use Rattle.qp_port_qk.specs.KernelRests.{KernelBegins, KernelEnds, KernelRests, KernelStops}
 
+abbrev pub is_source : QkJob → Bool
+is_source (job.Kernel xs k) = false
+is_source (job.Source x) = true
+
 -- a source that stands at a `settle`
 abbrev pub stands_at_settle : QkJob → Bool
 stands_at_settle (job.Kernel xs k) = false

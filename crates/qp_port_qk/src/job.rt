@@ -9,7 +9,7 @@ ghost use Rattle.qp_port_phases.specs.Passing.{PassesTo};
 ghost use Rattle.qp_port_phases.specs.Rows.{CountsOn, PassCounts};
 ghost use Rattle.qp_port_phases.specs.Stopping.{Hears};
 ghost use Rattle.qp_port_lanes.specs.Answers.{Feeds, is_short, turn_by};
-ghost use Rattle.qp_port_qk.specs.Jobs.{IsSameJob, JobBegins, JobRests, JobStands, JobStarts, JobStartsAlone, JobTurns, KernelStands, KernelTurns, is_left_in, stands_at_settle};
+ghost use Rattle.qp_port_qk.specs.Jobs.{IsSameJob, JobBegins, JobRests, JobStands, JobStarts, JobStartsAlone, JobTurns, KernelStands, KernelTurns, is_left_in, is_source, stands_at_settle};
 ghost use Rattle.qp_port_qk.specs.KernelRests.{KernelBegins, KernelRests};
 ghost use Rattle.qp_port_qk.specs.Numbers.{job_rows, numbers_of};
 
@@ -168,6 +168,16 @@ impl QkJob<'_> {
     {
         match self {
             QkJob::Source(source) => source.at_settle(),
+            QkJob::Kernel(_, _) => false,
+        }
+    }
+
+    /// Whether it is a source.
+    pub(crate) fn is_source(&self) -> bool
+        ensures { result ≡ is_source self.now }
+    {
+        match self {
+            QkJob::Source(_) => true,
             QkJob::Kernel(_, _) => false,
         }
     }

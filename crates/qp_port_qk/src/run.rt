@@ -20,7 +20,7 @@ use qp_calls_log::Meets;
 use qp_kernel::World;
 use qp_kernel_end::Rest;
 use qp_model::{Stimuli, System};
-use qp_port_phases::{PhasesEnd, objects_of};
+use qp_port_phases::{PhasesEnd, Rounds, objects_of};
 use std::alloc::{AllocError, Global};
 use std::sync::Wait;
 use std::thread::Threads;
@@ -152,6 +152,10 @@ pub fn run_lanes_of_qk<R: Threads + Wait + Sync, W: World + Meets + Send + Drop,
     let Ok(objects) = objects_of(alloc, sys) else {
         return Err(Memory);
     };
+    let sources = stim.sources.len() as u32;
+    let Ok(rounds) = Rounds::new(alloc, lanes.len(), sources, false) else {
+        return Err(Memory);
+    };
     let at = QkTerms {
         sys,
         stim,
@@ -159,7 +163,7 @@ pub fn run_lanes_of_qk<R: Threads + Wait + Sync, W: World + Meets + Send + Drop,
         gate,
     };
     let mut workers = new_workers(alloc, &at, lanes)?;
-    let how = start_and_run(rt, objects.as_slice(), workers.as_mut_slice());
+    let how = start_and_run(rt, objects.as_slice(), workers.as_mut_slice(), &rounds);
     // (for want of memory a lane may have been cut anywhere)
     if matches!(how, Some(PhasesEnd::Memory)) {
         return Err(Memory);

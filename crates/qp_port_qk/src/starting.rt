@@ -1,6 +1,6 @@
 //! The start of the first of several workers, and then the phases.
 
-ghost use Rattle.std.specs.Prelude.{◌≡◌, ◌⊎◌, ℕ, Bool, None, Some, true, false};
+ghost use Rattle.std.specs.Prelude.{◌≡◌, ◌⊎◌, ℕ, None, Some, true, false};
 ghost use Rattle.std.specs.List.{list_all};
 ghost use Rattle.qp_port_phases.specs.declared.phases.PhasesEnd.{PhasesEnd};
 ghost use Rattle.qp_port_phases.specs.declared.phases.PhasesEnd.TheVariants as ended;
@@ -11,7 +11,7 @@ ghost use Rattle.qp_port_phases.specs.Turns.{AreReady};
 ghost use Rattle.qp_port_phases.specs.Starting.{StartFirst};
 ghost use Rattle.qp_port_qk.specs.Workers.{FirstBegins, OthersAre};
 
-use qp_port_phases::{NoHook, PhaseLane, PhasesEnd, run_phases};
+use qp_port_phases::{PhaseLane, PhasesEnd, Rounds, run_phases};
 use std::sync::Wait;
 use std::thread::Threads;
 
@@ -22,9 +22,6 @@ pub trait QkStarts: PhaseLane {
 
     /// It takes no more turns.
     ghost ended: { Self → Type 0 };
-
-    /// Whether its last turn, or its start, came to its end.
-    ghost rests: { Self → Bool };
 
     /// Nothing starts in its lane, and nothing stands there.
     ghost blank: { Self → Type 0 };
@@ -41,7 +38,7 @@ pub trait QkStarts: PhaseLane {
         ensures ended { ended self.new }
         ensures ready { result ≡ true → Self.Worker.ready self.new }
         ensures same { Self.PhaseLane.same self.old self.new }
-        ensures rests { rests self.new ≡ result }
+        ensures rests { Self.PhaseLane.rests self.new ≡ result }
         ensures none { (Self.PhaseLane.numbers self.new).lost ≡ false → (Self.PhaseLane.numbers self.new).rows ≡ 0 }
         ensures alone { alone self.new }
         ensures started { result ≡ true → started self.new };
@@ -70,10 +67,11 @@ fn start_first<T: QkStarts>(workers: &mut [T]) -> bool
 }
 
 /// Starts the first of these, and runs the phases where its start came to its end; None where it did not.
-pub(crate) fn start_and_run<R: Threads + Wait + Sync, T: QkStarts>(
+pub(crate) fn start_and_run<R: Threads + Wait + Sync, T: QkStarts + Send>(
     rt: &R,
     objects: &[u8],
     workers: &mut [T],
+    rounds: &Rounds,
 ) -> Option<PhasesEnd>
     requires begins { FirstBegins T.begins T.ready workers.old }
     requires blank { OthersAre T.blank workers.old }
@@ -89,7 +87,7 @@ pub(crate) fn start_and_run<R: Threads + Wait + Sync, T: QkStarts>(
     ensures memory { result ≡ Some ended.Memory → FirstFound T.view true workers.old workers.new }
 {
     if start_first(workers) {
-        Some(run_phases(rt, objects, workers, &mut NoHook))
+        Some(run_phases(rt, objects, workers, rounds))
     } else {
         None
     }

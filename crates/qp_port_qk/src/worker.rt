@@ -6,8 +6,8 @@ ghost use Rattle.qp_port_lanes.specs.Answers.{is_idle, is_short};
 ghost use Rattle.qp_model_order.specs.SourceRun.{untold_all};
 ghost use Rattle.qp_kernel.specs.Starts.{AreStarts};
 ghost use Rattle.qp_port_qk.specs.Alone.{blank-alone, blank-started};
-ghost use Rattle.qp_port_qk.specs.Jobs.{JobTurns, TurnsFrom, is_left_in, stands_at_settle, JobIsAlone, starts_of};
-ghost use Rattle.qp_port_qk.specs.Numbers.{numbers_of};
+ghost use Rattle.qp_port_qk.specs.Jobs.{JobTurns, TurnsFrom, is_left_in, is_source, stands_at_settle, JobIsAlone, starts_of};
+ghost use Rattle.qp_port_qk.specs.Numbers.{numbers_of, source-rows};
 ghost use Rattle.qp_port_qk.specs.Workers.{IsSameWorker, MayBegin, MayEnd, MayTurn, same-itself, same-still, same-table, IsBlank};
 
 use crate::job::{QkJob, pass_job, run_job, start_job};
@@ -19,7 +19,7 @@ use qp_dispatch::Turn;
 use qp_kernel::World;
 use qp_model::System;
 use qp_port_lanes::{is_idle, is_short, turn_by};
-use qp_port_phases::{Passed, PhaseLane, Worker};
+use qp_port_phases::{Passed, PhaseLane, Serves, Worker};
 use std::sync::Wait;
 
 /// A lane, what runs in it, and the answer of its last turn. One whose turn has stopped takes no more: it is a lane like another,
@@ -95,6 +95,12 @@ impl<W: World + Meets + Send, G: Tells + Sync> PhaseLane for QkWorker<'_, W, G> 
 
     ghost same = { λ a b. IsSameWorker a.sys.now b.sys.now a.budget b.budget a.job b.job (W.lane a.lane) (W.lane b.lane) };
 
+    ghost rests = { λ w. is_idle w.turn };
+
+    ghost rowless = { λ w. is_source w.job };
+
+    ghost called = { λ n a b. b ≡ a };
+
     fn meet(&mut self, other: &mut Self) {
         self.lane.meet(&mut other.lane);
     }
@@ -105,6 +111,26 @@ impl<W: World + Meets + Send, G: Tells + Sync> PhaseLane for QkWorker<'_, W, G> 
 
     fn left(&self) -> bool {
         self.job.is_left()
+    }
+
+    fn at_rest(&self) -> bool {
+        self.is_idle()
+    }
+
+    fn is_rowless(&self) -> bool {
+        self.job.is_source()
+    }
+
+    fn serves(&self) -> Serves {
+        if self.job.is_source() {
+            Serves::Nobody
+        } else {
+            Serves::Everyone
+        }
+    }
+
+    fn on_round(&mut self, sources: u32) {
+        let _ = sources;
     }
 
     fn pass_settle(&mut self) -> Passed {
@@ -140,11 +166,11 @@ impl<W: World + Meets + Send, G: Tells + Sync> PhaseLane for QkWorker<'_, W, G> 
     ghost went = { λ a b h. (h.0, h.1) };
 
     ghost went_on = { λ a b h. h.2 };
+
+    ghost went_rowless = { λ a b h is l. source-rows a.sys.now b.sys.now a.budget b.budget a.job b.job (W.lane a.lane) (W.lane b.lane) h.1.job is };
 }
 
 impl<W: World + Meets + Send, G: Tells + Sync> QkStarts for QkWorker<'_, W, G> {
-    ghost rests = { λ w. is_idle w.turn };
-
     ghost begins = { λ w. MayBegin W.acts w.sys.now w.budget w.turn w.job (W.lane w.lane) };
 
     ghost ended = { λ w. MayEnd w.sys.now w.budget w.turn w.job (W.lane w.lane) };

@@ -68,7 +68,7 @@ fn end<R: Wait, O: Ops>(rt: &R, player: Player<'_, O>) -> (O, bool)
 }
 
 /// Two players take their turns beside one another, the first in a thread of its own.
-fn both_turn<R: Threads + Wait + Sync, T: Worker>(rt: &R, one: &mut T, two: &mut T)
+fn both_turn<R: Threads + Wait + Sync, T: Worker + Send>(rt: &R, one: &mut T, two: &mut T)
     requires one_ready { T.ready one.old }
     requires two_ready { T.ready two.old }
     ensures one { T.turned one.old one.new }

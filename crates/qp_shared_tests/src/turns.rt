@@ -94,7 +94,6 @@ fn seen_over<'a, R: Wait>(
     let Ok(mut lane) = bells.bell(alloc, bell_root, second, 1) else {
         return None;
     };
-    bells.phase(bell_root, 0);
     seen_in(rt, alloc, sys, &mut lane)
 }
 

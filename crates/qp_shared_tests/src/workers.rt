@@ -2,7 +2,7 @@
 
 ghost use Rattle.std.specs.Prelude.{◌≡◌, ◌+◌, ◌<◌};
 
-use qp_port_phases::{Worker, run_lanes};
+use qp_port_phases::{Manner, run_lanes};
 use std::sync::Wait;
 
 /// Counts its turns.
@@ -11,14 +11,18 @@ struct Counter {
     turns: u32,
 }
 
-impl Worker for Counter {
-    ghost ready = { λ w. w.turns < 1000 };
+/// Each counts one turn.
+#[derive(Clone, Copy)]
+struct Once;
 
-    ghost turned = { λ v w. w.turns ≡ v.turns + 1 };
+impl Manner<Counter> for Once {
+    ghost ready = { λ how w. w.turns < 1000 };
 
-    fn turn<R: Wait>(&mut self, rt: &R) {
+    ghost turned = { λ how v w. w.turns ≡ v.turns + 1 };
+
+    fn turn<R: Wait>(&self, rt: &R, worker: &mut Counter) {
         let _ = rt;
-        self.turns += 1;
+        worker.turns += 1;
     }
 }
 
@@ -31,7 +35,7 @@ fn each_in_its_place(rt: HostRuntime) {
         Counter { turns: 30 },
         Counter { turns: 40 },
     ];
-    run_lanes(&rt, &mut workers);
+    run_lanes(&rt, &Once, &mut workers);
     for (k, worker) in workers.iter().enumerate() {
         assert_eq!(rt; worker.turns as usize, 10 * k + 1);
     }
@@ -40,8 +44,8 @@ fn each_in_its_place(rt: HostRuntime) {
 #[test]
 fn one_worker_or_none(rt: HostRuntime) {
     let mut one = [Counter { turns: 7 }];
-    run_lanes(&rt, &mut one);
+    run_lanes(&rt, &Once, &mut one);
     assert_eq!(rt; one[0].turns, 8);
-    run_lanes(&rt, &mut one[1..]);
+    run_lanes(&rt, &Once, &mut one[1..]);
     assert_eq!(rt; one[0].turns, 8);
 }

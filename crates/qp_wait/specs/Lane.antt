@@ -2,7 +2,7 @@
 use Rattle.std.specs.Prelude.{◌≡◌, ℕ, ◌+◌, ◌≤◌, ◌%◌, ◌^◌, ◌==◌, Bool, List, [], ◌∷◌, if◌then◌else◌}
 use Rattle.crossbeam_utils.specs.Token.{parker_view}
 use Rattle.qp_calls.specs.LaneView.{LaneView}
-use Rattle.qp_wait_bells.specs.Tallies.{one_where}
+use Rattle.qp_wait_bells.specs.Tallies.{one_where, with_added}
 use Rattle.qp_wait_rings.specs.declared.cord.Cord.{Cord}
 use Rattle.qp_wait_rings.specs.Lane.{Forgets, ringing_view}
 use Rattle.qp_wait.specs.declared.lane.BellLane.{BellLane}
@@ -36,6 +36,14 @@ empty_looks l = l.closings.seat.me.0.empty_looks
 -- how often it took the last one off the count, but for claims that were refused
 abbrev pub last_takes : BellLane → ℕ
 last_takes l = l.closings.seat.me.0.last_takes
+
+-- so many were added to the count
+pub record OpensFor (n : ℕ) (old new : BellLane) : Type 0 where
+  pub ringing : new.ringing ≡ old.ringing
+  pub farewells : new.farewells ≡ old.farewells
+  pub closings : new.closings ≡ old.closings
+  pub perch : new.perch ≡ old.perch
+  pub added : new.openings.seat.me.0 ≡ with_added n old.openings.seat.me.0
 
 -- one was taken off, and a farewell was said exactly where it was the last
 pub record IsAway (old new : BellLane) : Type 0 where

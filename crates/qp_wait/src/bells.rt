@@ -1,18 +1,18 @@
 //! The parkers of a system and the count of what keeps their threads awake.
 
-ghost use Rattle.std.specs.Prelude.{◌≡◌, ◌<◌, [], map, IfOk, OnErr, IfErr};
+ghost use Rattle.std.specs.Prelude.{◌≡◌, ◌<◌, [], map, IfOk, IfSome, OnErr, IfErr};
 ghost use Rattle.qp_model.specs.Sources.{priorities};
 ghost use Rattle.qp_wait_rings.specs.Handed.{lane_view};
-ghost use Rattle.qp_wait_bells.specs.Tallies.{with_added};
 
 use crate::closings::Closings;
 use crate::farewells::Farewells;
 use crate::hanging::{Rope, Waking, add_cords, hang, perch_of};
 use crate::lane::BellLane;
+use crate::openings::Openings;
 use atomic_table::Seat;
 use qp_base::Memory;
 use qp_model::System;
-use qp_wait_bells::{Tallies, Tally, add, new_tallies, seat_of};
+use qp_wait_bells::{Tallies, Tally, new_tallies, seat_of};
 use qp_wait_rings::{Cord, RingingLane, SharedLane};
 use std::alloc::Global;
 
@@ -56,15 +56,6 @@ impl Bells {
         Ok((Bells { count, wakers }, BellRoot { seat, ropes }))
     }
 
-    /// A phase begins, with so many sources that aren't at their end.
-    pub fn phase(&self, root: &mut BellRoot, n: u32)
-        requires root { IsRootOf self.now root.old }
-        ensures root { IsRootOf self.now root.new }
-        ensures added { root.new.seat.me.0 ≡ with_added n root.old.seat.me.0 }
-    {
-        add(&self.count, &mut root.seat, u64::from(n));
-    }
-
     /// A cord for each object.
     fn cords(&self, alloc: Global, root: &mut BellRoot) -> Result<Vec<Cord>, Memory>
         requires root { IsRootOf self.now root.old }
@@ -95,6 +86,7 @@ impl Bells {
         ensures root { IsRootOf self.now root.new }
         ensures begins { IfOk result (BeginsAt (lane_view lane.entry)) }
         ensures hangs { IfOk result (HangsOn self.now) }
+        ensures parks { IfOk result (λ l. IfSome l.perch (λ p. p.object ≡ me)) }
         ensures refused { IfErr result (λ fault. fault.lane ≡ lane.entry) }
     {
         let Ok(posts) = self.cords(alloc, root) else {
@@ -106,6 +98,7 @@ impl Bells {
         let perch = perch_of(alloc, self.wakers.as_slice(), root.ropes.as_mut_slice(), me);
         let seat = seat_of(&self.count, &mut root.seat);
         let closing = seat_of(&self.count, &mut root.seat);
+        let opening = seat_of(&self.count, &mut root.seat);
         let ringing = RingingLane::new(lane, &self.count, seat, posts);
         Ok(BellLane {
             ringing,
@@ -114,6 +107,10 @@ impl Bells {
                 count: &self.count,
                 seat: closing,
                 ended: 0,
+            },
+            openings: Openings {
+                count: &self.count,
+                seat: opening,
             },
             perch,
         })

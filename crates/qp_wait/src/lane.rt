@@ -12,6 +12,7 @@ ghost use Rattle.qp_wait.specs.Parked.{HasParked, HasParked-prop, HasPerch, is_p
 
 use crate::closings::Closings;
 use crate::farewells::Farewells;
+use crate::openings::Openings;
 use crate::perch::Perch;
 use qp_base::Memory;
 use qp_model::Rec;
@@ -25,12 +26,13 @@ pub struct BellLane<'a> {
     pub ringing: RingingLane<'a>,
     pub farewells: Farewells,
     pub closings: Closings<'a>,
+    pub openings: Openings<'a>,
     pub perch: Option<Perch>,
     ghost parked: { HasParked farewells.cords.items perch (ringing_view ringing) } by { HasParked-prop farewells.cords.items perch (ringing_view ringing) },
 }
 
 impl<'a> BellLane<'a> {
-    ghost use Rattle.qp_wait.specs.Lane.{ClosesOne, IsAway, KeepsPerch, LooksAtCount, SaysOne, bell_view, notes_to};
+    ghost use Rattle.qp_wait.specs.Lane.{ClosesOne, IsAway, KeepsPerch, LooksAtCount, OpensFor, SaysOne, bell_view, notes_to};
 
     /// The records of the lane so far.
     pub fn records(&self) -> &[Rec]
@@ -39,7 +41,7 @@ impl<'a> BellLane<'a> {
         self.ringing.records()
     }
 
-    /// What the lane added to the count: one for each claim.
+    /// What the lane added to the count for its claims: one for each.
     pub fn opened(&self) -> u64
         ensures claims { result ≡ count_by is_claim (bell_view self.now).told }
         ensures seats { result ≡ self.now.ringing.seat.me.0.added + self.now.closings.seat.me.0.added }
@@ -81,6 +83,13 @@ impl<'a> BellLane<'a> {
         ensures notes { (a : ℕ) → IsTrue (is_object (bell_view self.now).sys a) → notes_to a self.now % 2 ^ 64 ≡ (count_by (posts_on a) (bell_view self.now).told + result) % 2 ^ 64 }
     {
         self.farewells.said
+    }
+
+    /// So many sources take a turn next, and are added to the count. No object is within a turn.
+    pub fn phase(&mut self, n: u32)
+        ensures { OpensFor n self.old self.new }
+    {
+        self.openings.add(n);
     }
 
     /// Its source is at its end: one is taken off the count. Where that leaves nothing there, every parker is noted.
@@ -158,6 +167,7 @@ impl<'a> BellLane<'a> {
             ringing,
             farewells: _,
             closings: _,
+            openings: _,
             perch: _,
         } = self;
         ringing.done()

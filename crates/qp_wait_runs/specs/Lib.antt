@@ -1,2 +1,3 @@
-pub mod Roots
+pub mod Ending
 pub mod Handed
+pub mod Places

@@ -1,8 +1,6 @@
 //! Whole runs of the waiting port: over the running table, from a system and its stimuli to a sealed journal.
 #![tactic(auto)]
 
-mod counting;
-mod rendezvous;
 mod ringing;
 mod run;
 mod turns;

@@ -5,6 +5,7 @@ ghost use Rattle.std.specs.List.{AllByRecursion};
 ghost use Rattle.qp_port_runs.specs.Handed.{lane_view};
 ghost use Rattle.qp_wait.specs.Handed.{bell_view};
 ghost use Rattle.qp_wait.specs.Handed.{AreBellsOf, IsRootOf};
+ghost use Rattle.qp_wait_runs.specs.Places.{AddsFor, ParkInPlaces, object_at};
 
 use qp_base::Memory;
 use qp_model::{ObjectDef, System};
@@ -13,7 +14,9 @@ use qp_wait::{BellLane, BellRoot, Bells};
 use std::alloc::Global;
 
 /// The object whose lane stands at this place; 0 for the first lane, and for those of sources.
-fn object_at(objects: &[ObjectDef], place: usize) -> u8 {
+fn object_at(objects: &[ObjectDef], place: usize) -> u8
+    ensures { result ≡ object_at objects.now place }
+{
     if place == 0 {
         return 0;
     }
@@ -37,6 +40,7 @@ fn add<'a>(
     requires system { AreBellsOf (lane_view lane).sys bells.now }
     ensures root { IsRootOf bells.now root.new }
     ensures lane { OnOk result (map bell_view ringing.new.items ≡ map bell_view ringing.old.items ++ lane_view lane.entry ∷ []) }
+    ensures parks { OnOk result (AddsFor me ringing.old.items ringing.new.items) }
 {
     let Ok(one) = bells.bell(alloc, root, lane, me) else {
         return Err(Memory);
@@ -62,6 +66,7 @@ pub(crate) fn all_ringing<'a>(
     requires fresh { AllByRecursion (λ l. (lane_view l).told ≡ []) lanes.items }
     ensures root { IsRootOf bells.now root.new }
     ensures lanes { IfOk result (λ ringing. map bell_view ringing.items ≡ map lane_view lanes.entry.items) }
+    ensures parks { IfOk result (λ ringing. ParkInPlaces sys.now.objects 0 ringing.items) }
 {
     let mut ringing = Vec::new(alloc);
     for lane in lanes {

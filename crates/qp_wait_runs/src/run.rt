@@ -1,6 +1,6 @@
 //! A run of the waiting port.
 
-ghost use Rattle.std.specs.Prelude.{◌≡◌, ◌≤◌, IfOk, false, map};
+ghost use Rattle.std.specs.Prelude.{◌≡◌, ◌≤◌, IfOk, false, length, map};
 ghost use Rattle.std.specs.List.{AllByRecursion};
 ghost use Rattle.qp_model.specs.Kernels.{port};
 ghost use Rattle.qp_model.specs.Sound.{IsSound};
@@ -15,13 +15,12 @@ ghost use Rattle.qp_port_runs.specs.Handed.{WasSealedFor, lane_view};
 ghost use Rattle.qp_wait.specs.Handed.{bell_view};
 ghost use Rattle.qp_wait.specs.Handed.{AreBellsOf, IsRootOf};
 
-use crate::counting::SourceCount;
-use crate::rendezvous::Rendezvous;
 use crate::ringing::{all_done, all_ringing};
 use crate::turns::WaitTurns;
 use qp_base::{Gate, Memory};
 use qp_model::kernels::PORT;
 use qp_model::{Stimuli, System};
+use qp_port_phases::Rounds;
 use qp_port_runs::{PortRun, Shared, SharedLane, Terms, Threaded, run_lanes_of, seal};
 use qp_wait::{BellLane, BellRoot, Bells};
 use std::alloc::Global;
@@ -59,6 +58,7 @@ fn run_ringing<'a, R: Threads + Wait + Sync, G: Gate>(
     requires few { at.now.budget ≤ 1000000 }
     requires bells { AreBellsOf at.now.sys.now bells.now }
     requires root { IsRootOf bells.now root }
+    requires sources { at.now.turns.now.rounds.now.sources ≡ length at.now.stim.now }
     requires lanes { AreNewLanes at.now.sys.now at.now.stim.now (map lane_view lanes.items) }
     ensures lanes { IfOk result (λ run. AreSameLanes (map lane_view lanes.entry.items) (map lane_view run.lanes.items)) }
     ensures run { IfOk result (λ run. HasRun at.now.sys.now at.now.stim.now at.now.budget run.done run.rests.items (map lane_view run.lanes.items)) }
@@ -66,14 +66,7 @@ fn run_ringing<'a, R: Threads + Wait + Sync, G: Gate>(
     ensures fed { IfOk result (λ run. AllByRecursion IsFed (map lane_view run.lanes.items)) }
 {
     let lanes = all_ringing(alloc, bells, &mut root, at.sys, lanes)?;
-    let stim = at.stim;
-    let mut hook = SourceCount {
-        bells,
-        root,
-        sources: stim.sources.len() as u32,
-        objects: at.turns.objects,
-    };
-    let run = run_lanes_of(rt, alloc, at, &mut hook, lanes)?;
+    let run = run_lanes_of(rt, alloc, at, at.turns.rounds, lanes)?;
     run_done(alloc, run)
 }
 
@@ -99,8 +92,11 @@ pub fn run_wait<R: Threads + Wait + Sync, G: Gate>(
     let count = 1 + sys.objects.items.len() + stim.sources.len();
     let (shared, root) = Shared::new(alloc, sys)?;
     let lanes = shared.port_lanes(root, count as u32)?;
-    let objects = Rendezvous::new(sys.objects.items.len() as u64);
-    let turns = WaitTurns { objects: &objects };
+    let sources = stim.sources.len() as u32;
+    let Ok(rounds) = Rounds::new(alloc, lanes.len(), sources, true) else {
+        return Err(Memory);
+    };
+    let turns = WaitTurns { rounds: &rounds };
     let at = Terms {
         sys,
         stim,

@@ -4,13 +4,13 @@ use Rattle.qp_port.proofs.starting.+start_all.Goals as goal
 
 pub returns-then-not-start-clause-same : goal.returns-then-not-start-clause-same
 returns-then-not-start-clause-same g t c =
-    let laws = (g.met.T.PhaseLane g.world.𝓛 g.world.𝓜 g.world.𝓡 ((λ s x. x), (λ x. x), (λ x. x), λ x. x)) in
+    let laws = g.met.T.PhaseLane in
     let parts = c.in-Some.ensures.cases in
     rw parts.0 (c.start.ensures.same, same-rows g.T.PhaseLane.same laws.same_itself c.in-Some.rest.now)
 
 pub returns-then-not-start-clause-alone : goal.returns-then-not-start-clause-alone
 returns-then-not-start-clause-alone g t c =
-    let laws = (g.met.T.Starts g.world.𝓛 g.world.𝓜 g.world.𝓡 ((λ s x. x), (λ x. x), (λ x. x), λ x. x)) in
+    let laws = g.met.T.Starts in
     let parts = c.in-Some.ensures.cases in
     let all = rw parts.0 at c.requires in
     (c.start.ensures.alone, ready-map g.T.Starts.fresh g.T.Starts.alone laws.fresh_alone c.in-Some.rest.now all.1)

@@ -1,4 +1,4 @@
-use Rattle.std.proofs.Common.{sym}
+use Rattle.std.proofs.Common.{rules, sym}
 use Rattle.qp_port_phases.proofs.Keeping.{together-first}
 use Rattle.qp_port_phases.proofs.phases.+all_meet.Goals as goal
 
@@ -8,9 +8,10 @@ meet-requires-clause-table g t c =
     let all = rw parts.0 at c.requires.together in
     record { world = sym all.0.world; sys = sym all.0.sys }
 
-pub all_meet-requires-clause-together : goal.all_meet-requires-clause-together
-all_meet-requires-clause-together g t c κs within =
-    let laws = (g.met.T.PhaseLane g.world.𝓛 g.world.𝓜 g.world.𝓡 ((λ s x. x), (λ x. x), (λ x. x), λ x. x)) in
+pub all_meet-requires : goal.all_meet-requires
+all_meet-requires g t c κs within =
+    let laws = g.met.T.PhaseLane in
     let parts = c.in-Some.ensures.cases in
     let all = rw parts.0 at c.requires.together in
-    together-first g.T.PhaseLane.view (g.T.PhaseLane.view c.args.first.now) (g.T.PhaseLane.view c.meet.new.other) (laws.same_table _ _ c.meet.ensures.other_kept.same) c.in-Some.rest.now all.1
+    let ready = rw parts.0 at c.requires.others_ready in
+    (search rules, (search rules, (c.meet.ensures.other_kept.ready, (ready.1, together-first g.T.PhaseLane.view (g.T.PhaseLane.view c.args.first.now) (g.T.PhaseLane.view c.meet.new.other) (laws.same_table _ _ c.meet.ensures.other_kept.same) c.in-Some.rest.now all.1))))

@@ -4,11 +4,11 @@ use Rattle.qp_port_phases.proofs.Floors.{level-none, told-then, under-before}
 use Rattle.qp_port_phases.proofs.phases.level.Goals as goal
 
 pub all_meet-requires-clause-others_ready : goal.all_meet-requires-clause-others_ready
-all_meet-requires-clause-others_ready g c κs within = keep-ready g.T.Worker.ready g.T.PhaseLane.same g.T.PhaseLane.waits g.T.PhaseLane.remains g.T.PhaseLane.numbers _ _ c.meet_all.ensures.others
+all_meet-requires-clause-others_ready g c = keep-ready g.T.Worker.ready g.T.PhaseLane.same g.T.PhaseLane.waits g.T.PhaseLane.remains g.T.PhaseLane.numbers _ _ c.meet_all.ensures.others
 
 pub all_meet-requires-clause-together : goal.all_meet-requires-clause-together
-all_meet-requires-clause-together g c κs within =
-    let laws = (g.met.T.PhaseLane g.world.𝓛 g.world.𝓜 g.world.𝓡 ((λ s x. x), (λ x. x), (λ x. x), λ x. x)) in
+all_meet-requires-clause-together g c =
+    let laws = g.met.T.PhaseLane in
     let view = g.T.PhaseLane.view in
     let parts = c.in-Some.ensures.cases in
     let all = rw parts.0 at c.requires.together in
@@ -21,7 +21,7 @@ returns-in_default-clause-level g c = level-none g.T.PhaseLane.view c.args.worke
 
 pub returns-clause-kept : goal.returns-clause-kept
 returns-clause-kept g c =
-    let laws = (g.met.T.PhaseLane g.world.𝓛 g.world.𝓜 g.world.𝓡 ((λ s x. x), (λ x. x), (λ x. x), λ x. x)) in
+    let laws = g.met.T.PhaseLane in
     let parts = c.in-Some.ensures.cases in
     rw parts.0 (
       kept-then g.T.Worker.ready g.T.PhaseLane.same g.T.PhaseLane.waits g.T.PhaseLane.remains g.T.PhaseLane.numbers laws.same_still _ _ _ c.meet_all.ensures.first c.all_meet.ensures.first,
@@ -30,7 +30,7 @@ returns-clause-kept g c =
 
 pub returns-clause-level : goal.returns-clause-level
 returns-clause-level g c =
-    let laws = (g.met.T.PhaseLane g.world.𝓛 g.world.𝓜 g.world.𝓡 ((λ s x. x), (λ x. x), (λ x. x), λ x. x)) in
+    let laws = g.met.T.PhaseLane in
     let view = g.T.PhaseLane.view in
     let parts = c.in-Some.ensures.cases in
     let kept = keep-same g.T.Worker.ready g.T.PhaseLane.same g.T.PhaseLane.waits g.T.PhaseLane.remains g.T.PhaseLane.numbers _ _ c.meet_all.ensures.others in

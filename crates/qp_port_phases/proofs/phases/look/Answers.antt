@@ -4,8 +4,8 @@ use Rattle.qp_port_phases.proofs.Keeping.{below-rises, found-other, found-seven,
 use Rattle.qp_port_phases.proofs.phases.look.Goals as goal
 
 pub are_empty-requires-clause-objects : goal.are_empty-requires-clause-objects
-are_empty-requires-clause-objects g c κs within =
-    let laws = (g.met.T.PhaseLane g.world.𝓛 g.world.𝓜 g.world.𝓡 ((λ s x. x), (λ x. x), (λ x. x), λ x. x)) in
+are_empty-requires-clause-objects g c =
+    let laws = g.met.T.PhaseLane in
     let same = laws.same_still _ _ _ c.meet_all.ensures.first.same c.stopped.ensures.kept.same in
     objects-still (g.T.PhaseLane.view c.args.first.now) (g.T.PhaseLane.view c.stopped.new.self) c.args.objects.now (laws.same_table _ _ same) c.requires.objects
 
@@ -28,12 +28,12 @@ returns-in-Some-clause-stopped g c said = found-other _ _ _ c.in-Some.field-0 c.
 
 pub returns-then-not-any_left-clause-first : goal.returns-then-not-any_left-clause-first
 returns-then-not-any_left-clause-first g c =
-    let laws = (g.met.T.PhaseLane g.world.𝓛 g.world.𝓜 g.world.𝓡 ((λ s x. x), (λ x. x), (λ x. x), λ x. x)) in
+    let laws = g.met.T.PhaseLane in
     let kept = kept-then g.T.Worker.ready g.T.PhaseLane.same g.T.PhaseLane.waits g.T.PhaseLane.remains g.T.PhaseLane.numbers laws.same_still in
     kept _ _ _ (kept _ _ _ c.meet_all.ensures.first c.stopped.ensures.kept) c.are_empty.ensures.kept
 
 pub returns-clause-first : goal.returns-clause-first
 returns-clause-first g c =
-    let laws = (g.met.T.PhaseLane g.world.𝓛 g.world.𝓜 g.world.𝓡 ((λ s x. x), (λ x. x), (λ x. x), λ x. x)) in
+    let laws = g.met.T.PhaseLane in
     let kept = kept-then g.T.Worker.ready g.T.PhaseLane.same g.T.PhaseLane.waits g.T.PhaseLane.remains g.T.PhaseLane.numbers laws.same_still in
     kept _ _ _ (kept _ _ _ c.meet_all.ensures.first c.stopped.ensures.kept) c.are_empty.ensures.kept

@@ -4,21 +4,21 @@ use Rattle.qp_port_phases.proofs.Keeping.{keep-ready, keep-same, objects-still, 
 use Rattle.qp_port_phases.proofs.phases.prepare.Goals as goal
 
 pub meet_all-requires-clause-together : goal.meet_all-requires-clause-together
-meet_all-requires-clause-together g c κs within =
-    let laws = (g.met.T.PhaseLane g.world.𝓛 g.world.𝓜 g.world.𝓡 ((λ s x. x), (λ x. x), (λ x. x), λ x. x)) in
+meet_all-requires-clause-together g c =
+    let laws = g.met.T.PhaseLane in
     let view = g.T.PhaseLane.view in
     together-first view (view c.args.first.now) (view c.pass_all-passed.new.first) (laws.same_table _ _ c.pass_all-passed.ensures.first.same) c.pass_all-passed.new.others
     (together-others view g.T.PhaseLane.same laws.same_table (view c.args.first.now) c.args.others.now c.pass_all-passed.new.others c.pass_all-passed.ensures.others c.requires.together)
 
 pub are_empty-empty-requires-clause-objects : goal.are_empty-empty-requires-clause-objects
-are_empty-empty-requires-clause-objects g c κs within =
-    let laws = (g.met.T.PhaseLane g.world.𝓛 g.world.𝓜 g.world.𝓡 ((λ s x. x), (λ x. x), (λ x. x), λ x. x)) in
+are_empty-empty-requires-clause-objects g c =
+    let laws = g.met.T.PhaseLane in
     let same = laws.same_still _ _ _ c.pass_all-passed.ensures.first.same c.meet_all.ensures.first.same in
     objects-still (g.T.PhaseLane.view c.args.first.now) (g.T.PhaseLane.view c.meet_all.new.first) c.args.objects.now (laws.same_table _ _ same) c.requires.objects
 
 pub returns : goal.returns
 returns g c =
-    let laws = (g.met.T.PhaseLane g.world.𝓛 g.world.𝓜 g.world.𝓡 ((λ s x. x), (λ x. x), (λ x. x), λ x. x)) in
+    let laws = g.met.T.PhaseLane in
     let numbers = g.T.PhaseLane.numbers in
     let tried = c.pass_all-passed.ensures in
     let met = c.meet_all.ensures in

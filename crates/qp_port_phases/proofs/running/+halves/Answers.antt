@@ -5,4 +5,4 @@ pub run_lanes-returns : goal.run_lanes-returns
 run_lanes-returns g t c =
     let cut = c.split_at_mut-front.ensures in
     let both = c.both_halves.ensures in
-    rw cut.value (turn_each-append g.T.Worker.turned _ _ _ _ both.front both.back)
+    rw cut.value (turn_each-append (g.M.Manner.turned c.args.how.now) _ _ _ _ both.front both.back)

@@ -11,7 +11,7 @@ returns-clause-each g c =
 
 pub returns-clause-same : goal.returns-clause-same
 returns-clause-same g c =
-    let laws = (g.met.T.PhaseLane g.world.𝓛 g.world.𝓜 g.world.𝓡 ((λ s x. x), (λ x. x), (λ x. x), λ x. x)) in
+    let laws = g.met.T.PhaseLane in
     let parts = c.in-Some.ensures.cases in
     rw parts.0 (c.start.ensures.same, same-each g.T.PhaseLane.same laws.same_itself _)
 
@@ -26,14 +26,14 @@ returns-clause-rows g c = λ more. rows-none g.T.PhaseLane.numbers more c.start.
 
 pub returns-clause-alone : goal.returns-clause-alone
 returns-clause-alone g c =
-    let laws = (g.met.T.QkStarts g.world.𝓛 g.world.𝓜 g.world.𝓡 ((λ s x. x), (λ x. x), (λ x. x), λ x. x)) in
+    let laws = g.met.T.QkStarts in
     let parts = c.in-Some.ensures.cases in
     let blank = rw parts.0 at c.requires.blank in
     (c.start.ensures.alone, ready-map g.T.QkStarts.blank g.T.QkStarts.alone laws.blank_alone _ blank)
 
 pub returns-clause-started : goal.returns-clause-started
 returns-clause-started g c said =
-    let laws = (g.met.T.QkStarts g.world.𝓛 g.world.𝓜 g.world.𝓡 ((λ s x. x), (λ x. x), (λ x. x), λ x. x)) in
+    let laws = g.met.T.QkStarts in
     let parts = c.in-Some.ensures.cases in
     let blank = rw parts.0 at c.requires.blank in
     (c.start.ensures.started said, ready-map g.T.QkStarts.blank g.T.QkStarts.started laws.blank_started _ blank)

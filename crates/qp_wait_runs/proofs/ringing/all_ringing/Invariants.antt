@@ -4,6 +4,7 @@ use Rattle.std.specs.Vec.Iter.{into_iter_items, into_iter_len}
 use Rattle.qp_port_runs.specs.Handed.{lane_view}
 use Rattle.qp_wait.specs.Handed.{bell_view}
 use Rattle.qp_wait.specs.Handed.{IsRootOf}
+use Rattle.qp_wait_runs.specs.Places.{ParkInPlaces}
 use Rattle.qp_wait_runs.proofs.ringing.all_ringing.Given as goal
 
 abbrev pub invariant-loop-lane : goal.invariant-loop-lane
@@ -14,3 +15,4 @@ invariant-loop-lane l =
     × IsRootOf l.bells l.root
     × AllByRecursion (λ x. (lane_view x).sys ≡ l.sys) (into_iter_items l.lane-iterator)
     × AllByRecursion (λ x. (lane_view x).told ≡ []) (into_iter_items l.lane-iterator)
+    × ParkInPlaces l.sys.objects 0 l.ringing.items

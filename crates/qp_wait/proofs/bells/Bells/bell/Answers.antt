@@ -14,3 +14,6 @@ returns-clause-hangs c =
       farewells = cords.parkers;
       perch = subst (λ ws. IfSome c.perch_of-perch.result (IsPerchAt ws)) c.as_slice.ensures.value c.perch_of-perch.ensures.parker;
     }
+
+pub returns-clause-parks : goal.returns-clause-parks
+returns-clause-parks c = c.perch_of-perch.ensures.object

@@ -1,5 +1,5 @@
 use Rattle.std.proofs.Common.{length}
-use Rattle.qp_port_phases.proofs.phases.+are_empty.Given as goal
+use Rattle.qp_port_phases.proofs.looking.+are_empty.Given as goal
 
 abbrev pub decreases-are_empty : goal.decreases-are_empty
 decreases-are_empty g l = length l.objects.now
