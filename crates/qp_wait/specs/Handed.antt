@@ -4,8 +4,3 @@ pub use Rattle.qp_wait.specs.Lane.{BeginsAt, IsAway, OpensFor, SaysOne, bell_vie
 pub use Rattle.qp_wait.specs.Parked.{HasParked}
 pub use Rattle.qp_wait.specs.Rooted.{AreBellsOf, IsRootOf}
 pub use Rattle.qp_wait.specs.Ropes.{AreRopes, IsRopeOf}
-pub use Rattle.qp_wait.specs.declared.bells.Bells.{Bells}
-pub use Rattle.qp_wait.specs.declared.bells.BellRoot.{BellRoot}
-pub use Rattle.qp_wait.specs.declared.hanging.Rope.{Rope}
-pub use Rattle.qp_wait.specs.declared.hanging.Waking.{Waking}
-pub use Rattle.qp_wait.specs.declared.lane.BellLane.{BellLane}
