@@ -1,4 +1,4 @@
--- No source acts, and no object takes, before all objects have started.
+-- Starts come first on each word on which a start drew a number: nothing that a lane draws or shows there behind its own starts stands before it.
 use Rattle.std.specs.Prelude.{◌≡◌, ◌⊎◌, ℕ, zero, suc, ◌≤◌, ◌==◌, nat_lt, List, [], ◌∷◌, length, if◌then◌else◌}
 use Rattle.std.specs.List.{AllByRecursion, filter_map}
 use Rattle.std.specs.declared.option.Option.{Option}
