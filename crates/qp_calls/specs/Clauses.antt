@@ -344,10 +344,10 @@ draws_ticked ticked.Fired = 1
 abbrev pub Stops : ℕ → LaneView → LaneView → Type 0
 Stops code old new = new ≡ record old { stops = code ∷ old.stops }
 
--- the code found, which is the one found before; nothing was found before and nothing handed in where none is found, by no lane of the world
+-- The lane has asked once more. The code found, which is the one found before; nothing was found before and nothing handed in where none is found, by no lane of the world
 abbrev pub Stopped : LaneView → LaneView → Option ℕ → Type 0
 Stopped old new None =
-    (new ≡ old) × (old.stops ≡ []) × (old.answered ≡ []) × IsTrue (list_all is_codeless old.aside.purses)
+    (new ≡ record old { asked = suc old.asked }) × (old.stops ≡ []) × (old.answered ≡ []) × IsTrue (list_all is_codeless old.aside.purses)
 Stopped old new (Some code) =
-    (new ≡ record old { answered = code ∷ old.answered }) × (0 < code) × (code ≤ 7)
+    (new ≡ record old { answered = code ∷ old.answered; asked = suc old.asked }) × (0 < code) × (code ≤ 7)
     × IsTrue (list_all (λ c. c == code) old.answered)

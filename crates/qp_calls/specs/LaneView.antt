@@ -45,6 +45,11 @@ abbrev pub no_code : List ℕ → Bool
 no_code [] = true
 no_code (c ∷ cs) = false
 
+-- the codes among answers, of which 0 tells of none
+abbrev pub codes_in : List ℕ → List ℕ
+codes_in [] = []
+codes_in (c ∷ cs) = if c == 0 then codes_in cs else c ∷ codes_in cs
+
 -- the lane neither handed in a code nor found one
 abbrev pub is_codeless : Purse → Bool
 is_codeless p = no_code p.stops && no_code p.answered
@@ -68,6 +73,8 @@ pub record LaneView : Type 0 where
   -- the codes handed to `stop`, and those that `stopped` answered
   pub stops : List ℕ
   pub answered : List ℕ
+  -- how often the lane asked whether the run stops
+  pub asked : ℕ
   -- the most operations of a word that the lane knows of, and what the word showed after them
   pub mark : Word → ℕ
   pub shown : Word → Shown
@@ -98,6 +105,7 @@ pub record IsNew (v : LaneView) : Type 0 where
   pub by : v.by ≡ 0
   pub stops : v.stops ≡ []
   pub answered : v.answered ≡ []
+  pub asked : v.asked ≡ 0
   pub mark : (w : Word) → v.mark w ≡ 0
   pub shown : (w : Word) → v.shown w ≡ first_shown v.sys w
   pub own : (a : ℕ) → v.own a ≡ record { l = 0; m = 0 }
@@ -172,6 +180,7 @@ pub record Gains (ts : List ToldItem) (old new : LaneView) : Type 0 where
   pub serves : (o : ℕ) → new.serves o ≡ old.serves o
   pub stops : new.stops ≡ old.stops
   pub answered : new.answered ≡ old.answered
+  pub asked : new.asked ≡ old.asked
   pub mark : (w : Word) → new.mark w ≡ mark_after w (old.mark w) ts
   pub rise : (w : Word) → old.mark w ≤ new.mark w
   pub between : (w : Word) → AreBetween w (old.mark w) (new.mark w) ts
@@ -219,6 +228,7 @@ pub record Looks (w : Word) (n : ℕ) (x : Shown) (old new : LaneView) : Type 0 
   pub serves : (o : ℕ) → new.serves o ≡ old.serves o
   pub stops : new.stops ≡ old.stops
   pub answered : new.answered ≡ old.answered
+  pub asked : new.asked ≡ old.asked
   pub here : new.mark w ≡ n
   pub rise : old.mark w ≤ n
   pub mark : (v : Word) → same_word w v ≡ false → new.mark v ≡ old.mark v

@@ -58,6 +58,7 @@ may-run sys stimuli n plain w xs new is made fit =
           by = v.by;
           stops = v.stops;
           answered = v.answered;
+          asked = v.asked;
           mark = v.mark;
           shown = v.shown;
           own = v.own;

@@ -12,6 +12,7 @@ use Rattle.qp_calls.specs.Notes.{stop_code}
 use Rattle.qp_plain_sound.specs.View.{view_of}
 use Rattle.qp_plain_sound.proofs.EntryCounts.{entered-counts, left-counts}
 use Rattle.qp_calls_log.specs.declared.log.Log.{Log}
+use Rattle.qp_calls.specs.LaneView.{codes_in}
 use Rattle.qp_plain.specs.declared.world.PlainWorld.{PlainWorld}
 use Rattle.qp_plain.specs.Book.{lists_of, logs_of}
 use Rattle.qp_plain.specs.Books.{log_recs}
@@ -64,10 +65,10 @@ all-same p c (x ∷ xs) here h =
     let same : x ≡ c = grind (arith, nat_tests) in
     and_from _ _ (subst (λ y. p y ≡ true) (sym same) here) (all-same p c xs here parts.1)
 
-found-caused : (w : PlainWorld) → list_all (λ code. has_cause (lists_of w.book) code) w.book.here.answered.list ≡ true
+found-caused : (w : PlainWorld) → list_all (λ code. has_cause (lists_of w.book) code) (codes_in w.book.here.answered.list) ≡ true
 found-caused w = go (w.stop == 0) refl
   where
-    go : (u : Bool) → (w.stop == 0) ≡ u → list_all (λ code. has_cause (lists_of w.book) code) w.book.here.answered.list ≡ true
+    go : (u : Bool) → (w.stop == 0) ≡ u → list_all (λ code. has_cause (lists_of w.book) code) (codes_in w.book.here.answered.list) ≡ true
     go true e =
         let none : w.stop ≡ 0 = grind (arith, nat_tests) in
         let empty = nothing-handed w.book w.book.within (subst (λ x. StopIs x (logs_of w.book)) none w.stops) in
@@ -75,7 +76,7 @@ found-caused w = go (w.stop == 0) refl
     go false e =
         let some : w.stop ≢ 0 = λ k. let wrong : (w.stop == 0) ≡ true = grind (arith, nat_tests) in absurd (cc) in
         let handed : list_any (was_handed w.stop) (logs_of w.book) ≡ true = subst (λ u. (u || list_any (was_handed w.stop) (logs_of w.book)) ≡ true) e w.stops.handed in
-        all-same (has_cause (lists_of w.book)) w.stop w.book.here.answered.list (any-caused w.stop (logs_of w.book) handed) (all-answered w.stop w.book some w.book.within w.stops)
+        all-same (has_cause (lists_of w.book)) w.stop (codes_in w.book.here.answered.list) (any-caused w.stop (logs_of w.book) handed) (all-answered w.stop w.book some w.book.within w.stops)
 
 module _ (s : SimWorld) where
   at : s.plain.book.at ≡ 0

@@ -16,7 +16,8 @@ use Rattle.qp_calls.specs.Clauses.{Stopped}
 use Rattle.qp_plain_sound.specs.View.{view_of}
 use Rattle.qp_model_order.specs.SourceRun.{untold_all}
 use Rattle.qp_kernel.specs.Happenings.{run_order, order_of, told_by, has_no_stim}
-use Rattle.qp_kernel.specs.Interrupting.{IsLaneKept, Acts, Happens, HappensToFail, HappensInPart, FindsNoRoom, HasNone, IsStopped, is_unset}
+use Rattle.qp_kernel.specs.Interrupting.{IsLaneKept, IsUntouched, Acts, Happens, HappensToFail, HappensInPart, FindsNoRoom, HasNone, IsStopped, is_unset}
+use Rattle.qp_kernel_turns.specs.Halting.{asked_once}
 use Rattle.qp_calls_log.specs.declared.log.Log.{Log}
 use Rattle.qp_plain.specs.declared.world.PlainWorld.{PlainWorld}
 use Rattle.qp_plain.specs.Book.{logs_of, purse_of, no_purse}
@@ -56,8 +57,8 @@ seated-kept plan hs more v w k = record {
   plan = refl;
 }
 
-pub kept-answered : (v w : LaneView) (codes : List ℕ) → IsLaneKept v w → IsLaneKept v (record w { answered = codes })
-kept-answered v w codes k = record {
+pub kept-answered : (v w : LaneView) (codes : List ℕ) (asked : ℕ) → IsLaneKept v w → IsLaneKept v (record w { answered = codes; asked = asked })
+kept-answered v w codes asked k = record {
   world = k.world;
   lane = k.lane;
   log = k.log;
@@ -73,6 +74,81 @@ kept-answered v w codes k = record {
   event = k.event;
   plan = k.plan;
 }
+
+-- Behind a question that found no code all goes as before it.
+pub kept-once : (v w : LaneView) → IsLaneKept (asked_once v) w → IsLaneKept v w
+unfolding is_known
+kept-once v w k = record {
+  world = k.world;
+  lane = k.lane;
+  log = k.log;
+  sys = k.sys;
+  told = k.told;
+  spare = k.spare;
+  by = k.by;
+  serves = k.serves;
+  rise = k.rise;
+  shown = k.shown;
+  stops = k.stops;
+  own = k.own;
+  event = λ e known. k.event e known;
+  plan = k.plan;
+}
+
+untouched-once : (v w : LaneView) → IsUntouched (asked_once v) w → IsUntouched v w
+untouched-once v w u = record { kept = kept-once v w u.kept; answered = u.answered; hands = u.hands }
+
+acts-once : (v : LaneView) (base : Bool) (source place : ℕ) (s : Stim) → Acts (asked_once v) base source place s → Acts v base source place s
+acts-once v base source place s a = record { some = a.some; few = a.few; counted = a.counted; left = a.left; its = a.its; next = a.next }
+
+pub none-once : (base : Bool) (v w : LaneView) → HasNone true base (asked_once v) w → HasNone true base v w
+none-once base v w h = record { untouched = untouched-once v w h.untouched; happened = h.happened; none = h.none }
+
+pub happens-once : (look : ℕ) (base : Bool) (v w : LaneView) → Happens look base (asked_once v) w → Happens look base v w
+happens-once look base v w h = record {
+  untouched = untouched-once v w h.untouched;
+  source = h.source;
+  place = h.place;
+  s = h.s;
+  one = h.one;
+  acts = acts-once v base h.source h.place h.s h.acts;
+  fits = h.fits;
+  comes = h.comes;
+}
+
+pub stopped-once : (look : ℕ) (base : Bool) (v w : LaneView) → IsStopped look base (asked_once v) w → IsStopped look base v w
+stopped-once look base v w h = record { kept = kept-once v w h.kept; code = h.code; answered = h.answered; why = by h.why }
+  where
+    by : ((w.happened ≡ v.happened) × (is_unset v ≡ false)) ⊎ HappensToFail look base (asked_once v) w ⊎ HappensInPart look base (asked_once v) w ⊎ FindsNoRoom base (asked_once v) w
+        → ((w.happened ≡ v.happened) × (is_unset v ≡ false)) ⊎ HappensToFail look base v w ⊎ HappensInPart look base v w ⊎ FindsNoRoom base v w
+    by (inl still) = inl still
+    by (inr (inl f)) =
+        inr (inl (record { source = f.source; place = f.place; s = f.s; one = f.one; acts = acts-once v base f.source f.place f.s f.acts; fits = f.fits; comes = f.comes }))
+    by (inr (inr (inl f))) = inr (inr (inl (record {
+      source = f.source;
+      place = f.place;
+      s = f.s;
+      one = f.one;
+      back = f.back;
+      asserted = f.asserted;
+      size = f.size;
+      acts = acts-once v base f.source f.place f.s f.acts;
+      some = f.some;
+      fits = f.fits;
+      states = f.states;
+      full = f.full;
+      comes = f.comes;
+    })))
+    by (inr (inr (inr f))) = inr (inr (inr (record {
+      source = f.source;
+      place = f.place;
+      s = f.s;
+      size = f.size;
+      acts = acts-once v base f.source f.place f.s f.acts;
+      states = f.states;
+      full = f.full;
+      comes = f.comes;
+    })))
 
 pub kept-same : (v : LaneView) → IsLaneKept v v
 kept-same v = record {
@@ -128,7 +204,7 @@ code-handed w code codes found bare = by (w.stop == 0) refl
         none-handed w.stop (logs_of w.book) (all-put_back (λ p. no_code p.stops) (purses w) (chosen w) no_purse no_purse others here) handed
 
 -- Whether a code was found.
-pub none-found : (v w : LaneView) (r : Option ℕ) → Stopped v w r → is_some r ≡ false → (w ≡ v) × (list_all is_codeless v.aside.purses ≡ true)
+pub none-found : (v w : LaneView) (r : Option ℕ) → Stopped v w r → is_some r ≡ false → (w ≡ asked_once v) × (list_all is_codeless v.aside.purses ≡ true)
 none-found v w None h e = (h.0, h.3)
 none-found v w (Some code) h e = absurd (cc)
 
@@ -138,7 +214,7 @@ some-found v w (Some code) h e = (code, h)
 
 -- A code is found, before any source acts.
 module _ (plan : List (List Stim)) (hs : List Happening) (w p : PlainWorld) (code : ℕ) (found : Stopped (world_view w) (world_view p) (Some code)) where
-  now : world_view p ≡ record (world_view w) { answered = code ∷ (world_view w).answered }
+  now : world_view p ≡ record (world_view w) { answered = code ∷ (world_view w).answered; asked = suc (world_view w).asked }
   now = found.0
 
   unset : (u x y z : Bool) → ((u && y) ≡ true → ⊥) → ((u && x) && y) ≡ z → z ≡ false
@@ -150,7 +226,7 @@ module _ (plan : List (List Stim)) (hs : List Happening) (w p : PlainWorld) (cod
 
   pub stopped-first : (look : ℕ) (base : Bool) → IsStopped look base (seated plan hs (world_view w)) (seated plan hs (world_view p))
   stopped-first look base = record {
-    kept = subst (λ v. IsLaneKept (seated plan hs (world_view w)) (seated plan hs v)) (sym now) (kept-answered (seated plan hs (world_view w)) (seated plan hs (world_view w)) (code ∷ (world_view w).answered) (kept-same (seated plan hs (world_view w))));
+    kept = subst (λ v. IsLaneKept (seated plan hs (world_view w)) (seated plan hs v)) (sym now) (kept-answered (seated plan hs (world_view w)) (seated plan hs (world_view w)) (code ∷ (world_view w).answered) (suc (world_view w).asked) (kept-same (seated plan hs (world_view w))));
     code = code;
     answered = ap (λ v. v.answered) now;
     why = inl (
@@ -281,7 +357,7 @@ module _ (w : SimWorld) (sys : System) (made : (world_view w.plain).sys ≡ sys)
       pub stopped-acted : (r : Option ℕ) → Stopped (world_view new.plain) (world_view p) r → Amount stimulated.Stopped → IsStopped look base v u
       stopped-acted None found k = let wrong : false ≡ true = sym k.0 ∙ found.3 in absurd (cc)
       stopped-acted (Some code) found k = record {
-        kept = subst (λ x. IsLaneKept v (seated new.stim.now new.done.list x)) (sym found.0) (kept-answered v (sim_view new) (code ∷ (world_view new.plain).answered) lane_kept);
+        kept = subst (λ x. IsLaneKept v (seated new.stim.now new.done.list x)) (sym found.0) (kept-answered v (sim_view new) (code ∷ (world_view new.plain).answered) (suc (world_view new.plain).asked) lane_kept);
         code = code;
         answered = ap (λ x. x.answered) found.0 ∙ ap (λ l. code ∷ l) acted.leaves.answered;
         why = why-acted k.1;

@@ -48,6 +48,7 @@ module _ (plan : List (List Stim)) (hs : List Happening) (v w : LaneView) where
     serves = g.serves;
     stops = g.stops;
     answered = g.answered;
+    asked = g.asked;
     mark = g.mark;
     rise = g.rise;
     between = g.between;
@@ -76,6 +77,7 @@ module _ (plan : List (List Stim)) (hs : List Happening) (v w : LaneView) where
     serves = l.serves;
     stops = l.stops;
     answered = l.answered;
+    asked = l.asked;
     here = l.here;
     rise = l.rise;
     mark = l.mark;

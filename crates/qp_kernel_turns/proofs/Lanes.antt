@@ -1,5 +1,5 @@
 -- The kernel's lane through calls and parts of a turn.
-use Rattle.std.proofs.Common.{◌≡◌, ℕ, ◌<◌, Bool, true, false, List, [], ◌∷◌, ◌++◌, map, length, refl, sym, ◌∙◌, ap, subst, inl, inr, Option, Some, None, arith, append_assoc, append-nil}
+use Rattle.std.proofs.Common.{◌≡◌, ℕ, suc, ◌<◌, Bool, true, false, List, [], ◌∷◌, ◌++◌, map, length, refl, sym, ◌∙◌, ap, subst, inl, inr, Option, Some, None, arith, append_assoc, append-nil}
 use Rattle.qp_chart.specs.declared.checked.Chart.{Chart}
 use Rattle.qp_model.specs.declared.systems.System.{System}
 use Rattle.qp_model.specs.Course.{chart_at}
@@ -12,7 +12,7 @@ use Rattle.qp_calls.specs.declared.tokens.HeldEntry.{HeldEntry}
 use Rattle.qp_calls.specs.Clauses.{Sees, Stops, TakesIt}
 use Rattle.qp_calls.specs.LaneView.{Advances, Gains, Grows, GrowsOf, LaneView, Roomier, placed_by}
 use Rattle.qp_calls.specs.Notes.{last_code, told_note}
-use Rattle.qp_calls.proofs.Advancing.{advances-gains, advances-still, advances-then}
+use Rattle.qp_calls.proofs.Advancing.{advances-gains, advances-none, advances-still, advances-then}
 use Rattle.qp_calls.proofs.Growing.{gains-none, room-then}
 use Rattle.qp_calls.proofs.NoteLemmas.{last-snoc}
 use Rattle.qp_dispatch.specs.declared.steps.Step.{Step}
@@ -23,7 +23,7 @@ use Rattle.qp_kernel.specs.Turning.{seen_told, spill_told}
 use Rattle.qp_kernel_turns.specs.declared.halting.Halt.{Halt}
 use Rattle.qp_kernel_turns.specs.declared.halting.Halt.TheVariants as halt
 use Rattle.qp_kernel_turns.specs.declared.objects.Objects.{Objects}
-use Rattle.qp_kernel_turns.specs.Halting.{TurnHalts}
+use Rattle.qp_kernel_turns.specs.Halting.{TurnHalts, asked_once}
 use Rattle.qp_kernel_turns.specs.Lanes.{HandsIn, KeepsLane, LaneGoes, LaneHalts, LaneStarts}
 use Rattle.qp_kernel_turns.specs.Objects.{ResumesAt}
 use Rattle.qp_kernel_turns.specs.Starting.{StartsAll}
@@ -106,9 +106,26 @@ gains-goes acts ts v w g = record {
 pub goes-none : (acts : Bool) (v : LaneView) → LaneGoes acts v v
 goes-none acts v = gains-goes acts [] v v (gains-none v)
 
--- the codes that a lane handed in and found are no part of what is kept
-pub keeps-codes : (acts : Bool) (v m : LaneView) (stops answered : List ℕ) → KeepsLane acts v m → KeepsLane acts v (record m { stops = stops; answered = answered })
-keeps-codes acts v m stops answered k = record {
+-- a question in vain is no matter of the records
+pub goes-once : (acts : Bool) (v : LaneView) → LaneGoes acts v (asked_once v)
+goes-once acts v = record {
+  keeps = record {
+    same = record { sys = refl; lane = refl; world = refl; plan = refl; happened = refl; serves = λ o. refl; advances = advances-none v };
+    still = λ apart. refl;
+    told = ([], sym (append-nil v.told));
+    log = ([], sym (append-nil v.log));
+  };
+  stops = refl;
+  answered = refl;
+}
+
+-- and records behind it
+pub asked-goes : (acts : Bool) (ts : List ToldItem) (v w : LaneView) → Gains ts (asked_once v) w → LaneGoes acts v w
+asked-goes acts ts v w g = goes-then acts v (asked_once v) w (goes-once acts v) (gains-goes acts ts (asked_once v) w g)
+
+-- the codes that a lane handed in and found, and its questions, are no part of what is kept
+pub keeps-codes : (acts : Bool) (v m : LaneView) (stops answered : List ℕ) (asked : ℕ) → KeepsLane acts v m → KeepsLane acts v (record m { stops = stops; answered = answered; asked = asked })
+keeps-codes acts v m stops answered asked k = record {
   same = record { sys = k.same.sys; lane = k.same.lane; world = k.same.world; plan = k.same.plan; happened = refl; serves = k.same.serves; advances = k.same.advances };
   still = k.still;
   told = k.told;
@@ -116,7 +133,7 @@ keeps-codes acts v m stops answered k = record {
 }
 
 pub keeps-stops : (acts : Bool) (code : ℕ) (v m w : LaneView) → KeepsLane acts v m → Stops code m w → KeepsLane acts v w
-keeps-stops acts code v m w k stops = subst (KeepsLane acts v) (sym stops) (keeps-codes acts v m (code ∷ m.stops) m.answered k)
+keeps-stops acts code v m w k stops = subst (KeepsLane acts v) (sym stops) (keeps-codes acts v m (code ∷ m.stops) m.answered m.asked k)
 
 -- the lane hands in the code of its last record
 pub stops-code : (acts : Bool) (code : ℕ) (v m w : LaneView) → LaneGoes acts v m → 0 < code → last_code m.told ≡ code → Stops code m w → LaneHalts acts v w halt.Stopped
@@ -138,9 +155,9 @@ stops-memory acts v m w goes stops = record {
 }
 
 -- it finds the stop word set
-pub finds-stop : (acts : Bool) (code : ℕ) (v m w : LaneView) → LaneGoes acts v m → w ≡ record m { answered = code ∷ m.answered } → LaneHalts acts v w halt.Stopped
+pub finds-stop : (acts : Bool) (code : ℕ) (v m w : LaneView) → LaneGoes acts v m → w ≡ record m { answered = code ∷ m.answered; asked = suc m.asked } → LaneHalts acts v w halt.Stopped
 finds-stop acts code v m w goes is = record {
-  keeps = subst (KeepsLane acts v) (sym is) (keeps-codes acts v m m.stops (code ∷ m.answered) goes.keeps);
+  keeps = subst (KeepsLane acts v) (sym is) (keeps-codes acts v m m.stops (code ∷ m.answered) (suc m.asked) goes.keeps);
   handed = inr (record {
     found = rw (is, goes.answered) (omega arith);
     stops = ap (λ u. u.stops) is ∙ goes.stops;
@@ -152,10 +169,10 @@ spill-code ts n = last-snoc ts (spill_told n)
 
 -- what `ready` says where the run doesn't go on
 pub halts-lane : (acts : Bool) (v w : LaneView) (h : Halt) → TurnHalts v w h → LaneHalts acts v w h
-halts-lane acts v w halt.Memory h = stops-memory acts v v w (goes-none acts v) h.stops
+halts-lane acts v w halt.Memory h = stops-memory acts v (asked_once v) w (goes-once acts v) h.stops
 halts-lane acts v w halt.Stopped (inl h) = finds-stop acts h.code v v w (goes-none acts v) h.answered
 halts-lane acts v w halt.Stopped (inr h) =
-    stops-code acts 6 v h.full w (gains-goes acts (spill_told (length v.told) ∷ []) v h.full h.spills) (omega arith)
+    stops-code acts 6 v h.full w (asked-goes acts (spill_told (length v.told) ∷ []) v h.full h.spills) (omega arith)
     (ap last_code h.spills.told ∙ spill-code v.told (length v.told)) h.stops
 
 -- a look in which nothing happened
@@ -195,9 +212,9 @@ memory-halts acts u v m w acting goes kept stops = record {
 }
 
 -- A visit.
-module _ (acts : Bool) (p : ℕ) (c : Counts) (v v1 v2 : LaneView) (room : Roomier v v1) (sees : Sees p v1 v2 c) where
+module _ (acts : Bool) (p : ℕ) (c : Counts) (v v1 v2 : LaneView) (room : Roomier (asked_once v) v1) (sees : Sees p v1 v2 c) where
   pub seen-lane : LaneGoes acts v v2
-  seen-lane = gains-goes acts (seen_told p c.f c.l c.m ∷ []) v v2 (room-then (seen_told p c.f c.l c.m ∷ []) v v1 v2 room sees.0.grows)
+  seen-lane = asked-goes acts (seen_told p c.f c.l c.m ∷ []) v v2 (room-then (seen_told p c.f c.l c.m ∷ []) (asked_once v) v1 v2 room sees.0.grows)
 
   pub spent-lane : (r : Rec) (v3 v4 : LaneView) → item_of r ≡ record { of = p; body = body.Spent } → GrowsOf r.of (told_note r v2) v2 v3 → Stops 6 v3 v4 → LaneHalts acts v v4 halt.Stopped
   spent-lane r v3 v4 is grown stops =
@@ -205,8 +222,8 @@ module _ (acts : Bool) (p : ℕ) (c : Counts) (v v1 v2 : LaneView) (room : Roomi
       stops-code acts 6 v v3 v4 (goes-then acts v v2 v3 seen-lane (gains-goes acts (for_object p (plain body.Spent) ∷ []) v2 v3 spent)) (omega arith)
       (ap last_code spent.told ∙ last-snoc v2.told (for_object p (plain body.Spent))) stops
 
-  pub took-lane : (e : HeldEntry) (v3 v4 : LaneView) → v3 ≡ v2 → TakesIt p e v3 v4 → LaneGoes acts v v4
-  took-lane e v3 v4 still takes = goes-then acts v v3 v4 (subst (LaneGoes acts v) (sym still) seen-lane) (gains-goes acts _ v3 v4 takes.adds.grows)
+  pub took-lane : (e : HeldEntry) (v3 v4 : LaneView) → v3 ≡ asked_once v2 → TakesIt p e v3 v4 → LaneGoes acts v v4
+  took-lane e v3 v4 still takes = goes-then acts v v3 v4 (subst (LaneGoes acts v) (sym still) (goes-then acts v v2 (asked_once v2) seen-lane (goes-once acts v2))) (gains-goes acts _ v3 v4 takes.adds.grows)
 
 -- The step of an object, and starts.
 

@@ -20,6 +20,7 @@ use Rattle.qp_model_order.specs.RunOrder.{placed}
 use Rattle.qp_model_order.specs.SourceRun.{untold, untold_all}
 use Rattle.qp_calls.specs.Clauses.{Sees, Stops, TakesIt}
 use Rattle.qp_calls.specs.declared.tokens.HeldEntry.{HeldEntry}
+use Rattle.qp_calls.specs.Halting.{HaltsDry, HaltsFull}
 use Rattle.qp_calls.specs.Notes.{told_note}
 use Rattle.qp_calls.proofs.Growing.{room-then}
 use Rattle.qp_calls.specs.declared.answers.Counts as counts
@@ -31,7 +32,7 @@ use Rattle.qp_kernel.proofs.HappeningLemmas.{IsIdleRecord, acts-more, order-more
 use Rattle.qp_kernel.proofs.OrderGrowth.{in_order-grows, in_order-happens, in_order-looks, order-ends, order-halts, order-stops, within}
 use Rattle.qp_kernel_turns.specs.declared.halting.Halt.{Halt}
 use Rattle.qp_kernel_turns.specs.declared.halting.Halt.TheVariants as halt
-use Rattle.qp_kernel_turns.specs.Halting.{TurnHalts}
+use Rattle.qp_kernel_turns.specs.Halting.{GivesUp, IsReadied, TurnHalts, asked_once}
 use Rattle.qp_kernel_turns.specs.Ordering.{AreSeenEmpty, HaltsInOrder, InOrder, IsSeenEmpty, LookedInOrder, NoneActs, PassedInOrder, StopsInOrder}
 use Rattle.qp_kernel_turns.specs.Pending.{PendingStays}
 use Rattle.qp_kernel_turns.specs.declared.objects.Objects.{Objects}
@@ -65,6 +66,17 @@ unstim-items p (t ∷ g) h = by (is_some (stim_of t.body)) h (λ k. unstim-items
 pub unstim-grows : (ts : List ToldItem) (v w : LaneView) → Gains ts v w → HasNoStim ts → has_no_stim v → has_no_stim w
 unstim-grows ts v w gains none h = rw gains.told (none-append v.told ts h none)
 
+-- A question in vain.
+
+pub order-once : (sys : System) (looks : ℕ) (v : LaneView) → IsInOrder sys looks v → IsInOrder sys looks (asked_once v)
+order-once sys looks v h = record { order = h.order; sources = h.sources; rises = h.rises }
+
+pub in_order-once : (acts : Bool) (sys : System) (looks : ℕ) (v : LaneView) → InOrder acts sys looks v → InOrder acts sys looks (asked_once v)
+in_order-once acts sys looks v h = record { order = λ acting. order-once sys looks v (h.order acting); no_stim = h.no_stim }
+
+pub empty-once : (p : ℕ) (v : LaneView) → IsSeenEmpty p v → IsSeenEmpty p (asked_once v)
+empty-once p v h = record { f = h.f; l = h.l; m = h.m; says = h.says; none = h.none; mark = h.mark; own = h.own }
+
 -- Records that go on, and records that end the run.
 
 pub grows-in_order : (acts : Bool) (sys : System) (looks : ℕ) (ts : List ToldItem) (v w : LaneView) → Gains ts v w → LooksNone (untold_all ts) → list_any (λ i. is_end i.body) (untold_all ts) ≡ false → HasNoStim ts
@@ -83,7 +95,7 @@ ends-in_order acts sys looks code ts v u w gains stops none last h = record {
 }
 
 -- the stop word was found set
-pub found-in_order : (acts : Bool) (sys : System) (looks code : ℕ) (v w : LaneView) → w ≡ record v { answered = code ∷ v.answered } → InOrder acts sys looks v → StopsInOrder acts sys v w
+pub found-in_order : (acts : Bool) (sys : System) (looks code : ℕ) (v w : LaneView) → w ≡ record v { answered = code ∷ v.answered; asked = suc v.asked } → InOrder acts sys looks v → StopsInOrder acts sys v w
 found-in_order acts sys looks code v w is h = record {
   of = ap (λ x. x.sys) is;
   plan = ap (λ x. x.plan) is;
@@ -93,7 +105,10 @@ found-in_order acts sys looks code v w is h = record {
 pub halts-in_order : (acts : Bool) (sys : System) (looks : ℕ) (v w : LaneView) (h : Halt) → TurnHalts v w h → InOrder acts sys looks v → HaltsInOrder acts sys v w h
 halts-in_order acts sys looks v w halt.Memory h order = tt
 halts-in_order acts sys looks v w halt.Stopped (inl h) order = found-in_order acts sys looks h.code v w h.answered order
-halts-in_order acts sys looks v w halt.Stopped (inr h) order = ends-in_order acts sys looks 6 _ v h.full w h.spills h.stops (refl, tt) (spill-last _) order.order
+halts-in_order acts sys looks v w halt.Stopped (inr h) order =
+    let once = in_order-once acts sys looks v order in
+    let ended = ends-in_order acts sys looks 6 _ (asked_once v) h.full w h.spills h.stops (refl, tt) (spill-last _) once.order in
+    record { of = ended.of; plan = ended.plan; order = ended.order }
 
 -- it ran on before
 pub halts-behind : (acts : Bool) (sys : System) (u v w : LaneView) (h : Halt) → v.sys ≡ u.sys → v.plan ≡ u.plan → HaltsInOrder acts sys v w h → HaltsInOrder acts sys u w h
@@ -101,6 +116,22 @@ halts-behind acts sys u v w halt.Memory of plan h = tt
 halts-behind acts sys u v w halt.Stopped of plan h = record { of = h.of ∙ of; plan = h.plan ∙ plan; order = h.order }
 
 -- A look.
+
+-- nothing was handed in, and nothing found
+pub unset-by : (v : LaneView) → v.stops ≡ [] → v.answered ≡ [] → list_all is_codeless v.aside.purses ≡ true → is_unset v ≡ true
+unset-by v stops answered none =
+    ap (λ a. no_code a && no_code v.answered && list_all is_codeless v.aside.purses) stops
+    ∙ ap (λ a. no_code [] && no_code a && list_all is_codeless v.aside.purses) answered
+    ∙ none
+
+-- so `ready` finds it, and has made room,
+pub readied : (v m w : LaneView) → m ≡ asked_once v → v.stops ≡ [] → v.answered ≡ [] → list_all is_codeless v.aside.purses ≡ true → Roomier m w → 8 ≤ w.spare → IsReadied v w
+readied v m w is stops answered none room spare = record { unset = unset-by v stops answered none; roomier = subst (λ u. Roomier u w) is room; spare = spare }
+
+-- or there is none
+pub gives-up : (v m r w : LaneView) (h : Halt) → m ≡ asked_once v → r ≡ m → GivesUp r w h → TurnHalts v w h
+gives-up v m r w halt.Stopped is same h = inr (subst (λ u. HaltsFull u w) (same ∙ is) h)
+gives-up v m r w halt.Memory is same h = subst (λ u. HaltsDry u w) (same ∙ is) h
 
 -- the stop word was asked in vain, and records have come
 pub unset-still : (ts : List ToldItem) (v w : LaneView) → Gains ts v w → is_unset v ≡ true → is_unset w ≡ true
@@ -239,22 +270,23 @@ unfolding ends_last
 one-last t = refl
 
 -- A queue is seen, and what comes then.
-module _ (acts : Bool) (sys : System) (looks p : ℕ) (c : counts.Counts) (v v1 v2 : LaneView) (room : Roomier v v1) (sees : Sees p v1 v2 c) (h : InOrder acts sys looks v) where
-  gains-seen : Gains (seen_told p c.f c.l c.m ∷ []) v v2
-  gains-seen = room-then (seen_told p c.f c.l c.m ∷ []) v v1 v2 room sees.0.grows
+module _ (acts : Bool) (sys : System) (looks p : ℕ) (c : counts.Counts) (v v1 v2 : LaneView) (room : Roomier (asked_once v) v1) (sees : Sees p v1 v2 c) (h : InOrder acts sys looks v) where
+  gains-seen : Gains (seen_told p c.f c.l c.m ∷ []) (asked_once v) v2
+  gains-seen = room-then (seen_told p c.f c.l c.m ∷ []) (asked_once v) v1 v2 room sees.0.grows
 
   seen-in_order : InOrder acts sys looks v2
-  seen-in_order = grows-in_order acts sys looks (seen_told p c.f c.l c.m ∷ []) v v2 gains-seen (refl, tt) refl refl h
+  seen-in_order = grows-in_order acts sys looks (seen_told p c.f c.l c.m ∷ []) (asked_once v) v2 gains-seen (refl, tt) refl refl (in_order-once acts sys looks v h)
 
   -- it is empty
   pub passed-in_order : (floor place : ℕ) (o : ObjectDef) (a : Stand) → o.priority ≡ p → slice_get sys.objects place ≡ Some o → IsTrue (v2.serves o.priority) → c.f + c.l ≤ c.m → a.looks ≡ looks → a.lane ≡ v → AreSeenEmpty sys floor (place + 1) v
       → PassedInOrder acts sys floor place a (record a { lane = v2 })
   passed-in_order floor place o a is at served few count lane seen = record {
     order = subst (λ k. InOrder acts sys k v2) (sym count) seen-in_order;
-    none = λ base acting none. none-seen acts sys looks p c.f c.l c.m v v2 gains-seen h base acting (subst (NoneActs base sys) lane none);
+    none = λ base acting none. none-seen acts sys looks p c.f c.l c.m (asked_once v) v2 gains-seen (in_order-once acts sys looks v h) base acting (subst (NoneActs base sys) lane none);
     empty =
-        seen-more sys floor place o c v v1 v2 at (subst (λ q. Gains (seen_told q c.f c.l c.m ∷ []) v v2) (sym is) gains-seen) (subst (λ q. Sees q v1 v2 c) (sym is) sees) served few seen;
-    stays = subst (λ u. PendingStays u v2) (sym lane) (seen-stays_pending p c.f c.l c.m v v2 gains-seen);
+        seen-more sys floor place o c (asked_once v) v1 v2 at (subst (λ q. Gains (seen_told q c.f c.l c.m ∷ []) (asked_once v) v2) (sym is) gains-seen) (subst (λ q. Sees q v1 v2 c) (sym is) sees) served few
+        (λ i d from its high. empty-once d.priority v (seen i d from its high));
+    stays = subst (λ u. PendingStays u v2) (sym lane) (seen-stays_pending p c.f c.l c.m (asked_once v) v2 gains-seen);
   }
 
   -- its object has taken its budget
@@ -264,10 +296,10 @@ module _ (acts : Bool) (sys : System) (looks p : ℕ) (c : counts.Counts) (v v1 
       (ends-in_order acts sys looks 6 (for_object p (plain body.Spent) ∷ []) v2 v3 v4 (noted p body.Spent r v2 v3 note grown) stops (refl, tt) (one-last (for_object p (plain body.Spent))) seen-in_order.order)
 
   -- the stop word is found set
-  pub stopped-seen : (code : ℕ) (v3 : LaneView) → v3 ≡ record v2 { answered = code ∷ v2.answered } → StopsInOrder acts sys v v3
+  pub stopped-seen : (code : ℕ) (v3 : LaneView) → v3 ≡ record v2 { answered = code ∷ v2.answered; asked = suc v2.asked } → StopsInOrder acts sys v v3
   stopped-seen code v3 is = halts-behind acts sys v v2 v3 halt.Stopped gains-seen.sys gains-seen.plan (found-in_order acts sys looks code v2 v3 is seen-in_order)
 
   -- its entry is taken
-  pub took-in_order : (e : HeldEntry) (v3 v4 : LaneView) → v3 ≡ v2 → TakesIt p e v3 v4 → InOrder acts sys looks v4
+  pub took-in_order : (e : HeldEntry) (v3 v4 : LaneView) → v3 ≡ asked_once v2 → TakesIt p e v3 v4 → InOrder acts sys looks v4
   took-in_order e v3 v4 still takes =
-      grows-in_order acts sys looks _ v3 v4 takes.adds.grows (refl, tt) refl refl (subst (InOrder acts sys looks) (sym still) seen-in_order)
+      grows-in_order acts sys looks _ v3 v4 takes.adds.grows (refl, tt) refl refl (subst (InOrder acts sys looks) (sym still) (in_order-once acts sys looks v2 seen-in_order))

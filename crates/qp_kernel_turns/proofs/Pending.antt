@@ -12,6 +12,7 @@ use Rattle.qp_kernel.specs.Interrupting.{IsLaneKept}
 use Rattle.qp_kernel.specs.Turning.{look_told, seen_told}
 use Rattle.qp_kernel_turns.specs.declared.objects.Objects.{Objects}
 use Rattle.qp_kernel_turns.specs.Counting.{AreCounted}
+use Rattle.qp_kernel_turns.specs.Halting.{asked_once}
 use Rattle.qp_kernel_turns.specs.Ordering.{IsSeenEmpty}
 use Rattle.qp_kernel_turns.specs.Pending.{Pending, PendingStays, StepsOver}
 
@@ -30,7 +31,7 @@ stays-by v w own rise p h =
     omega (arith, h, same, up)
 
 -- a look, and what another lane did in it
-pub look-stays : (n floor : ℕ) (v v1 v2 v3 : LaneView) → Roomier v v1 → GrowsOf 0 (plain (body.Look n floor) ∷ []) v1 v2 → IsLaneKept v2 v3 → PendingStays v v3
+pub look-stays : (n floor : ℕ) (v v1 v2 v3 : LaneView) → Roomier (asked_once v) v1 → GrowsOf 0 (plain (body.Look n floor) ∷ []) v1 v2 → IsLaneKept v2 v3 → PendingStays v v3
 look-stays n floor v v1 v2 v3 room grown kept =
     stays-by v v3 (λ p. kept.own p ∙ grown.own p ∙ look-own p n floor (v1.own p) ∙ ap (λ u. u.own p) room.same)
     (λ p.

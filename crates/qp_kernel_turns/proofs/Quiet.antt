@@ -97,6 +97,7 @@ gains-set o r ts a b h = record {
   serves = h.serves;
   stops = h.stops;
   answered = h.answered;
+  asked = h.asked;
   mark = h.mark;
   rise = h.rise;
   between = h.between;

@@ -10,6 +10,7 @@ use Rattle.qp_calls.specs.Clauses.{Sees, TakesNone, last_nil, same_counts}
 use Rattle.qp_calls.specs.LaneView as shown
 use Rattle.qp_calls.specs.LaneView.{AddsOf, LaneView, Looks, NotShown, Own, mark_after, mark_by, own_after}
 use Rattle.qp_kernel.specs.Turning.{seen_told}
+use Rattle.qp_kernel_turns.specs.Halting.{asked_once}
 
 -- after a look at a queue, and after a `nil`, its mark is the sum of what they show
 pub seen-mark_own : (p n f l m : ℕ) → mark_after (word.Queue p) n (seen_told p f l m ∷ []) ≡ f + l + m
@@ -31,9 +32,9 @@ record Found (p f l m : ℕ) (v w : LaneView) : Type 0 where
   rise : v.mark (word.Queue p) ≤ w.mark (word.Queue p)
   mark : w.mark (word.Queue p) ≡ f + l + m
 
-pub seen-is-there : (p f l m : ℕ) (c : Counts) (v1 v2 v3 v4 : LaneView) → Sees p v1 v2 c → c.m < c.f + c.l → IsTrue (v2.serves p) → v3 ≡ v2 → TakesNone p f l m v3 v4 → ⊥
+pub seen-is-there : (p f l m : ℕ) (c : Counts) (v1 v2 v3 v4 : LaneView) → Sees p v1 v2 c → c.m < c.f + c.l → IsTrue (v2.serves p) → v3 ≡ asked_once v2 → TakesNone p f l m v3 v4 → ⊥
 seen-is-there p f l m c v1 v2 v3 v4 sees some served still takes =
-    let none : TakesNone p f l m v2 v4 = subst (λ u. TakesNone p f l m u v4) still takes in
+    let none : TakesNone p f l m (asked_once v2) v4 = subst (λ u. TakesNone p f l m u v4) still takes in
     let found = by (same_counts (last_nil p NotShown v2.told) f l m) none.adds in
     let seen : v2.mark (word.Queue p) ≡ c.f + c.l + c.m = sees.0.grows.mark (word.Queue p) ∙ seen-mark_own p (v1.mark (word.Queue p)) c.f c.l c.m in
     let own = sees.1.own served in
@@ -45,7 +46,7 @@ seen-is-there p f l m c v1 v2 v3 v4 sees some served still takes =
     let empty = none.empty in
     absurd (omega (arith, some, seen, l-is, m-is, up, here, empty))
   where
-    by : (b : Bool) → MatchBool b (Looks (word.Queue p) (f + l + m) (shown.Counts f l m) v2 v4) (AddsOf p (plain (body.Nil f l m) ∷ []) v2 v4) → Found p f l m v2 v4
+    by : (b : Bool) → MatchBool b (Looks (word.Queue p) (f + l + m) (shown.Counts f l m) (asked_once v2) v4) (AddsOf p (plain (body.Nil f l m) ∷ []) (asked_once v2) v4) → Found p f l m v2 v4
     by true h = record { own = h.own p; serves = h.serves p; rise = subst (λ n. v2.mark (word.Queue p) ≤ n) (sym h.here) h.rise; mark = h.here }
     by false h = record {
       own = h.grows.own p ∙ nil-own p f l m (v2.own p);

@@ -22,6 +22,7 @@ use Rattle.qp_dispatch.proofs.Quiet.{spills-append}
 use Rattle.qp_kernel.specs.Happenings.{lanes_from, lanes_of}
 use Rattle.qp_kernel.specs.Interrupting.{Happens, HappensToFail, HappensInPart, FindsNoRoom, HasNone, IsLaneKept, IsStopped, is_unset}
 use Rattle.qp_kernel.specs.Turning.{look_told, Terms}
+use Rattle.qp_kernel_turns.specs.Halting.{asked_once}
 use Rattle.qp_kernel_turns.specs.Knowing.{IsScanning, KnowsAt, MayLook}
 use Rattle.qp_kernel_turns.specs.declared.halting.Halt.TheVariants as halt
 use Rattle.qp_kernel_turns.specs.BaseRows.{InRow}
@@ -43,7 +44,7 @@ noted o b r v w is grown =
     subst (λ i. GrowsOf i (told_as (ceiling_in 0 v.told) b ∷ []) v w) mine (subst (λ x. GrowsOf r.of (told_as (ceiling_in 0 v.told) x ∷ []) v w) here grown)
 
 -- `room` and a look, and what happens in it
-pub look-goes : (n floor : ℕ) (v v1 v2 : LaneView) → Roomier v v1 → GrowsOf 0 (plain (body.Look n floor) ∷ []) v1 v2 → spills_told v.told ≡ false → GoesFor (look_told n floor ∷ []) v v2
+pub look-goes : (n floor : ℕ) (v v1 v2 : LaneView) → Roomier (asked_once v) v1 → GrowsOf 0 (plain (body.Look n floor) ∷ []) v1 v2 → spills_told v.told ≡ false → GoesFor (look_told n floor ∷ []) v v2
 unfolding hands_after hands_by ceiling_in
 look-goes n floor v v1 v2 room grown none =
     let told : v2.told ≡ v.told ++ look_told n floor ∷ [] = grown.told ∙ ap (λ u. u.told ++ look_told n floor ∷ []) room.same in
@@ -67,7 +68,7 @@ kept-goes n floor v v2 v3 goes kept hands = record {
 }
 
 module _ (sys : System) (sound : IsSound sys) (terms : Terms) (a : Stand) (k : Stood (MayLook sys terms) sys terms a) (n floor : ℕ) (count : n ≡ a.looks + 1) (low : floor ≡ floor_of sys terms a)
-    (v1 v2 v3 : LaneView) (room : Roomier a.lane v1) (grown : GrowsOf 0 (plain (body.Look n floor) ∷ []) v1 v2) where
+    (v1 v2 v3 : LaneView) (room : Roomier (asked_once a.lane) v1) (grown : GrowsOf 0 (plain (body.Look n floor) ∷ []) v1 v2) where
   goes-two : GoesFor (look_told n floor ∷ []) a.lane v2
   goes-two = look-goes n floor a.lane v1 v2 room grown k.knows.lane.spills
 

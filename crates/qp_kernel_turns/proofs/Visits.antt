@@ -1,5 +1,5 @@
 -- From what the calls of a visit say to what is known behind it.
-use Rattle.std.proofs.Common.{◌≡◌, ℕ, ◌+◌, ◌<◌, ◌≤◌, false, List, [], ◌∷◌, ◌++◌, length, refl, sym, ◌∙◌, ap, subst, inl, inr, Some, arith, append_assoc}
+use Rattle.std.proofs.Common.{◌≡◌, ℕ, suc, ◌+◌, ◌<◌, ◌≤◌, false, List, [], ◌∷◌, ◌++◌, length, refl, sym, ◌∙◌, ap, subst, inl, inr, Some, arith, append_assoc}
 use Rattle.std.specs.Prelude.{IsTrue, slice_get}
 use Rattle.std.specs.List.{AllByRecursion}
 use Rattle.std.proofs.lemmas.List.{length-reverse}
@@ -30,7 +30,7 @@ use Rattle.qp_model_order.specs.RunOrder.{has_stim}
 use Rattle.qp_kernel_turns.specs.declared.halting.Halt.{Halt}
 use Rattle.qp_kernel_turns.specs.declared.halting.Halt.TheVariants as halt
 use Rattle.qp_kernel_turns.specs.BaseRows.{HasStep, InRow, reading_in}
-use Rattle.qp_kernel_turns.specs.Halting.{TurnHalts}
+use Rattle.qp_kernel_turns.specs.Halting.{TurnHalts, asked_once}
 use Rattle.qp_kernel_turns.specs.TurnRows.{FewRows, RowStops, bare_row, idle_rows}
 use Rattle.qp_kernel_turns.specs.Turning.{Entered, Passed, Stand, Stood, TurnStopped, row_below}
 use Rattle.qp_kernel_turns.proofs.Places.{follow-none}
@@ -45,7 +45,7 @@ use Rattle.qp_kernel_turns.proofs.Visiting.{at-place, at-rest, entered, entered-
 use Rattle.qp_kernel_turns.proofs.Turns.{noted}
 use Rattle.qp_model.proofs.AbleLemmas.{some-same}
 
-pub seen-goes : (p : ℕ) (c : Counts) (v v1 v2 : LaneView) → Roomier v v1 → Sees p v1 v2 c → spills_told v.told ≡ false → GoesFor (seen_told p c.f c.l c.m ∷ []) v v2
+pub seen-goes : (p : ℕ) (c : Counts) (v v1 v2 : LaneView) → Roomier (asked_once v) v1 → Sees p v1 v2 c → spills_told v.told ≡ false → GoesFor (seen_told p c.f c.l c.m ∷ []) v v2
 unfolding hands_after hands_by ceiling_in
 seen-goes p c v v1 v2 room sees none =
     let grown = sees.0.grows in
@@ -116,7 +116,7 @@ module _ (sys : System) (sound : IsSound sys) (terms : Terms) (a : Stand) (floor
     halted-row u w h r halts =
         row-stops u w h r (halts-few sys sound terms here.knows.state a.lane w h here.knows.told here.knows.stands here.knows.now here.at.stack.started (all-wait sys here.knows.state here.at.stack) halts)
 
-    module _ (v1 v2 : LaneView) (c : Counts) (room : Roomier a.lane v1) (sees : Sees o.priority v1 v2 c) where
+    module _ (v1 v2 : LaneView) (c : Counts) (room : Roomier (asked_once a.lane) v1) (sees : Sees o.priority v1 v2 c) where
       goes : GoesFor (seen_told o.priority c.f c.l c.m ∷ []) a.lane v2
       goes = seen-goes o.priority c a.lane v1 v2 room sees here.knows.lane.spills
 
@@ -194,7 +194,7 @@ module _ (sys : System) (sound : IsSound sys) (terms : Terms) (a : Stand) (floor
             inr (omega arith, rw spent.told (last-snoc v2.told (for_object o.priority (plain body.Spent))))
 
         -- the stop word is found set
-        pub stop-found : (code : ℕ) (v3 : LaneView) → v3 ≡ record v2 { answered = code ∷ v2.answered } → TurnStopped sys terms a.lane v3
+        pub stop-found : (code : ℕ) (v3 : LaneView) → v3 ≡ record v2 { answered = code ∷ v2.answered; asked = suc v2.asked } → TurnStopped sys terms a.lane v3
         stop-found code v3 is =
             let k = here.knows in
             record {
@@ -205,7 +205,7 @@ module _ (sys : System) (sound : IsSound sys) (terms : Terms) (a : Stand) (floor
               why = inr (rw (is, sees.0.grows.answered, ap (λ u. u.answered) room.same) (omega arith));
             }
 
-        pub found-row : (code : ℕ) (v3 : LaneView) → v3 ≡ record v2 { answered = code ∷ v2.answered } → (u : LaneView) → InRow sys terms (row_below sys floor (place + 1)) u a.lane → RowStops sys terms u v3 halt.Stopped
+        pub found-row : (code : ℕ) (v3 : LaneView) → v3 ≡ record v2 { answered = code ∷ v2.answered; asked = suc v2.asked } → (u : LaneView) → InRow sys terms (row_below sys floor (place + 1)) u a.lane → RowStops sys terms u v3 halt.Stopped
         found-row code v3 is u row =
             let k = here.knows in
             row-stops u v3 halt.Stopped row (λ threaded. ends-few sys terms end_asserted _ _ _
@@ -215,7 +215,7 @@ module _ (sys : System) (sound : IsSound sys) (terms : Terms) (a : Stand) (floor
             (k.now ∙ ap has_stim (sym lanes)) here.at.stack.started (all-wait sys k.state here.at.stack) (ap (λ u. u.plan) is) (ap (λ u. u.happened) is) (ap (λ u. u.told) is) end_asserted refl) threaded)
 
         -- its step begins
-        pub step-enters : (count : ℕ) (v3 v4 : LaneView) (e : HeldEntry) (ys : Objects) (stack : List ℕ) → count ≡ taken_up_by a.objects.slots.items o.priority → count < terms.budget → v3 ≡ v2 → TakesIt o.priority e v3 v4
+        pub step-enters : (count : ℕ) (v3 v4 : LaneView) (e : HeldEntry) (ys : Objects) (stack : List ℕ) → count ≡ taken_up_by a.objects.slots.items o.priority → count < terms.budget → v3 ≡ asked_once v2 → TakesIt o.priority e v3 v4
             → BeginsAt o.priority e a.objects ys → stack ≡ a.stack ++ o.priority ∷ [] → Entered sys terms a (record { looks = a.looks; stack = stack; objects = ys; lane = v4 })
         step-enters count v3 v4 e ys stack is few still takes begins pushed =
             let k = here.knows in
@@ -223,8 +223,8 @@ module _ (sys : System) (sound : IsSound sys) (terms : Terms) (a : Stand) (floor
             let there = at-place sys sound terms a.looks a.stack a.objects a.lane o.priority (row_below sys floor place) c.f c.l c.m k here.at some in
             let same-slot : begins.slot ≡ its = some-same (some-same (sym begins.there ∙ there)) in
             let count-is = its-count count is in
-            let took : TakesIt o.priority e v2 v4 = subst (λ u. TakesIt o.priority e u v4) still takes in
-            let lane : IsLane sys a.objects.ceiling v2 = record {
+            let took : TakesIt o.priority e (asked_once v2) v4 = subst (λ u. TakesIt o.priority e u v4) still takes in
+            let lane : IsLane sys a.objects.ceiling (asked_once v2) = record {
               of = goes.of ∙ k.lane.of;
               told = k.lane.told ∙ sym goes.ceiling;
               spills = goes.spills;
@@ -240,16 +240,16 @@ module _ (sys : System) (sound : IsSound sys) (terms : Terms) (a : Stand) (floor
                 outer = a.stack;
                 top = pushed;
                 knows = subst (λ l. KnowsAt (IsRunning sys o.priority) sys terms a.looks l ys v4) (sym pushed)
-                    (entered sys sound terms a.looks a.stack a.objects a.lane o.priority (row_below sys floor place) c.f c.l c.m k here.at some v2 v4 e ys begins.later goes.told goes.hands goes.of lanes lane took lower begins.put threshold begun);
+                    (entered sys sound terms a.looks a.stack a.objects a.lane o.priority (row_below sys floor place) c.f c.l c.m k here.at some (asked_once v2) v4 e ys begins.later goes.told goes.hands goes.of lanes lane took lower begins.put threshold begun);
               };
               onward = record {
-                hands = follows sys sound terms a.looks a.stack a.objects a.lane o.priority (row_below sys floor place) c.f c.l c.m k here.at some v2 v4 e ys begins.later goes.told goes.hands goes.of lanes lane took lower begins.put threshold begun;
+                hands = follows sys sound terms a.looks a.stack a.objects a.lane o.priority (row_below sys floor place) c.f c.l c.m k here.at some (asked_once v2) v4 e ys begins.later goes.told goes.hands goes.of lanes lane took lower begins.put threshold begun;
                 answered = took.adds.grows.answered ∙ sees.0.grows.answered ∙ ap (λ u. u.answered) room.same;
                 plan = took.adds.grows.plan ∙ sees.0.grows.plan ∙ ap (λ u. u.plan) room.same;
               };
             }
 
-        pub enters-row : (count : ℕ) (v3 v4 : LaneView) (e : HeldEntry) (ys : Objects) → count ≡ taken_up_by a.objects.slots.items o.priority → count < terms.budget → v3 ≡ v2 → TakesIt o.priority e v3 v4
+        pub enters-row : (count : ℕ) (v3 v4 : LaneView) (e : HeldEntry) (ys : Objects) → count ≡ taken_up_by a.objects.slots.items o.priority → count < terms.budget → v3 ≡ asked_once v2 → TakesIt o.priority e v3 v4
             → BeginsAt o.priority e a.objects ys → (u : LaneView) → InRow sys terms (row_below sys floor (place + 1)) u a.lane → HasStep (reading_in sys terms u) (reading_in sys terms v4)
         enters-row count v3 v4 e ys is few still takes begins u row =
             let k = here.knows in
@@ -257,8 +257,8 @@ module _ (sys : System) (sound : IsSound sys) (terms : Terms) (a : Stand) (floor
             let there = at-place sys sound terms a.looks a.stack a.objects a.lane o.priority (row_below sys floor place) c.f c.l c.m k here.at some in
             let same-slot : begins.slot ≡ its = some-same (some-same (sym begins.there ∙ there)) in
             let count-is = its-count count is in
-            let took : TakesIt o.priority e v2 v4 = subst (λ u. TakesIt o.priority e u v4) still takes in
-            let lane : IsLane sys a.objects.ceiling v2 = record {
+            let took : TakesIt o.priority e (asked_once v2) v4 = subst (λ u. TakesIt o.priority e u v4) still takes in
+            let lane : IsLane sys a.objects.ceiling (asked_once v2) = record {
               of = goes.of ∙ k.lane.of;
               told = k.lane.told ∙ sym goes.ceiling;
               spills = goes.spills;
@@ -267,4 +267,4 @@ module _ (sys : System) (sound : IsSound sys) (terms : Terms) (a : Stand) (floor
             let begun : BeginsStep e its.object begins.later.object = subst (λ sl. BeginsStep e sl.object begins.later.object) same-slot begins.begins in
             let threshold : begins.later.threshold ≡ its.threshold = begins.threshold ∙ ap (λ sl. sl.threshold) same-slot in
             let lower : its.object.taken < terms.budget = omega (arith, count-is, few) in
-            entered-row sys sound terms a.looks a.stack a.objects a.lane o.priority (row_below sys floor place) c.f c.l c.m k here.at some v2 v4 e ys begins.later goes.told goes.hands goes.of lanes lane took lower begins.put threshold begun u (row-here u row)
+            entered-row sys sound terms a.looks a.stack a.objects a.lane o.priority (row_below sys floor place) c.f c.l c.m k here.at some (asked_once v2) v4 e ys begins.later goes.told goes.hands goes.of lanes lane took lower begins.put threshold begun u (row-here u row)

@@ -3,7 +3,7 @@
 ghost use Rattle.std.specs.Prelude.{◌≡◌, false};
 ghost use Rattle.qp_calls.specs.Clauses.{IsFault};
 ghost use Rattle.qp_calls.specs.Notes.{spills_told};
-ghost use Rattle.qp_kernel_turns.specs.Halting.{TurnHalts, Readies};
+ghost use Rattle.qp_kernel_turns.specs.Halting.{GivesUp, Readies};
 
 use qp_calls::{Halted, Ops, RoomFault, halt};
 
@@ -20,7 +20,7 @@ pub enum Halt {
 fn give_up<O: Ops>(ops: &mut O, fault: RoomFault) -> Halt
     requires fault { IsFault (O.lane ops.old) fault }
     requires spills { spills_told (O.lane ops.old).told ≡ false }
-    ensures { TurnHalts (O.lane ops.old) (O.lane ops.new) result }
+    ensures { GivesUp (O.lane ops.old) (O.lane ops.new) result }
 {
     match halt(ops, fault) {
         Halted::Full => Halt::Stopped,

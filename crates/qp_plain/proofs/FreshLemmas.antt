@@ -22,7 +22,7 @@ use Rattle.qp_model.specs.TimeEvents.{time_event}
 use Rattle.qp_model.specs.Sites.{object_at, ring_of, blocks_of}
 use Rattle.qp_model.specs.Sound.{IsSound, IsSoundPool, IsSoundObject}
 use Rattle.qp_model.specs.WordLaw.{is_object}
-use Rattle.qp_calls.specs.LaneView.{IsNew}
+use Rattle.qp_calls.specs.LaneView.{IsNew, codes_in}
 use Rattle.qp_plain_words.specs.declared.block.BlockWord.{BlockWord}
 use Rattle.qp_plain_words.specs.Sets.{are_members}
 use Rattle.qp_plain_sound.specs.Log.{empty_lanes}
@@ -135,7 +135,11 @@ stops-new : (logs : List Log) → list_all is_new logs ≡ true → list_all (fi
 stops-new [] h = refl
 stops-new (g ∷ gs) h =
     let new = new-parts g (and_parts _ _ h).0 in
-    and_from _ _ (and_from _ _ new.stops new.answered) (stops-new gs (and_parts _ _ h).1)
+    and_from _ _ (and_from _ _ new.stops (none g.answered.list new.answered)) (stops-new gs (and_parts _ _ h).1)
+  where
+    none : (cs : List ℕ) → no_codes cs ≡ true → no_codes (codes_in cs) ≡ true
+    none [] e = refl
+    none (c ∷ cs) e = absurd (cc)
 
 pub book-lists : (n : ℕ) (b : Book) → IsNewBook n b → lists_of b ≡ empty_lanes n
 book-lists n b new = lists-none (logs_of b) new.all ∙ ap empty_lanes (length-set b.others.items b.at b.here ∙ new.long)

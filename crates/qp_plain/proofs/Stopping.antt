@@ -3,7 +3,7 @@ use Rattle.std.proofs.Common.{◌≡◌, ◌≢◌, ℕ, zero, suc, ◌<◌, ◌
 use Rattle.std.specs.List.{list_all, list_any}
 use Rattle.std.proofs.lemmas.Bool.{and_from, and_parts, or_right}
 use Rattle.std.proofs.lemmas.Bool.Decides.{nat_tests}
-use Rattle.qp_calls.specs.LaneView.{Purse, no_code, is_codeless}
+use Rattle.qp_calls.specs.LaneView.{Purse, codes_in, no_code, is_codeless}
 use Rattle.qp_calls_log.specs.declared.log.Log.{Log}
 use Rattle.qp_plain.specs.declared.book.Book.{Book}
 use Rattle.qp_plain.specs.Book.{Hands, BookAnswers, logs_of, purse_of, no_purse, purses_of}
@@ -50,8 +50,8 @@ not-zero n h = grind (arith, nat_tests)
 hands-logs : (code : ℕ) (old new : Book) → Hands code old new → logs_of new ≡ all_logs old.others.items old.at new.here
 hands-logs code old new h = ap (λ xs. all_logs xs new.at new.here) h.others ∙ ap (λ k. all_logs old.others.items k new.here) h.at
 
-found : (stop : ℕ) (g : Log) → (stop == 0) ≡ false → fits_stop stop g ≡ true → list_all (λ c. c == stop) g.answered.list ≡ true
-found stop g nz h = subst (λ v. cond v (no_codes g.stops.list && no_codes g.answered.list) (list_all (λ c. c == stop) g.answered.list) ≡ true) nz h
+found : (stop : ℕ) (g : Log) → (stop == 0) ≡ false → fits_stop stop g ≡ true → list_all (λ c. c == stop) (codes_in g.answered.list) ≡ true
+found stop g nz h = subst (λ v. cond v (no_codes g.stops.list && no_codes (codes_in g.answered.list)) (list_all (λ c. c == stop) (codes_in g.answered.list)) ≡ true) nz h
 
 -- The first code is handed in.
 pub stop-first : (code : ℕ) (old new : Book) → Hands code old new → 0 < code → code ≤ 7 → old.at < length old.others.items → StopIs 0 (logs_of old) → StopIs code (logs_of new)
@@ -69,13 +69,13 @@ stop-first code old new h some few lt is = record {
     none-all (c ∷ cs) e = absurd (cc)
 
     loosen : (g : Log) → fits_stop 0 g ≡ true → fits_stop code g ≡ true
-    loosen g e = rw nz (none-all g.answered.list (and_parts (no_codes g.stops.list) (no_codes g.answered.list) e).1)
+    loosen g e = rw nz (none-all (codes_in g.answered.list) (and_parts (no_codes g.stops.list) (no_codes (codes_in g.answered.list)) e).1)
 
     before : fits_stop 0 old.here ≡ true
     before = all-at (fits_stop 0) old.others.items old.at old.here lt is.fits
 
     here : fits_stop code new.here ≡ true
-    here = rw (nz, h.answered) (none-all old.here.answered.list (and_parts (no_codes old.here.stops.list) (no_codes old.here.answered.list) before).1)
+    here = rw (nz, h.answered) (none-all (codes_in old.here.answered.list) (and_parts (no_codes old.here.stops.list) (no_codes (codes_in old.here.answered.list)) before).1)
 
     handed : was_handed code new.here ≡ true
     handed = rw (h.stops, same_number code) refl
@@ -118,19 +118,38 @@ stop-answered stop old new h set lt is = record {
     was = subst (λ v. (v || list_any (was_handed stop) (logs_of old)) ≡ true) nz is.handed
 
     here : fits_stop stop new.here ≡ true
-    here = rw (nz, h.answered, same_number stop) (found stop old.here nz (all-at (fits_stop stop) old.others.items old.at old.here lt is.fits))
+    here = rw (h.answered, nz, same_number stop) (found stop old.here nz (all-at (fits_stop stop) old.others.items old.at old.here lt is.fits))
+
+-- Where the word is 0, the lane chosen found none.
+none-answered : (old new : Book) → BookAnswers 0 old new → old.at < length old.others.items → StopIs 0 (logs_of old) → StopIs 0 (logs_of new)
+none-answered old new h lt is = record {
+  few = is.few;
+  fits = ap (list_all (fits_stop 0)) same ∙ all-put (fits_stop 0) (fits_stop 0) old.others.items old.at old.here new.here (λ g e. e) here is.fits;
+  handed = refl;
+}
+  where
+    same : logs_of new ≡ all_logs old.others.items old.at new.here
+    same = ap (λ xs. all_logs xs new.at new.here) h.others ∙ ap (λ k. all_logs old.others.items k new.here) h.at
+
+    here : fits_stop 0 new.here ≡ true
+    here = rw (h.stops, h.answered) (all-at (fits_stop 0) old.others.items old.at old.here lt is.fits)
+
+-- whatever it found
+pub stop-asked : (stop : ℕ) (old new : Book) → BookAnswers stop old new → old.at < length old.others.items → StopIs stop (logs_of old) → StopIs stop (logs_of new)
+stop-asked zero old new h lt is = none-answered old new h lt is
+stop-asked (suc n) old new h lt is = stop-answered (suc n) old new h (λ e. omega (arith, e)) lt is
 
 -- Where the word is 0, no lane handed in a code or found one.
-pub nothing-handed : (old : Book) → old.at < length old.others.items → StopIs 0 (logs_of old) → (old.here.stops.list ≡ []) × (old.here.answered.list ≡ [])
+pub nothing-handed : (old : Book) → old.at < length old.others.items → StopIs 0 (logs_of old) → (old.here.stops.list ≡ []) × (codes_in old.here.answered.list ≡ [])
 nothing-handed old lt is =
-    let both = and_parts (no_codes old.here.stops.list) (no_codes old.here.answered.list) (all-at (fits_stop 0) old.others.items old.at old.here lt is.fits) in
-    (empty old.here.stops.list both.0, empty old.here.answered.list both.1)
+    let both = and_parts (no_codes old.here.stops.list) (no_codes (codes_in old.here.answered.list)) (all-at (fits_stop 0) old.others.items old.at old.here lt is.fits) in
+    (empty old.here.stops.list both.0, empty (codes_in old.here.answered.list) both.1)
   where
     empty : (cs : List ℕ) → no_codes cs ≡ true → cs ≡ []
     empty [] e = refl
     empty (c ∷ cs) e = absurd (cc)
 
-pub all-answered : (stop : ℕ) (old : Book) → stop ≢ 0 → old.at < length old.others.items → StopIs stop (logs_of old) → list_all (λ c. c == stop) old.here.answered.list ≡ true
+pub all-answered : (stop : ℕ) (old : Book) → stop ≢ 0 → old.at < length old.others.items → StopIs stop (logs_of old) → list_all (λ c. c == stop) (codes_in old.here.answered.list) ≡ true
 all-answered stop old set lt is = found stop old.here (not-zero stop set) (all-at (fits_stop stop) old.others.items old.at old.here lt is.fits)
 
 -- none is in the purses where the stop word is 0
@@ -143,7 +162,7 @@ purses-codeless b is = left (map purse_of (logs_of b)) b.at (all-codeless (logs_
 
     all-codeless : (gs : List Log) → list_all (fits_stop 0) gs ≡ true → list_all is_codeless (map purse_of gs) ≡ true
     all-codeless [] h = refl
-    all-codeless (g ∷ gs) h = and_from _ _ (rw (sym (same g.stops.list), sym (same g.answered.list)) (and_parts _ _ h).0) (all-codeless gs (and_parts _ _ h).1)
+    all-codeless (g ∷ gs) h = and_from _ _ (rw (sym (same g.stops.list), sym (same (codes_in g.answered.list))) (and_parts _ _ h).0) (all-codeless gs (and_parts _ _ h).1)
 
     left : (ps : List Purse) (k : ℕ) → list_all is_codeless ps ≡ true → list_all is_codeless (slice_set ps k no_purse) ≡ true
     left [] k h = refl

@@ -3,7 +3,7 @@ use Rattle.std.specs.Prelude.{◌≡◌, ℕ, ◌+◌, ◌<◌, ◌≤◌, List,
 use Rattle.qp_model.specs.declared.record.Rec.{Rec}
 use Rattle.qp_calls.specs.declared.answers.RoomFault.{RoomFault}
 use Rattle.qp_calls.specs.declared.answers.RoomFault.TheVariants as fault
-use Rattle.qp_calls.specs.LaneView.{Purse}
+use Rattle.qp_calls.specs.LaneView.{Purse, codes_in}
 use Rattle.qp_plain_sound.specs.Step.{Grown}
 use Rattle.qp_calls_log.specs.declared.log.Log.{Log}
 use Rattle.qp_plain.specs.declared.book.Book.{Book}
@@ -16,7 +16,7 @@ abbrev pub lists_of : Book → List (List Rec)
 lists_of b = map log_recs (logs_of b)
 
 abbrev pub purse_of : Log → Purse
-purse_of g = record { spare = g.spare; stops = g.stops.list; answered = g.answered.list }
+purse_of g = record { spare = g.spare; stops = g.stops.list; answered = codes_in g.answered.list }
 
 abbrev pub no_purse : Purse
 no_purse = record { spare = 0; stops = []; answered = [] }

@@ -3,7 +3,7 @@ use Rattle.std.specs.Prelude.{◌≡◌, ℕ, Bool, true, ◌&&◌, List, [], le
 use Rattle.std.specs.List.{list_all}
 use Rattle.qp_model.specs.declared.systems.System.{System}
 use Rattle.qp_model.specs.OneOrder.{Placed}
-use Rattle.qp_calls.specs.LaneView.{IsNew}
+use Rattle.qp_calls.specs.LaneView.{IsNew, codes_in}
 use Rattle.qp_plain_sound.specs.Log.{log_of}
 use Rattle.qp_calls_log.specs.declared.log.Log.{Log}
 use Rattle.qp_plain.specs.declared.world.PlainWorld.{PlainWorld}
@@ -23,7 +23,7 @@ chosen w = w.book.at
 
 -- the lane neither handed in a code nor found one
 abbrev pub is_silent : Log → Bool
-is_silent g = no_codes g.stops.list && no_codes g.answered.list
+is_silent g = no_codes g.stops.list && no_codes (codes_in g.answered.list)
 
 -- A world for the system with so many lanes, in which nothing has happened. The stop word is 0, and no lane has handed in a code or found
 -- one.

@@ -1,11 +1,13 @@
 -- What is true of a world: its words beside its records.
-use Rattle.std.specs.Prelude.{◌≡◌, ℕ, ◌≤◌, ◌==◌, Bool, true, false, ◌&&◌, ◌||◌, List, [], ◌∷◌, if◌then◌else◌}
+use Rattle.std.specs.Prelude.{◌≡◌, ℕ, ◌≤◌, ◌==◌, Bool, true, false, ◌&&◌, ◌||◌, List, [], ◌∷◌, if◌then◌else◌, Some, None}
+use Rattle.std.specs.declared.option.Option.{Option}
 use Rattle.std.specs.List.{list_all, list_any}
 use Rattle.qp_base.specs.declared.event.Ev.{Ev}
 use Rattle.qp_model.specs.declared.record.Rec.{Rec}
 use Rattle.qp_model.specs.declared.systems.System.{System}
 use Rattle.qp_model.specs.FreeBlocks.{Pool}
 use Rattle.qp_model.specs.TimeEvents.{Clock}
+use Rattle.qp_calls.specs.LaneView.{codes_in}
 use Rattle.qp_plain_words.specs.declared.block.BlockWord.{BlockWord}
 use Rattle.qp_plain_words.specs.declared.signal.SignalWord.{SignalWord}
 use Rattle.qp_plain_words.specs.Queue.{Queue}
@@ -30,10 +32,14 @@ no_codes [] = true
 no_codes (c ∷ cs) = false
 
 abbrev pub fits_stop : ℕ → Log → Bool
-fits_stop code g = if code == 0 then no_codes g.stops.list && no_codes g.answered.list else list_all (λ c. c == code) g.answered.list
+fits_stop code g = if code == 0 then no_codes g.stops.list && no_codes (codes_in g.answered.list) else list_all (λ c. c == code) (codes_in g.answered.list)
 
 abbrev pub was_handed : ℕ → Log → Bool
 was_handed code g = list_any (λ c. c == code) g.stops.list
+
+-- what a question finds, by the word
+abbrev pub found_in : ℕ → Option ℕ
+found_in n = if n == 0 then None else Some n
 
 -- the word after a code is handed in: a code once set stays
 abbrev pub word_after : ℕ → ℕ → ℕ

@@ -1,5 +1,8 @@
 //! The calls of the lane chosen.
 
+ghost use Rattle.std.specs.Prelude.{◌≡◌};
+ghost use Rattle.qp_plain.specs.World.{found_in};
+
 use crate::records::{copy_of, place, refusal, shortage, stated};
 use crate::world::PlainWorld;
 use qp_base::{Ev, Steps};
@@ -8,6 +11,13 @@ use qp_model::{Rec, is_spill};
 use std::mem;
 use std::sync::Wait;
 use std::sync::ledger::Ledger;
+
+/// The code that the stop word holds; None where it is 0.
+fn code_of(word: u8) -> Option<u8>
+    ensures { result ≡ found_in word }
+{
+    if word == 0 { None } else { Some(word) }
+}
 
 impl<'a> Ops for PlainWorld<'a> {
     ghost use Rattle.std.specs.Prelude.{◌≡◌};
@@ -289,11 +299,8 @@ impl<'a> Ops for PlainWorld<'a> {
     }
 
     fn stopped(&mut self) -> Option<u8> {
-        if self.stop == 0 {
-            return None;
-        }
         self.book.answer(self.stop);
-        Some(self.stop)
+        code_of(self.stop)
     }
 
     fn leave(&mut self, _e: HeldEntry) {}

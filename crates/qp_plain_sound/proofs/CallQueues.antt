@@ -228,6 +228,7 @@ module _ (sys : System) (lanes : List (List Rec)) (order : List ℕ) (at spare b
     serves = λ o. refl;
     stops = refl;
     answered = refl;
+    asked = refl;
     here = sym count_is;
     rise = omega (arith, count_is);
     mark = λ v other. refl;

@@ -198,6 +198,7 @@ new-lane sys n at spare purses lt = record {
   by = refl;
   stops = refl;
   answered = refl;
+  asked = refl;
   mark = λ w. ap (total w) (no-items n) ∙ no-total w;
   shown = λ w. shown w;
   own = λ a. ap own_of_line (line-first sys n a);

@@ -407,6 +407,7 @@ module _ (sys : System) (lanes : List (List Rec)) (order : List ℕ) (at : ℕ) 
       serves = λ x. refl;
       stops = refl;
       answered = refl;
+      asked = refl;
       mark = λ w. marks-from w ∙ ap (λ n. mark_or n (shown_from w b)) (marks-now w);
       rise = marks-rise;
       between = λ w. between-one w (old_view.mark w) (new_view.mark w) told_now (marks-from w ∙ ap (λ n. mark_or n (shown_from w b)) (marks-now w)) (marks-rise w);

@@ -10,7 +10,7 @@ use Rattle.qp_model.specs.Told.{Event, ToldItem}
 use Rattle.qp_model.specs.Line.{Line}
 use Rattle.qp_model.specs.History.{all_items, lane_items, total}
 use Rattle.qp_model.specs.Knowing.{event_of_entry, told_lane}
-use Rattle.qp_calls.specs.LaneView.{LaneView, Aside, Purse, Own, Shown, FreeBlocks, References, Counts, NotShown}
+use Rattle.qp_calls.specs.LaneView.{LaneView, Aside, Purse, Own, Shown, FreeBlocks, References, Counts, NotShown, codes_in}
 use Rattle.qp_plain_sound.specs.Log.{lane_of, log_of}
 use Rattle.qp_plain_sound.specs.WordStates.{pool_in, refs_in, line_in}
 use Rattle.qp_plain_sound.specs.Sound.{facts_in, hands_in}
@@ -39,7 +39,8 @@ own_of_line s = record { l = s.l; m = s.m }
 abbrev pub told_aside : System → List (List Rec) → ℕ → List (List ToldItem)
 told_aside sys lanes at = map (λ l. told_lane (facts_in sys lanes) 0 (lane_items l)) (slice_set lanes at [])
 
--- lane `at` of the world: its marks are the numbers of operations so far, and the hands are the world's
+-- Lane `at` of the world: its marks are the numbers of operations so far, and the hands are the world's. `answered` has a 0 for each question that found no
+-- code.
 unfoldable pub view_of : System → List (List Rec) → List ℕ → (at spare by : ℕ) → (stops answered : List ℕ) → List Purse → LaneView
 unfolding told_lane all_items lane_items total shown_in line_in event_in hands_in log_of
 view_of sys lanes order at spare by stops answered purses = record {
@@ -50,7 +51,8 @@ view_of sys lanes order at spare by stops answered purses = record {
   by = by;
   serves = λ o. true;
   stops = stops;
-  answered = answered;
+  answered = codes_in answered;
+  asked = length answered;
   mark = λ w. total w (all_items lanes);
   shown = shown_in sys lanes;
   own = λ a. own_of_line (line_in sys lanes a);

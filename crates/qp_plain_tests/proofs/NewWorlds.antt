@@ -23,6 +23,7 @@ module _ (sys : System) (stimuli : List (List Stim)) (n : ℕ) (plain : PlainWor
           by = v.by;
           stops = v.stops;
           answered = v.answered;
+          asked = v.asked;
           mark = v.mark;
           shown = v.shown;
           own = v.own;

@@ -97,7 +97,7 @@ module _ (sys : System) (budget : ℕ) (d : ObjectDef) (found : object_at sys d.
     home-quiet : HomeEnds sys d budget quiet v.told
     home-quiet =
         subst (λ (e : ObjectDef). HomeEnds sys e budget quiet v.told) is-d
-        (quiet-home sys h.d h.chart budget quiet (v.own h.d.priority) x.looked v.told h.es h.c (home-of sys sound h.d h.chart h.at.found h.at.its) refl h.records)
+        (quiet-home sys h.d h.chart budget quiet (v.own h.d.priority) x.looked v.told h.es h.points h.c (home-of sys sound h.d h.chart h.at.found h.at.its) refl h.records)
 
     rests-with : (e : ObjectDef) → h.d ≡ e → RestsWith sys e h.c v.told
     rests-with e same =

@@ -32,10 +32,10 @@ looks-differ false own xs h = subst (λ x. all_differ x ≡ true) (sym h) refl
 looks-differ true own xs h = subst (λ x. all_differ x ≡ true) (sym h.1) refl
 
 -- It is whole.
-pub quiet-home : (sys : System) (d : ObjectDef) (chart : Chart) (budget end : ℕ) (own : Own) (looked : Bool) (told : List ToldItem) (es : List Entry) (c : Config) → IsHomeOf sys d chart
-    → may_cut end ≡ false → HomeRests sys d chart budget own looked told es c → HomeEnds sys d budget end told
+pub quiet-home : (sys : System) (d : ObjectDef) (chart : Chart) (budget end : ℕ) (own : Own) (looked : Bool) (told : List ToldItem) (es : List Entry) (points : ℕ) (c : Config) → IsHomeOf sys d chart
+    → may_cut end ≡ false → HomeRests sys d chart budget own looked told es points c → HomeEnds sys d budget end told
 unfolding is_home_lane ends_last spents_follow spills_state CutGroups
-quiet-home sys d chart budget end own looked told es c its late rests =
+quiet-home sys d chart budget end own looked told es points c its late rests =
     let lane = rests.0 in
     let whole = rests.1 in
     let items : List Item = untold_all told in

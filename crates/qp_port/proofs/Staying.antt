@@ -24,7 +24,7 @@ use Rattle.qp_port.specs.Workers.{IsSameWorker, MayTurn}
 module _ (sys : System) (sound : IsSound sys) (budget : ℕ) (v w : LaneView) (more : SeenMore v w) where
   rests-stay : (x : Job) → JobRests sys budget x v → JobRests sys budget x w
   rests-stay job.Nothing h = record { told = more.sees.told ∙ h.told; hands = more.sees.hands ∙ h.hands }
-  rests-stay (job.Home x) h = resting-same sys sound budget x v h w more.sees.sys more.sees.told more.same.serves (more.own h.d.priority) more.sees.hands
+  rests-stay (job.Home x) h = resting-same sys sound budget x v h w more.sees.sys more.sees.told more.same.serves (more.own h.d.priority) more.sees.hands more.sees.asked
   rests-stay (job.Source x) h = stay sys x v w h more.sees
 
   stops-stay : (x : Job) → JobStops sys budget x v → JobStops sys budget x w

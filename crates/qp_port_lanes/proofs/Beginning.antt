@@ -1,5 +1,5 @@
 -- The step of an object begins with the entry that its lane has taken.
-use Rattle.std.proofs.Common.{◌≡◌, ℕ, ◌+◌, ◌<◌, true, false, [], ◌∷◌, ◌++◌, map, refl, sym, ◌∙◌, ap, subst, arith, append-nil, length-append}
+use Rattle.std.proofs.Common.{◌≡◌, ℕ, suc, ◌+◌, ◌<◌, ◌≤◌, true, false, [], ◌∷◌, ◌++◌, map, refl, sym, ◌∙◌, ap, subst, arith, append-nil, length-append}
 use Rattle.std.specs.List.{list_all}
 use Rattle.qp_model.specs.declared.systems.System.{System}
 use Rattle.qp_model.specs.Course.{actor}
@@ -29,7 +29,7 @@ use Rattle.qp_port_lanes.proofs.Resting.{home-of, more-own}
 use Rattle.qp_kernel_turns.proofs.Visiting.{taken-alike, event-is, took-ceiling}
 
 module _ (sys : System) (sound : IsSound sys) (budget : ℕ) (x : Home) (v w : LaneView) (e : HeldEntry) (y : Object) (h : IsHome sys budget x v) (few : x.object.taken < budget) (takes : TakesIt x.me e v w)
-    (begins : BeginsStep e x.object y) where
+    (begins : BeginsStep e x.object y) (more : suc (x.object.taken + h.points) ≤ v.asked) where
   abbrev o : ℕ
   o = h.d.priority
 
@@ -78,9 +78,9 @@ module _ (sys : System) (sound : IsSound sys) (budget : ℕ) (x : Home) (v w : L
   told-w : v.told ++ for_object o (told_took takes.f takes.l takes.m (entry_of e) ev) ∷ [] ≡ w.told
   told-w = ap (λ p. v.told ++ for_object p (told_took takes.f takes.l takes.m (entry_of e) ev) ∷ []) (sym h.at.me) ∙ sym takes.adds.grows.told
 
-  records : IsBusy sys h.d h.chart budget (w.own o) false false (v.told ++ for_object o (told_took takes.f takes.l takes.m (entry_of e) ev) ∷ []) (h.es ++ entry_of e ∷ []) ev (entry_of e) (whole_step (actor h.d h.chart) h.c ev) h.c
+  records : IsBusy sys h.d h.chart budget (w.own o) false false (v.told ++ for_object o (told_took takes.f takes.l takes.m (entry_of e) ev) ∷ []) (h.es ++ entry_of e ∷ []) h.points ev (entry_of e) (whole_step (actor h.d h.chart) h.c ev) h.c
   records =
-      home_step_begins sys h.d h.chart budget (v.own o) (w.own o) x.looked v.told h.es h.c takes.f takes.l takes.m (entry_of e) ev (home-of sys sound h.d h.chart h.at.found h.at.its)
+      home_step_begins sys h.d h.chart budget (v.own o) (w.own o) x.looked v.told h.es h.points h.c takes.f takes.l takes.m (entry_of e) ev (home-of sys sound h.d h.chart h.at.found h.at.its)
       (more-own o (for_object x.me (told_took takes.f takes.l takes.m (entry_of e) ev) ∷ []) v w (takes.adds.grows.own o)) (let count = h.taken in omega (arith, few, count)) h.records
 
   pub begun : IsBusyHome sys budget false (record x { object = y; busy = true }) w
@@ -103,6 +103,7 @@ module _ (sys : System) (sound : IsSound sys) (budget : ℕ) (x : Home) (v w : L
       only = only;
     };
     es = h.es ++ entry_of e ∷ [];
+    points = h.points;
     ev = ev;
     e = entry_of e;
     left = whole_step (actor h.d h.chart) h.c ev;
@@ -111,5 +112,6 @@ module _ (sys : System) (sound : IsSound sys) (budget : ℕ) (x : Home) (v w : L
     unseen = not-looked o budget (v.own o) x.looked v.told h.es h.records.0 (let count = h.taken in omega (arith, few, count));
     turn = turn;
     taken = rw begins (ap (λ n. n + 1) h.taken ∙ sym (length-append h.es (entry_of e ∷ [])));
-    records = subst (λ ts. IsBusy sys h.d h.chart budget (w.own o) false false ts (h.es ++ entry_of e ∷ []) ev (entry_of e) (whole_step (actor h.d h.chart) h.c ev) h.c) told-w records;
+    records = subst (λ ts. IsBusy sys h.d h.chart budget (w.own o) false false ts (h.es ++ entry_of e ∷ []) h.points ev (entry_of e) (whole_step (actor h.d h.chart) h.c ev) h.c) told-w records;
+    asked = rw begins (let same = takes.adds.grows.asked in omega (arith, more, same));
   }

@@ -1,5 +1,5 @@
 -- How passing a `settle` ends.
-use Rattle.std.proofs.Common.{◌≡◌, ℕ, ◌+◌, ◌-◌, ◌≤◌, Bool, true, false, List, [], ◌∷◌, ◌++◌, length, map, cond, refl, sym, ◌∙◌, ap, subst, inr, arith, append_assoc}
+use Rattle.std.proofs.Common.{◌≡◌, ℕ, suc, ◌+◌, ◌-◌, ◌≤◌, Bool, true, false, List, [], ◌∷◌, ◌++◌, length, map, cond, refl, sym, ◌∙◌, ap, subst, inr, arith, append_assoc}
 use Rattle.std.specs.List.{AllByRecursion, count_by, filter}
 use Rattle.std.proofs.lemmas.List.{map-append}
 use Rattle.std.proofs.lemmas.List.Sums.{length-filter}
@@ -15,6 +15,7 @@ use Rattle.qp_calls.specs.LaneView.{Grows, GrowsOf, LaneView, Roomier}
 use Rattle.qp_calls.specs.Halting.{HaltsDry, HaltsFull}
 use Rattle.qp_calls.specs.Notes.{spills_told}
 use Rattle.qp_calls_stimulus.specs.Settling.{SeesNone, SeesSome, SettleCut}
+use Rattle.qp_kernel_turns.specs.Halting.{asked_once}
 use Rattle.qp_port_lanes.specs.declared.cursor.Cursor.{Cursor}
 use Rattle.qp_model.specs.Kernels.{sim}
 use Rattle.qp_port_lanes.specs.CursorAt.{IsCursorAt, IsSourceAt, done, mine, tries_in}
@@ -27,7 +28,7 @@ use Rattle.qp_port_lanes.proofs.Tries.{cut-is-plain, plain-seen}
 use Rattle.qp_port_lanes.proofs.Settling.{cut-calm, cut-hands, cut-leaves, settled-at, shows-now, tried-at}
 use Rattle.qp_port_lanes.proofs.Waiting.{full-stops, full-there, starves-there, stops-behind}
 
-clear-room : (v w : LaneView) → Roomier v w → (p : ℕ) → IsClear v p → IsClear w p
+clear-room : (v w : LaneView) → Roomier (asked_once v) w → (p : ℕ) → IsClear v p → IsClear w p
 clear-room v w room p k = record { f = k.f; l = k.l; m = k.m; mark = rw room.same k.mark; shown = rw room.same k.shown; empty = k.empty }
 
 all-clear : (v w : LaneView) → ((p : ℕ) → IsClear v p → IsClear w p) → (os : List ℕ) → AllByRecursion (IsClear v) os → AllByRecursion (IsClear w) os
@@ -45,9 +46,20 @@ settles-some o one =
     omega (arith, count, some)
 
 -- It is under way: looks that added nothing, room, and perhaps the `stim`.
-module _ (sys : System) (x y : Cursor) (v0 v1 v2 w : LaneView) (at : IsCursorAt sys x v0) (glances : Glances v0 v1) (clear : AllByRecursion (IsClear v1) (priorities sys)) (room : Roomier v1 v2) (opens : Opens sys x y v2 w) where
+module _ (sys : System) (x y : Cursor) (v0 v1 v2 w : LaneView) (at : IsCursorAt sys x v0) (glances : Glances v0 v1) (clear : AllByRecursion (IsClear v1) (priorities sys)) (room : Roomier (asked_once v1) v2) (opens : Opens sys x y v2 w) where
   so_far : GoesAlong v0 w
   so_far = along-then v0 v1 w (along-glances v0 v1 glances) (along-then v1 v2 w (along-room v1 v2 room) opens.along)
+
+  -- the question behind the looks is one more than those before
+  asked_more : suc v0.asked ≤ w.asked
+  asked_more = let one = ap (λ r. r.asked) room.same in let two = glances.asked in let three = opens.along.asked in omega (arith, one, two, three)
+
+  few_done : done x ≤ x.begun
+  few_done = by x.settling
+    where
+      by : (b : Bool) → cond b (x.begun - 1) x.begun ≤ x.begun
+      by true = omega arith
+      by false = omega arith
 
   still_clear : AllByRecursion (IsClear w) (priorities sys)
   still_clear = all-clear v1 w (λ p k. opens.clear p (clear-room v1 v2 room p k)) (priorities sys) clear
@@ -79,6 +91,7 @@ module _ (sys : System) (x y : Cursor) (v0 v1 v2 w : LaneView) (at : IsCursorAt 
             there = at.there;
             begun = λ e. absurd (cc);
             at = settled-at sys (mine x) (done x) w opens.here u seen;
+            asked = let few = few_done in let more = asked_more in let had = at.asked in let last = seen.grows.asked in omega (arith, few, more, had, last);
           };
           stim = refl;
           source = refl;
@@ -112,6 +125,7 @@ module _ (sys : System) (x y : Cursor) (v0 v1 v2 w : LaneView) (at : IsCursorAt 
             there = at.there;
             begun = λ e. omega arith;
             at = subst (λ n. IsSourceAt sys (mine x) n true u) (sym same-count) (tried-at sys (mine x) (done x) w opens.here u h.0 still_clear);
+            asked = let few = few_done in let more = asked_more in let had = at.asked in let last = h.0.grows.asked in omega (arith, few, more, had, last);
           };
           stim = refl;
           source = refl;

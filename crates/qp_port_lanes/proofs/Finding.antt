@@ -1,5 +1,5 @@
 -- No look of a call showed an entry.
-use Rattle.std.proofs.Common.{◌≡◌, ℕ, ◌+◌, ◌==◌, Bool, true, false, ◌&&◌, List, [], ◌∷◌, ◌++◌, map, length, refl, sym, ◌∙◌, ap, subst, inl, inr, arith, append-nil, append_assoc}
+use Rattle.std.proofs.Common.{◌≡◌, ℕ, suc, ◌+◌, ◌==◌, Bool, true, false, ◌&&◌, List, [], ◌∷◌, ◌++◌, map, length, refl, sym, ◌∙◌, ap, subst, inl, inr, arith, append-nil, append_assoc}
 use Rattle.std.specs.Prelude.{⊤}
 use Rattle.std.specs.List.{AllByRecursion, list_any}
 use Rattle.std.proofs.lemmas.Bool.{or_parts, or_right}
@@ -13,7 +13,7 @@ use Rattle.qp_model.specs.Kernels.{sim}
 use Rattle.qp_model.specs.Sources.{SeesEmpty, Settles, Tries, priorities}
 use Rattle.qp_calls.specs.LaneView.{GrowsOf, LaneView, mark_after, mark_by}
 use Rattle.qp_calls.specs.Halting.{HaltsDry, HaltsFull}
-use Rattle.qp_kernel_turns.specs.Halting.{FindsStop}
+use Rattle.qp_kernel_turns.specs.Halting.{FindsStop, asked_once}
 use Rattle.qp_model_order.specs.SourceRun.{untold_all}
 use Rattle.qp_port_lanes.specs.CursorAt.{tries_in}
 use Rattle.qp_port_lanes.specs.Passing.{FindsNone, Glances, IsClear, IsSeenClear, shows_empty}
@@ -53,6 +53,15 @@ finds-glanced sys v u g clear = record {
   clear = all-of (IsClear u) (IsSeenClear u []) (λ p k. inl k) (priorities sys) clear;
 }
 
+-- and a question in vain behind them
+pub finds-once : (sys : System) (v u : LaneView) → FindsNone sys v u → FindsNone sys v (asked_once u)
+finds-once sys v u h = record {
+  ts = h.ts;
+  told = h.told;
+  none = h.none;
+  clear = all-of (IsSeenClear u h.ts) (IsSeenClear (asked_once u) h.ts) (λ p k. seen-same u (asked_once u) h.ts p refl refl k) (priorities sys) h.clear;
+}
+
 -- The lane stops.
 
 pub finds-stopped : (sys : System) (v u w : LaneView) → FindsNone sys v u → FindsStop u w → FindsNone sys v w
@@ -60,7 +69,7 @@ finds-stopped sys v u w h f = rw f.answered (record {
   ts = h.ts;
   told = h.told;
   none = h.none;
-  clear = all-of (IsSeenClear u h.ts) (IsSeenClear (record u { answered = f.code ∷ u.answered }) h.ts) (λ p k. seen-same u (record u { answered = f.code ∷ u.answered }) h.ts p refl refl k) (priorities sys) h.clear;
+  clear = all-of (IsSeenClear u h.ts) (IsSeenClear (record u { answered = f.code ∷ u.answered; asked = suc u.asked }) h.ts) (λ p k. seen-same u (record u { answered = f.code ∷ u.answered; asked = suc u.asked }) h.ts p refl refl k) (priorities sys) h.clear;
 })
 
 pub finds-dry : (sys : System) (v u w : LaneView) → FindsNone sys v u → HaltsDry u w → FindsNone sys v w

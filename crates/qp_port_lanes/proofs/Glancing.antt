@@ -47,6 +47,7 @@ glances-none v = record {
   hands = refl;
   stops = refl;
   answered = refl;
+  asked = refl;
   keeps = record { sys = refl; lane = refl; world = refl; plan = refl; happened = refl; serves = λ o. refl; advances = advances-none v };
 }
 
@@ -61,6 +62,7 @@ glances-then u v w p c a h =
       hands = h.0.hands ∙ a.hands;
       stops = h.0.stops ∙ a.stops;
       answered = h.0.answered ∙ a.answered;
+      asked = h.0.asked ∙ a.asked;
       keeps = record {
         sys = h.0.sys ∙ a.keeps.sys;
         lane = h.0.lane ∙ a.keeps.lane;

@@ -18,6 +18,7 @@ mod Settling
 mod Ending
 mod Nexts
 pub mod Standing
+mod Asking
 pub mod Seeing
 pub mod Hearing
 pub mod Feeding

@@ -12,7 +12,7 @@ use Rattle.qp_calls.specs.LaneView.{GrowsOf, LaneView, Roomier}
 use Rattle.qp_kernel.specs.Turning.{seen_told, spill_told}
 use Rattle.qp_kernel_turns.specs.declared.halting.Halt.{Halt}
 use Rattle.qp_kernel_turns.specs.declared.halting.Halt.TheVariants as halt
-use Rattle.qp_kernel_turns.specs.Halting.{TurnHalts}
+use Rattle.qp_kernel_turns.specs.Halting.{TurnHalts, asked_once}
 use Rattle.qp_port_law.specs.HomeLanes.{looks_in, nils_in}
 use Rattle.qp_port_law.proofs.HomeRecords.{AreInside, inside-looks, inside-nils, looks-append, nils-append, of_it}
 use Rattle.qp_port_lanes.specs.Turning.{NeverEmpty, is_entry}
@@ -20,7 +20,7 @@ use Rattle.qp_port_lanes.specs.Turning.{NeverEmpty, is_entry}
 pub never-same : (v w : LaneView) → w.told ≡ v.told → NeverEmpty v w
 never-same v w same = record { ts = []; told = same ∙ sym (append-nil v.told); nils = refl; looks = refl }
 
-pub never-room : (v w : LaneView) → Roomier v w → NeverEmpty v w
+pub never-room : (v w : LaneView) → Roomier (asked_once v) w → NeverEmpty v w
 never-room v w room = never-same v w (ap (λ u. u.told) room.same)
 
 pub never-then : (u v w : LaneView) → NeverEmpty u v → NeverEmpty v w → NeverEmpty u w

@@ -1,5 +1,5 @@
 -- An object at rest: its queue is found empty, or its lane ends.
-use Rattle.std.proofs.Common.{◌≡◌, ℕ, ◌+◌, ◌<◌, ◌≤◌, ◌==◌, nat_le, Bool, true, false, ◌&&◌, List, [], ◌∷◌, ◌++◌, length, refl, sym, ◌∙◌, ap, subst, inl, inr, Some, arith, append-nil, append_assoc, cond, IsTrue}
+use Rattle.std.proofs.Common.{◌≡◌, ℕ, suc, ◌+◌, ◌<◌, ◌≤◌, ◌==◌, nat_le, Bool, true, false, ◌&&◌, List, [], ◌∷◌, ◌++◌, length, refl, sym, ◌∙◌, ap, subst, inl, inr, Some, arith, append-nil, append_assoc, cond, IsTrue}
 use Rattle.std.specs.Bool.{MatchBool}
 use Rattle.std.proofs.lemmas.Bool.{and_parts}
 use Rattle.std.proofs.lemmas.Bool.Decides.{nat_tests}
@@ -33,7 +33,7 @@ use Rattle.qp_kernel.specs.ZeroEnds.{own_told}
 use Rattle.qp_port_law.specs.Homes.{HomeEnds}
 use Rattle.qp_kernel_turns.specs.declared.halting.Halt.{Halt}
 use Rattle.qp_kernel_turns.specs.declared.halting.Halt.TheVariants as halt
-use Rattle.qp_kernel_turns.specs.Halting.{TurnHalts}
+use Rattle.qp_kernel_turns.specs.Halting.{TurnHalts, asked_once}
 use Rattle.qp_kernel_turns.proofs.Resting.{PassBy, pass-both, pass-kernel}
 use Rattle.qp_kernel_turns.proofs.SoundObjects.{able, numbered}
 use Rattle.qp_kernel_turns.proofs.Taking.{seen-mark_own, nil-mark_own}
@@ -58,7 +58,7 @@ unfolding is_object
 object-in sys d chart x v w at of = rw (of, at.lane, at.me, at.found) refl
 
 -- and of a lane with more room
-pub object-room : (sys : System) (d : ObjectDef) (chart : Chart) (x : Home) (v w : LaneView) → IsIn sys d chart x v → Roomier v w → IsTrue (is_object w.sys x.me)
+pub object-room : (sys : System) (d : ObjectDef) (chart : Chart) (x : Home) (v w : LaneView) → IsIn sys d chart x v → Roomier (asked_once v) w → IsTrue (is_object w.sys x.me)
 object-room sys d chart x v w at room = object-in sys d chart x v w at (ap (λ u. u.sys) room.same)
 
 -- what shows the same counts is these counts
@@ -117,9 +117,9 @@ module _ (sys : System) (sound : IsSound sys) (budget : ℕ) (x : Home) (v : Lan
 
   -- At rest again.
 
-  resting : (looked : Bool) (w : LaneView) → w.sys ≡ v.sys → ((o : ℕ) → w.serves o ≡ v.serves o) → w.hands ≡ v.hands → ceiling_in 0 w.told ≡ ceiling_in 0 v.told → spills_told w.told ≡ false
-      → HomeRests sys h.d h.chart budget (w.own h.d.priority) looked w.told h.es h.c → IsHome sys budget (record x { looked = looked }) w
-  resting looked w of serves hands ceiling spills records = record {
+  abbrev resting : (looked : Bool) (w : LaneView) → w.sys ≡ v.sys → ((o : ℕ) → w.serves o ≡ v.serves o) → w.hands ≡ v.hands → ceiling_in 0 w.told ≡ ceiling_in 0 v.told → spills_told w.told ≡ false → v.asked ≤ w.asked
+      → HomeRests sys h.d h.chart budget (w.own h.d.priority) looked w.told h.es h.points h.c → IsHome sys budget (record x { looked = looked }) w
+  resting looked w of serves hands ceiling spills more records = record {
     d = h.d;
     chart = h.chart;
     at = record {
@@ -138,28 +138,37 @@ module _ (sys : System) (sound : IsSound sys) (budget : ℕ) (x : Home) (v : Lan
       only = λ t. ap (count_of t) hands ∙ h.at.only t;
     };
     es = h.es;
+    points = h.points;
     c = h.c;
     calm = h.calm;
     rest = record { started = h.rest.started; between = h.rest.between; config = h.rest.config; few = h.rest.few };
     taken = h.taken;
     records = records;
+    asked = let had = h.asked in omega (arith, had, more);
   }
 
-  -- no record came
-  pub resting-same : (w : LaneView) → w.sys ≡ v.sys → w.told ≡ v.told → ((o : ℕ) → w.serves o ≡ v.serves o) → w.own h.d.priority ≡ v.own h.d.priority → w.hands ≡ v.hands → IsHome sys budget x w
-  resting-same w of told serves own hands =
-      resting x.looked w of serves hands (ap (ceiling_in 0) told) (ap spills_told told ∙ h.at.spills)
-      (subst (λ o. HomeRests sys h.d h.chart budget o x.looked w.told h.es h.c) (sym own) (subst (λ ts. HomeRests sys h.d h.chart budget (v.own h.d.priority) x.looked ts h.es h.c) (sym told) h.records))
+  room-asked : (w : LaneView) → Roomier (asked_once v) w → v.asked ≤ w.asked
+  room-asked w room = let one = ap (λ u. u.asked) room.same in omega (arith, one)
 
-  pub resting-room : (w : LaneView) → Roomier v w → IsHome sys budget x w
-  resting-room w room = resting-same w (ap (λ u. u.sys) room.same) (ap (λ u. u.told) room.same) (λ o. ap (λ u. u.serves o) room.same) (ap (λ u. u.own h.d.priority) room.same) (ap (λ u. u.hands) room.same)
+  -- no record came
+  abbrev pub resting-same : (w : LaneView) → w.sys ≡ v.sys → w.told ≡ v.told → ((o : ℕ) → w.serves o ≡ v.serves o) → w.own h.d.priority ≡ v.own h.d.priority → w.hands ≡ v.hands → v.asked ≤ w.asked → IsHome sys budget x w
+  resting-same w of told serves own hands more =
+      resting x.looked w of serves hands (ap (ceiling_in 0) told) (ap spills_told told ∙ h.at.spills) more
+      (subst (λ o. HomeRests sys h.d h.chart budget o x.looked w.told h.es h.points h.c) (sym own) (subst (λ ts. HomeRests sys h.d h.chart budget (v.own h.d.priority) x.looked ts h.es h.points h.c) (sym told) h.records))
+
+  abbrev pub resting-room : (w : LaneView) → Roomier (asked_once v) w → IsHome sys budget x w
+  resting-room w room = resting-same w (ap (λ u. u.sys) room.same) (ap (λ u. u.told) room.same) (λ o. ap (λ u. u.serves o) room.same) (ap (λ u. u.own h.d.priority) room.same) (ap (λ u. u.hands) room.same) (room-asked w room)
+
+  -- the question is one more than those before
+  pub room-more : (w : LaneView) → Roomier (asked_once v) w → suc (x.object.taken + h.points) ≤ w.asked
+  room-more w room = let one = ap (λ u. u.asked) room.same in let had = h.asked in omega (arith, one, had)
 
   -- one record came, which changes nothing for the object
-  resting-behind : (looked : Bool) (t : ToldItem) (w : LaneView) → IsQuiet t → Gains (t ∷ []) v w → HomeRests sys h.d h.chart budget (w.own h.d.priority) looked (v.told ++ t ∷ []) h.es h.c
+  resting-behind : (looked : Bool) (t : ToldItem) (w : LaneView) → IsQuiet t → Gains (t ∷ []) v w → HomeRests sys h.d h.chart budget (w.own h.d.priority) looked (v.told ++ t ∷ []) h.es h.points h.c
       → IsHome sys budget (record x { looked = looked }) w
   resting-behind looked t w quiet g records =
       resting looked w g.sys g.serves (quiet.hands v w g) (ap (ceiling_in 0) g.told ∙ ceiling-append 0 v.told (t ∷ []) ∙ quiet.ceiling (ceiling_in 0 v.told))
-      (subst (λ ts. spills_told ts ≡ false) (sym g.told) (quiet.spills v.told h.at.spills)) (subst (λ ts. HomeRests sys h.d h.chart budget (w.own h.d.priority) looked ts h.es h.c) (sym g.told) records)
+      (subst (λ ts. spills_told ts ≡ false) (sym g.told) (quiet.spills v.told h.at.spills)) (let same = g.asked in omega (arith, same)) (subst (λ ts. HomeRests sys h.d h.chart budget (w.own h.d.priority) looked ts h.es h.points h.c) (sym g.told) records)
 
   -- The queue is found empty.
 
@@ -168,13 +177,13 @@ module _ (sys : System) (sound : IsSound sys) (budget : ℕ) (x : Home) (v : Lan
 
   looked-at : (f l m : ℕ) (w : LaneView) → Looks (word.Queue x.me) (f + l + m) (shown.Counts f l m) v w → f + l ≡ m → m ≡ (w.own x.me).m → (x.looked ≡ false → last_nil x.me NotShown v.told ≡ shown.Counts f l m) → HomeIdles sys budget x w
   looked-at f l m w looks empty own told = record {
-    home = resting-same w looks.sys looks.told looks.serves (looks.own h.d.priority) looks.hands;
+    home = resting-same w looks.sys looks.told looks.serves (looks.own h.d.priority) looks.hands (let same = looks.asked in omega (arith, same));
     empty = record { f = f; l = l; m = m; says = looks.says; none = empty; mark = looks.here; own = sym own };
     told = λ unseen. ap (last_nil x.me NotShown) looks.told ∙ told unseen;
   }
 
   pub counts-home : (w : LaneView) (c : counts.Counts) → Counted x.me v w c → IsHome sys budget x w
-  counts-home w c looks = resting-same w looks.0.sys looks.0.told looks.0.serves (looks.0.own h.d.priority) looks.0.hands
+  counts-home w c looks = resting-same w looks.0.sys looks.0.told looks.0.serves (looks.0.own h.d.priority) looks.0.hands (let same = looks.0.asked in omega (arith, same))
 
   pub counts-idles : (w : LaneView) (c : counts.Counts) → Counted x.me v w c → x.looked ≡ true → c.f + c.l ≤ c.m → HomeIdles sys budget x w
   counts-idles w c looks seen none =
@@ -206,10 +215,10 @@ module _ (sys : System) (sound : IsSound sys) (budget : ℕ) (x : Home) (v : Lan
     pub seen-idles : x.looked ≡ false → budget ≤ x.object.taken → c.f + c.l ≤ c.m → HomeIdles sys budget (record x { looked = true }) w
     seen-idles unseen full none = record {
       home = resting-behind true (seen_told x.me c.f c.l c.m) w (seen-quiet x.me c.f c.l c.m) sees.0.grows
-          (subst (λ o. HomeRests sys h.d h.chart budget o true (v.told ++ seen_told x.me c.f c.l c.m ∷ []) h.es h.c) (sym (sees.0.grows.own h.d.priority ∙ seen-own x.me h.d.priority c.f c.l c.m (v.own h.d.priority)))
-          (subst (λ p. HomeRests sys h.d h.chart budget (v.own h.d.priority) true (v.told ++ seen_told p c.f c.l c.m ∷ []) h.es h.c) (sym h.at.me)
-          (look_is_told sys h.d h.chart budget (v.own h.d.priority) v.told h.es h.c c.f c.l c.m its is-l is-m empty (is-full full)
-          (subst (λ b. HomeRests sys h.d h.chart budget (v.own h.d.priority) b v.told h.es h.c) unseen h.records))));
+          (subst (λ o. HomeRests sys h.d h.chart budget o true (v.told ++ seen_told x.me c.f c.l c.m ∷ []) h.es h.points h.c) (sym (sees.0.grows.own h.d.priority ∙ seen-own x.me h.d.priority c.f c.l c.m (v.own h.d.priority)))
+          (subst (λ p. HomeRests sys h.d h.chart budget (v.own h.d.priority) true (v.told ++ seen_told p c.f c.l c.m ∷ []) h.es h.points h.c) (sym h.at.me)
+          (look_is_told sys h.d h.chart budget (v.own h.d.priority) v.told h.es h.points h.c c.f c.l c.m its is-l is-m empty (is-full full)
+          (subst (λ b. HomeRests sys h.d h.chart budget (v.own h.d.priority) b v.told h.es h.points h.c) unseen h.records))));
       empty = record { f = c.f; l = c.l; m = c.m; says = sees.1.says; none = empty; mark = sees.0.grows.mark (word.Queue x.me) ∙ seen-mark_own x.me (v.mark (word.Queue x.me)) c.f c.l c.m; own = sym is-own.1 };
       told = λ wrong. absurd (cc);
     }
@@ -230,9 +239,9 @@ module _ (sys : System) (sound : IsSound sys) (budget : ℕ) (x : Home) (v : Lan
           let is-m : m ≡ (v.own h.d.priority).m = mine.1 ∙ ap (λ o. o.m) own ∙ ap (λ p. (v.own p).m) h.at.me in
           record {
             home = resting-behind x.looked (for_object x.me (plain (body.Nil f l m))) w (nil-quiet x.me f l m) adds.grows
-                (subst (λ o. HomeRests sys h.d h.chart budget o x.looked (v.told ++ for_object x.me (plain (body.Nil f l m)) ∷ []) h.es h.c) (sym (adds.grows.own h.d.priority ∙ nil-own x.me h.d.priority f l m (v.own h.d.priority)))
-                (subst (λ p. HomeRests sys h.d h.chart budget (v.own h.d.priority) x.looked (v.told ++ for_object p (plain (body.Nil f l m)) ∷ []) h.es h.c) (sym h.at.me)
-                (nil_is_told sys h.d h.chart budget (v.own h.d.priority) x.looked v.told h.es h.c f l m its is-l is-m t.empty (subst (λ p. same_counts (last_nil p NotShown v.told) f l m ≡ false) h.at.me is) h.records)));
+                (subst (λ o. HomeRests sys h.d h.chart budget o x.looked (v.told ++ for_object x.me (plain (body.Nil f l m)) ∷ []) h.es h.points h.c) (sym (adds.grows.own h.d.priority ∙ nil-own x.me h.d.priority f l m (v.own h.d.priority)))
+                (subst (λ p. HomeRests sys h.d h.chart budget (v.own h.d.priority) x.looked (v.told ++ for_object p (plain (body.Nil f l m)) ∷ []) h.es h.points h.c) (sym h.at.me)
+                (nil_is_told sys h.d h.chart budget (v.own h.d.priority) x.looked v.told h.es h.points h.c f l m its is-l is-m t.empty (subst (λ p. same_counts (last_nil p NotShown v.told) f l m ≡ false) h.at.me is) h.records)));
             empty = record { f = f; l = l; m = m; says = t.shows.says; none = t.empty; mark = adds.grows.mark (word.Queue x.me) ∙ nil-mark_own x.me (v.mark (word.Queue x.me)) f l m; own = sym mine.1 };
             told = λ unseen. ap (last_nil x.me NotShown) adds.grows.told ∙ nil-last x.me f l m v.told;
           }
@@ -250,7 +259,7 @@ module _ (sys : System) (sound : IsSound sys) (budget : ℕ) (x : Home) (v : Lan
         (subst (λ i. CourseLeaves sys h.d i (own_told h.d.priority w.told) (config_of y.object.lasting)) here
         (subst (λ us. CourseLeaves sys h.d h.chart (own_told h.d.priority us) (config_of y.object.lasting)) (sym told)
         (subst (CourseLeaves sys h.d h.chart (own_told h.d.priority (v.told ++ ts))) (h.rest.config ∙ ap (λ o. config_of o.lasting) (sym same))
-        (resting_home_leaves sys h.d h.chart budget (v.own h.d.priority) x.looked v.told ts h.es h.c h.records pass))));
+        (resting_home_leaves sys h.d h.chart budget (v.own h.d.priority) x.looked v.told ts h.es h.points h.c h.records pass))));
   }
     where
       is-d : (d : ObjectDef) → object_at sys x.me ≡ Some d → h.d ≡ d
@@ -260,12 +269,12 @@ module _ (sys : System) (sound : IsSound sys) (budget : ℕ) (x : Home) (v : Lan
   pub stops-found : (w : LaneView) → w.told ≡ v.told → HomeStops sys budget x.me x w
   stops-found w same =
       stops-with x w [] refl (same ∙ sym (append-nil v.told)) refl
-      (λ end early. subst (HomeEnds sys h.d budget end) (sym (append-nil v.told)) (resting_home_ends sys h.d h.chart budget end (v.own h.d.priority) x.looked v.told h.es h.c its early h.records))
+      (λ end early. subst (HomeEnds sys h.d budget end) (sym (append-nil v.told)) (resting_home_ends sys h.d h.chart budget end (v.own h.d.priority) x.looked v.told h.es h.points h.c its early h.records))
 
   pub stops-full : (w : LaneView) → 999992 < length v.told → w.told ≡ v.told ++ spill_told (length v.told) ∷ [] → HomeStops sys budget x.me x w
   stops-full w many told =
       stops-with x w (spill_told (length v.told) ∷ []) refl told (pass-kernel h.d.priority (plain (body.Spill (length v.told))) its.some)
-      (λ end early. full_home_ends sys h.d h.chart budget end (v.own h.d.priority) x.looked v.told h.es h.c (length v.told) its early h.records refl many)
+      (λ end early. full_home_ends sys h.d h.chart budget end (v.own h.d.priority) x.looked v.told h.es h.points h.c (length v.told) its early h.records refl many)
 
   pub halts : (w : LaneView) (e : Halt) → TurnHalts v w e → HomeHalts sys budget x.me x w e
   halts w halt.Memory e = tt
@@ -279,7 +288,7 @@ module _ (sys : System) (sound : IsSound sys) (budget : ℕ) (x : Home) (v : Lan
       (ap (λ u. u.told) stops ∙ spent.told ∙ ap (λ ts. ts ++ for_object x.me (plain body.Spent) ∷ []) (told-seen w1 c sees) ∙ ap (λ p. (v.told ++ seen_told h.d.priority c.f c.l c.m ∷ []) ++ for_object p (plain body.Spent) ∷ []) h.at.me
       ∙ append_assoc v.told (seen_told h.d.priority c.f c.l c.m ∷ []) (for_object h.d.priority (plain body.Spent) ∷ []))
       (pass-both h.d.priority (seen_told h.d.priority c.f c.l c.m ∷ []) (for_object h.d.priority (plain body.Spent) ∷ []) (pass-kernel h.d.priority (plain (body.Seen h.d.priority c.f c.l c.m)) its.some) (pass-spent h.d.priority h.d.priority))
-      (λ end early. spent_home_ends sys h.d h.chart budget end (v.own h.d.priority) x.looked v.told h.es h.c c.f c.l c.m its early h.records (is-l w1 c sees) (is-m w1 c sees) some (is-full full))
+      (λ end early. spent_home_ends sys h.d h.chart budget end (v.own h.d.priority) x.looked v.told h.es h.points h.c c.f c.l c.m its early h.records (is-l w1 c sees) (is-m w1 c sees) some (is-full full))
 
   -- a look that adds nothing showed an entry
   pub counts-entry : (w : LaneView) (c : counts.Counts) → Counted x.me v w c → c.m < c.f + c.l → KnowsEntry x.me w

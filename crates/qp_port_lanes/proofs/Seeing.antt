@@ -1,5 +1,5 @@
 -- A lane that has only seen more: one that met another, looked at counts or asked whether it was stopped.
-use Rattle.std.proofs.Common.{◌≡◌, ℕ, ◌≤◌, List, ◌∷◌, length, refl, ap, arith, Option, Some, None}
+use Rattle.std.proofs.Common.{◌≡◌, ℕ, suc, ◌≤◌, List, ◌∷◌, length, ap, arith, Option, Some, None}
 use Rattle.qp_model.specs.declared.words.Word.TheVariants as word
 use Rattle.qp_calls.specs.declared.answers.Counts as counts
 use Rattle.qp_calls.specs.Clauses.{Counted, Stopped}
@@ -27,6 +27,7 @@ seen-met v u w h = record {
     hands = ap (λ x. x.hands) h.same;
     rise = λ p. let most = h.mark (word.Queue p) in omega (arith, most);
     shown = λ p. h.own (word.Queue p);
+    asked = let same = ap (λ x. x.asked) h.same in omega (arith, same);
   };
   same = record {
     sys = ap (λ x. x.sys) h.same;
@@ -51,6 +52,7 @@ seen-counted p v w c h = record {
     hands = h.0.hands;
     rise = λ q. looks-rise (word.Queue p) _ _ v w h.0 (word.Queue q);
     shown = λ q. h.0.shown (word.Queue q);
+    asked = let same = h.0.asked in omega (arith, same);
   };
   same = record { sys = h.0.sys; lane = h.0.lane; world = h.0.world; plan = h.0.plan; happened = h.0.happened; serves = h.0.serves; advances = advances-looks _ _ _ v w h.0 };
   own = h.0.own;
@@ -58,7 +60,7 @@ seen-counted p v w c h = record {
   heard = let same = ap length h.0.answered in omega (arith, same);
 }
 
-seen-answered : (v w : LaneView) (codes : List ℕ) → w ≡ record v { answered = codes } → length v.answered ≤ length codes → SeenMore v w
+seen-answered : (v w : LaneView) (codes : List ℕ) → w ≡ record v { answered = codes; asked = suc v.asked } → length v.answered ≤ length codes → SeenMore v w
 seen-answered v w codes e more = record {
   sees = record {
     sys = ap (λ x. x.sys) e;
@@ -67,6 +69,7 @@ seen-answered v w codes e more = record {
     hands = ap (λ x. x.hands) e;
     rise = λ p. let same = ap (λ x. x.mark (word.Queue p)) e in omega (arith, same);
     shown = λ p still. ap (λ x. x.shown (word.Queue p)) e;
+    asked = let one = ap (λ x. x.asked) e in omega (arith, one);
   };
   same = record {
     sys = ap (λ x. x.sys) e;

@@ -46,10 +46,11 @@ new-stand sys x v none of new = record {
   at =
       subst (λ b. IsSourceAt sys (mine x) (cond b (x.begun - 1) x.begun) b v) (sym none.settling)
       (subst (λ n. IsSourceAt sys (mine x) n false v) (sym none.begun) (source-new sys (mine x) v of new));
+  asked = let begun = none.begun in omega (arith, begun);
 }
 
 pub stay : CursorsStay
-stay sys x v w at more = record { fits = at.fits; some = at.some; there = at.there; begun = at.begun; at = here }
+stay sys x v w at more = record { fits = at.fits; some = at.some; there = at.there; begun = at.begun; at = here; asked = let had = at.asked in let up = more.asked in omega (arith, had, up) }
   where
     here : IsSourceAt sys (mine x) (done x) x.settling w
     here = record {

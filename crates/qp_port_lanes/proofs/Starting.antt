@@ -150,13 +150,15 @@ module _ (sys : System) (sound : IsSound sys) (x : Home) (v : LaneView) (made : 
       only = λ n. ap (λ u. count_of n u.hands) w-is ∙ only n;
     };
     es = [];
+    points = 0;
     c = config_of y.lasting;
     calm = made.calm;
     rest = record { started = ap (λ z. z.started) same; between = between; config = refl; few = t.few };
     taken = ap (λ z. z.taken) same ∙ made.object.made.taken;
-    records = subst (λ b. HomeRests sys d chart budget (w.own d.priority) b w.told [] (config_of y.lasting)) (sym made.unseen)
-        (subst (λ ts. HomeRests sys d chart budget (w.own d.priority) false ts [] (config_of y.lasting)) (sym (ap (λ u. u.told) w-is ∙ grown t.g mid t.grows))
+    records = subst (λ b. HomeRests sys d chart budget (w.own d.priority) b w.told [] 0 (config_of y.lasting)) (sym made.unseen)
+        (subst (λ ts. HomeRests sys d chart budget (w.own d.priority) false ts [] 0 (config_of y.lasting)) (sym (ap (λ u. u.told) w-is ∙ grown t.g mid t.grows))
         (home_starts sys d chart budget (w.own d.priority) t.g (config_of y.lasting) its (starts-as (tell t.g) (Some (config_of y.lasting)) t.starts)));
+    asked = let none : y.taken ≡ 0 = ap (λ z. z.taken) same ∙ made.object.made.taken in omega (arith, none);
   }
     where
       between : y.stage ≡ standing.Between

@@ -1,5 +1,5 @@
 -- The step of an object goes on: to its next scheduling point, to its end, or to the end of its lane.
-use Rattle.std.proofs.Common.{◌≡◌, ℕ, ◌+◌, ◌≤◌, Bool, true, false, List, [], ◌∷◌, ◌++◌, map, length, refl, sym, ◌∙◌, ap, subst, inl, inr, Some, None, arith, append_assoc, append-nil}
+use Rattle.std.proofs.Common.{◌≡◌, ℕ, suc, ◌+◌, ◌≤◌, Bool, true, false, List, [], ◌∷◌, ◌++◌, map, length, refl, sym, ◌∙◌, ap, subst, inl, inr, Some, None, arith, append_assoc, append-nil}
 use Rattle.std.specs.List.{list_all}
 use Rattle.qp_model.specs.declared.systems.System.{System}
 use Rattle.qp_model.specs.declared.systems.ObjectDef.{ObjectDef}
@@ -58,13 +58,13 @@ use Rattle.std.proofs.lemmas.List.{length-map}
 use Rattle.std.proofs.Common.{length-append}
 
 -- the run stops while the step waits
-pub stops-waiting : (sys : System) (sound : IsSound sys) (budget : ℕ) (x : Home) (v w : LaneView) (code : ℕ) → IsBusyHome sys budget true x v → w ≡ record v { answered = code ∷ v.answered } → HomeStops sys budget x.me x w
+pub stops-waiting : (sys : System) (sound : IsSound sys) (budget : ℕ) (x : Home) (v w : LaneView) (code : ℕ) → IsBusyHome sys budget true x v → w ≡ record v { answered = code ∷ v.answered; asked = suc v.asked } → HomeStops sys budget x.me x w
 stops-waiting sys sound budget x v w code h finds = record {
   ends = λ d found end early.
       let is : h.d ≡ d = some-same (sym (ap (object_at sys) h.at.me ∙ h.at.found) ∙ found) in
       subst (λ (e : ObjectDef). HomeEnds sys e budget end w.told) is
       (subst (HomeEnds sys h.d budget end) (sym (ap (λ u. u.told) finds))
-      (waiting_home_ends sys h.d h.chart budget end (v.own h.d.priority) false v.told h.es h.ev h.e h.left h.c (home-of sys sound h.d h.chart h.at.found h.at.its) early h.records));
+      (waiting_home_ends sys h.d h.chart budget end (v.own h.d.priority) false v.told h.es h.points h.ev h.e h.left h.c (home-of sys sound h.d h.chart h.at.found h.at.its) early h.records));
   rests = λ d chart found is started calm. let wrong : true ≡ false = sym h.busy ∙ calm in absurd (cc);
 }
 
@@ -147,6 +147,9 @@ module _ (sys : System) (sound : IsSound sys) (budget : ℕ) (waits : Bool) (x :
     told-w : v.told ++ map (for_object o) g ≡ w.told
     told-w = sym (ap (λ u. u.told) w-is ∙ grown g mid grows)
 
+    asked-w : x.object.taken + h.points ≤ v.asked → y.taken + h.points ≤ w.asked
+    asked-w free = let a = ap (λ u. u.asked) w-is in let b = grows.asked in let c = ap (λ z. z.taken) same in omega (arith, free, a, b, c)
+
     sys-w : w.sys ≡ sys
     sys-w = ap (λ u. u.sys) w-is ∙ grows.sys ∙ h.at.lane
 
@@ -208,17 +211,18 @@ module _ (sys : System) (sound : IsSound sys) (budget : ℕ) (waits : Bool) (x :
       config = refl;
     })
 
-    records-point : IsBusy sys h.d h.chart budget (w.own o) false true (v.told ++ map (for_object o) t.g) h.es h.ev h.e due (config_of y.lasting)
+    records-point : IsBusy sys h.d h.chart budget (w.own o) false true (v.told ++ map (for_object o) t.g) h.es (suc h.points) h.ev h.e due (config_of y.lasting)
     records-point =
-        home_step_pauses sys h.d h.chart budget (v.own o) (w.own o) waits v.told h.es h.ev h.e h.left due h.c (config_of y.lasting) t.g its (more-w level y mid w w-is same t.g t.grows)
+        home_step_pauses sys h.d h.chart budget (v.own o) (w.own o) waits v.told h.es h.points h.ev h.e h.left due h.c (config_of y.lasting) t.g its (more-w level y mid w w-is same t.g t.grows)
         (as-known (λ s a ev e left c. Advances s a ev e left c (tell t.g ++ Point ∷ []) due (config_of y.lasting)) t.advances) ready-due h.records
 
-    pub pauses : IsBusyHome sys budget true (record x { object = y; ceiling = level }) w
-    pauses = record {
+    pub pauses : x.object.taken + h.points ≤ v.asked → IsBusyHome sys budget true (record x { object = y; ceiling = level }) w
+    pauses free = record {
       d = h.d;
       chart = h.chart;
       at = is-in level y mid w w-is same t.g t.grows x.busy t.room named-point t.lane.told t.lane.spills t.hands;
       es = h.es;
+      points = suc h.points;
       ev = h.ev;
       e = h.e;
       left = due;
@@ -227,7 +231,8 @@ module _ (sys : System) (sound : IsSound sys) (budget : ℕ) (waits : Bool) (x :
       unseen = h.unseen;
       turn = subst (λ s. IsInTurn s h.ev h.e due (config_of y.lasting) y w) (sym (ap (home_of sys h.chart) same)) turn-point;
       taken = ap (λ z. z.taken) same ∙ h.taken;
-      records = subst (λ ts. IsBusy sys h.d h.chart budget (w.own o) false true ts h.es h.ev h.e due (config_of y.lasting)) (told-w level y mid w w-is same t.g t.grows) records-point;
+      records = subst (λ ts. IsBusy sys h.d h.chart budget (w.own o) false true ts h.es (suc h.points) h.ev h.e due (config_of y.lasting)) (told-w level y mid w w-is same t.g t.grows) records-point;
+      asked = let kept = asked-w level y mid w w-is same t.g t.grows free in omega (arith, kept);
     }
 
   -- To its end.
@@ -242,23 +247,25 @@ module _ (sys : System) (sound : IsSound sys) (budget : ℕ) (waits : Bool) (x :
         subst (λ z. list_all (is_named sys) (held_in y.lasting z) ≡ true) (sym between)
         (subst (λ es. list_all (is_named sys) es ≡ true) (sym (append-nil y.lasting.list.entries.items)) (subst (λ z. list_all (is_named z) y.lasting.list.entries.items ≡ true) (t.grows.sys ∙ h.at.lane) t.stand.named))
 
-    records-end : HomeRests sys h.d h.chart budget (w.own o) false (v.told ++ map (for_object o) t.g) h.es (config_of y.lasting)
+    records-end : HomeRests sys h.d h.chart budget (w.own o) false (v.told ++ map (for_object o) t.g) h.es h.points (config_of y.lasting)
     records-end =
-        home_step_ends sys h.d h.chart budget (v.own o) (w.own o) waits v.told h.es h.ev h.e h.left h.c (config_of y.lasting) t.g its (more-w level y mid w w-is same t.g t.grows)
+        home_step_ends sys h.d h.chart budget (v.own o) (w.own o) waits v.told h.es h.points h.ev h.e h.left h.c (config_of y.lasting) t.g its (more-w level y mid w w-is same t.g t.grows)
         (as-known (λ s a ev e left c. StepGoesOn s a ev e left c (tell t.g) (Some (config_of y.lasting))) t.goes) h.records
 
-    pub done : IsHome sys budget (record x { object = y; ceiling = level; busy = false }) w
-    done = record {
+    pub done : x.object.taken + h.points ≤ v.asked → IsHome sys budget (record x { object = y; ceiling = level; busy = false }) w
+    done free = record {
       d = h.d;
       chart = h.chart;
       at = is-in level y mid w w-is same t.g t.grows false t.room named-end t.lane.told t.lane.spills alike-end;
       es = h.es;
+      points = h.points;
       c = config_of y.lasting;
       calm = refl;
       rest = record { started = ap (λ z. z.started) same ∙ h.turn.started; between = between; config = refl; few = t.few };
       taken = ap (λ z. z.taken) same ∙ h.taken;
-      records = subst (λ b. HomeRests sys h.d h.chart budget (w.own o) b w.told h.es (config_of y.lasting)) (sym h.unseen)
-          (subst (λ ts. HomeRests sys h.d h.chart budget (w.own o) false ts h.es (config_of y.lasting)) (told-w level y mid w w-is same t.g t.grows) records-end);
+      records = subst (λ b. HomeRests sys h.d h.chart budget (w.own o) b w.told h.es h.points (config_of y.lasting)) (sym h.unseen)
+          (subst (λ ts. HomeRests sys h.d h.chart budget (w.own o) false ts h.es h.points (config_of y.lasting)) (told-w level y mid w w-is same t.g t.grows) records-end);
+      asked = asked-w level y mid w w-is same t.g t.grows free;
     }
 
   -- To the end of its lane.
@@ -274,14 +281,14 @@ module _ (sys : System) (sound : IsSound sys) (budget : ℕ) (waits : Bool) (x :
   asserts : (y : Object) (level : ℕ) (mid w : LaneView) → w ≡ works_for v.by mid → EndsAsserted home k st y.lasting y.stage V mid → HomeStops sys budget x.me (record x { object = y; ceiling = level }) w
   asserts y level mid w w-is a =
       stops-with y level w (v.told ++ map (for_object o) a.g) (ap (λ u. u.told) w-is ∙ ap (λ u. u.told) a.stops ∙ grown a.g a.mid a.grows)
-      (λ end early. home_step_fails sys h.d h.chart budget end (v.own o) false waits v.told h.es h.ev h.e h.left h.c a.g its early h.records (as-known (λ s a1 ev e left c. StepGoesOn s a1 ev e left c (tell a.g) None) a.goes))
+      (λ end early. home_step_fails sys h.d h.chart budget end (v.own o) false waits v.told h.es h.points h.ev h.e h.left h.c a.g its early h.records (as-known (λ s a1 ev e left c. StepGoesOn s a1 ev e left c (tell a.g) None) a.goes))
 
   spills : (y : Object) (level : ℕ) (mid w : LaneView) → w ≡ works_for v.by mid → EndsSpilled home k st y.lasting y.stage V mid → HomeStops sys budget x.me (record x { object = y; ceiling = level }) w
   spills y level mid w w-is b =
       stops-with y level w (v.told ++ (map (for_object o) b.g ++ spill_told (length b.mid.told) ∷ []))
       (ap (λ u. u.told) w-is ∙ ap (λ u. u.told) b.stops ∙ b.spills.told ∙ ap (λ ts. ts ++ spill_told (length b.mid.told) ∷ []) (grown b.g b.mid b.grows) ∙ append_assoc v.told (map (for_object o) b.g) (spill_told (length b.mid.told) ∷ []))
       (λ end early.
-      home_step_is_cut sys h.d h.chart budget end (v.own o) false waits v.told h.es h.ev h.e h.left h.c b.g (length b.mid.told) b.begins.0 b.begins.1 its early h.records
+      home_step_is_cut sys h.d h.chart budget end (v.own o) false waits v.told h.es h.points h.ev h.e h.left h.c b.g (length b.mid.told) b.begins.0 b.begins.1 its early h.records
       (cut-calm sys (actor h.d h.chart) h.ev h.e h.left h.c h.records.1.ready.closing b.g b.begins.0 b.begins.1 b.begins.3 goes) goes
       (ap length (grown b.g b.mid b.grows) ∙ length-append v.told (map (for_object o) b.g) ∙ ap (λ i. length v.told + i) (length-map b.g (for_object o))) b.few)
     where
@@ -306,7 +313,7 @@ module _ (sys : System) (sound : IsSound sys) (budget : ℕ) (waits : Bool) (x :
       by : (answer : Step) (mid : LaneView) → ResumesAs (Some h.chart) sys x.ceiling level x.object y V mid answer → w ≡ works_for v.by mid → NeverEmpty v w
       by step.Point mid (same, t) is =
           never-inside o t.g v w (ap (λ u. u.told) is ∙ grown t.g mid t.grows)
-          (point-inside sys h.d h.chart its.some waits v.told h.es h.ev h.e h.left h.c h.records.1 (due level y mid w is same t) (config_of y.lasting) t.g
+          (point-inside sys h.d h.chart its.some waits v.told h.es h.points h.ev h.e h.left h.c h.records.1 (due level y mid w is same t) (config_of y.lasting) t.g
           (as-known (λ s a ev e left c. Advances s a ev e left c (tell t.g ++ Point ∷ []) (due level y mid w is same t) (config_of y.lasting)) t.advances) (ready-due level y mid w is same t)).0
       by step.Done mid (same, t) is =
           never-inside o t.1.g v w (ap (λ u. u.told) is ∙ grown t.1.g mid t.1.grows)
@@ -330,12 +337,12 @@ module _ (sys : System) (sound : IsSound sys) (budget : ℕ) (waits : Bool) (x :
   AfterStep level y w step.Stopped = HomeStops sys budget x.me (record x { object = y; ceiling = level }) w
   AfterStep level y w step.Memory = Unit {0}
 
-  pub after-step : (level : ℕ) (y : Object) (w : LaneView) (answer : Step) → ObjectResumes sys x.ceiling level x.object y v w answer → AfterStep level y w answer
-  after-step level y w answer r = by answer r.0 (subst (λ c. ResumesAs c sys x.ceiling level x.object y V r.0 answer) has-chart r.1) r.2
+  pub after-step : x.object.taken + h.points ≤ v.asked → (level : ℕ) (y : Object) (w : LaneView) (answer : Step) → ObjectResumes sys x.ceiling level x.object y v w answer → AfterStep level y w answer
+  after-step free level y w answer r = by answer r.0 (subst (λ c. ResumesAs c sys x.ceiling level x.object y V r.0 answer) has-chart r.1) r.2
     where
       by : (answer : Step) (mid : LaneView) → ResumesAs (Some h.chart) sys x.ceiling level x.object y V mid answer → w ≡ works_for v.by mid → AfterStep level y w answer
-      by step.Point mid (same, t) is = pauses level y mid w is same t
-      by step.Done mid (same, t) is = done level y mid w is same t.1 t.0
+      by step.Point mid (same, t) is = pauses level y mid w is same t free
+      by step.Done mid (same, t) is = done level y mid w is same t.1 t.0 free
       by step.Stopped mid (same, inl a) is = asserts y level mid w is a
       by step.Stopped mid (same, inr b) is = spills y level mid w is b
       by step.Memory mid (same, t) is = tt
@@ -351,7 +358,7 @@ module _ (sys : System) (sound : IsSound sys) (budget : ℕ) (waits : Bool) (x :
       by : (answer : Step) (mid : LaneView) → ResumesAs (Some h.chart) sys x.ceiling level x.object y V mid answer → w ≡ works_for v.by mid → AddsNoTake v.told w.told
       by step.Point mid (same, t) is =
           inside-takes t.g mid w.told (ap (λ u. u.told) is) t.grows
-          (point-inside sys h.d h.chart its.some waits v.told h.es h.ev h.e h.left h.c h.records.1 (due level y mid w is same t) (config_of y.lasting) t.g
+          (point-inside sys h.d h.chart its.some waits v.told h.es h.points h.ev h.e h.left h.c h.records.1 (due level y mid w is same t) (config_of y.lasting) t.g
           (as-known (λ s a ev e left c. Advances s a ev e left c (tell t.g ++ Point ∷ []) (due level y mid w is same t) (config_of y.lasting)) t.advances) (ready-due level y mid w is same t)).0
       by step.Done mid (same, t) is =
           inside-takes t.1.g mid w.told (ap (λ u. u.told) is) t.1.grows

@@ -162,7 +162,7 @@ module _ (sys : System) (x : Cursor) (v : LaneView) (at : IsCursorAt sys x v) (c
         by turn.Idle k = absurd k
         by u k = its-end u k
 
-    pub finds-stop : (code : ℕ) (w : LaneView) → w ≡ record v { answered = code ∷ v.answered } → SourceStops sys x x v w
+    pub finds-stop : (code : ℕ) (w : LaneView) → w ≡ record v { answered = code ∷ v.answered; asked = suc v.asked } → SourceStops sys x x v w
     finds-stop code w e = record {
       leaves = λ kernel end try early. elsewhere sys (mine x) x.begun v w here s s lt is kernel end try early (ap (λ u. u.told) e);
       why = inr (record { found = rw e (omega arith); stops = ap (λ u. u.stops) e });
@@ -172,8 +172,8 @@ module _ (sys : System) (x : Cursor) (v : LaneView) (at : IsCursorAt sys x v) (c
     }
 
     module _ (place : ℕ) (next : place ≡ x.begun + 1) (w : LaneView) where
-      pub goes-on : (s ≡ stim.Settle → ⊥) → Happens sys s place 0 v w → DoesNext sys x (record x { begun = place }) v w None
-      goes-on other h =
+      pub goes-on : (s ≡ stim.Settle → ⊥) → place ≤ v.asked → Happens sys s place 0 v w → DoesNext sys x (record x { begun = place }) v w None
+      goes-on other more h =
           let h2 = subst (λ p. Happens sys s p 0 v w) next h in
           let gone = went sys (mine x) x.begun v w here s s lt is h2 in
           let g : GrowsOf 0 (begun place 0 h.one) v w = subst (λ o. GrowsOf o (begun place 0 h.one) v w) here.none h.grows in
@@ -185,6 +185,7 @@ module _ (sys : System) (x : Cursor) (v : LaneView) (at : IsCursorAt sys x v) (c
                 there = at.there;
                 begun = λ e. absurd (let wrong : true ≡ false = sym e ∙ calm in cc);
                 at = subst (λ b. IsSourceAt sys (mine x) (cond b (place - 1) place) b w) (sym calm) (subst (λ p. IsSourceAt sys (mine x) p false w) (sym next) gone);
+                asked = let same = g.asked in omega (arith, more, same);
               };
               stim = refl;
               source = refl;

@@ -1,5 +1,5 @@
 -- Where a source stands at a `settle`, and stays there.
-use Rattle.std.proofs.Common.{◌≡◌, ◌⊎◌, ℕ, ◌+◌, ◌-◌, ◌<◌, ◌==◌, Bool, true, false, ◌||◌, List, [], ◌∷◌, ◌++◌, length, take, drop, cond, refl, sym, ◌∙◌, ap, subst, inl, inr, arith, append-nil, append_assoc}
+use Rattle.std.proofs.Common.{◌≡◌, ◌⊎◌, ℕ, ◌+◌, ◌-◌, ◌<◌, ◌==◌, ◌&&◌, Bool, true, false, ◌||◌, List, [], ◌∷◌, ◌++◌, length, take, drop, cond, refl, sym, ◌∙◌, ap, subst, inl, inr, arith, append-nil, append_assoc}
 use Rattle.std.specs.List.{list_all, list_any, AllByRecursion}
 use Rattle.std.proofs.lemmas.List.{length-take-le, take-append-drop}
 use Rattle.qp_model.specs.declared.stimulus.Stim.{Stim}
@@ -13,7 +13,8 @@ use Rattle.qp_model.specs.Kernels.{may_try}
 use Rattle.qp_model.specs.Ends.{is_end, may_cut}
 use Rattle.qp_model.specs.Sources.{SourceEnd, SourceRuns, AfterTry, BeforeStimulus, EndsIn, none_twice, may_end, priorities}
 use Rattle.qp_calls.specs.declared.answers.Counts as counts
-use Rattle.qp_calls.specs.LaneView.{LaneView}
+use Rattle.qp_calls.specs.LaneView.{LaneView, is_codeless, no_code}
+use Rattle.qp_kernel.specs.Interrupting.{is_unset}
 use Rattle.qp_calls.proofs.Advancing.{advances-none}
 use Rattle.qp_calls.specs.Notes.{last_code}
 use Rattle.qp_calls.specs.Tokens.{hands_after, hands_by}
@@ -24,7 +25,7 @@ use Rattle.qp_model_order.proofs.SourceLemmas.{runs-append, runs-before}
 use Rattle.qp_port_law.specs.SourcesLeft.{SourceLeaves}
 use Rattle.qp_kernel_turns.specs.declared.halting.Halt.{Halt}
 use Rattle.qp_kernel_turns.specs.declared.halting.Halt.TheVariants as halt
-use Rattle.qp_kernel_turns.specs.Halting.{FindsStop, TurnHalts}
+use Rattle.qp_kernel_turns.specs.Halting.{FindsStop, TurnHalts, asked_once}
 use Rattle.qp_port_lanes.specs.declared.cursor.Cursor.{Cursor}
 use Rattle.qp_port_lanes.specs.CursorAt.{IsKnownTry, IsSourceAt, IsCursorAt, tries_in, mine, done, at_settle_in, begins_settle}
 use Rattle.qp_port_lanes.specs.SourceTurning.{SourceStarves, SourceStops}
@@ -32,8 +33,8 @@ use Rattle.qp_port_lanes.specs.Passing.{FindsEntry, FindsNone, Glances, GoesAlon
 use Rattle.qp_port_lanes.proofs.Leaving.{Calm, still, full-lane, alone-append, no-look}
 use Rattle.qp_port_lanes.proofs.Going.{known-later, done-at, same-gains, same-stops}
 use Rattle.qp_port_lanes.proofs.Turned.{handed, same-then, spill-code}
-use Rattle.qp_port_lanes.proofs.Along.{along-glances}
-use Rattle.qp_port_lanes.proofs.Finding.{finds-dry, finds-full, finds-glanced, finds-stopped}
+use Rattle.qp_port_lanes.proofs.Along.{along-glances, along-once, along-then}
+use Rattle.qp_port_lanes.proofs.Finding.{finds-dry, finds-full, finds-glanced, finds-once, finds-stopped}
 
 -- looks that add nothing keep what is known of the lane
 pub source-glanced : (sys : System) (ss : List Stim) (n : ℕ) (b : Bool) (v w : LaneView) → IsSourceAt sys ss n b v → Glances v w → IsSourceAt sys ss n b w
@@ -54,7 +55,7 @@ source-glanced sys ss n b v w at g = record {
 }
 
 pub cursor-glanced : (sys : System) (x : Cursor) (v w : LaneView) → IsCursorAt sys x v → Glances v w → IsCursorAt sys x w
-cursor-glanced sys x v w at g = record { fits = at.fits; some = at.some; there = at.there; begun = at.begun; at = source-glanced sys (mine x) (done x) x.settling v w at.at g }
+cursor-glanced sys x v w at g = record { fits = at.fits; some = at.some; there = at.there; begun = at.begun; at = source-glanced sys (mine x) (done x) x.settling v w at.at g; asked = let had = at.asked in let same = g.asked in omega (arith, had, same) }
 
 -- a look found an entry
 pub found-here : (sys : System) (x : Cursor) (v w : LaneView) (p : ℕ) (c : counts.Counts) → IsCursorAt sys x v → at_settle_in x ≡ true → Glances v w → ShowsEntry sys p c w → FindsEntry sys p c x x v w
@@ -196,7 +197,11 @@ halts-stop sys x v u w h at stands g clear is halts = by (subst (TurnHalts u w) 
     here : MayStopAt sys (mine x) u
     here = may-stop-at sys x u (cursor-glanced sys x v u at g) stands
 
-    by : FindsStop u w ⊎ HaltsFull u w → StopsThere sys x x v w
+    -- behind the question
+    once : GoesAlong v (asked_once u)
+    once = along-then v u (asked_once u) so_far (along-once u)
+
+    by : FindsStop u w ⊎ HaltsFull (asked_once u) w → StopsThere sys x x v w
     by (inl f) = record {
       stops = stops-behind sys x v u w so_far
           (record {
@@ -211,9 +216,22 @@ halts-stop sys x v u w h at stands g clear is halts = by (subst (TurnHalts u w) 
       finds = finds-stopped sys v u w none f;
     }
     by (inr f) =
-        full-there sys x x v u w so_far none f refl
-        (stops-behind sys x v u w so_far
-        (full-stops sys x u w (λ kernel end may early. stops-full sys (mine x) (done x) u here.stop here.may_stop here.calm here.runs w kernel end may early f) f))
+        full-there sys x x v (asked_once u) w once (finds-once sys v u none) f refl
+        (stops-behind sys x v (asked_once u) w once
+        (full-stops sys x (asked_once u) w (λ kernel end may early. stops-full sys (mine x) (done x) (asked_once u) here.stop here.may_stop here.calm here.runs w kernel end may early f) f))
 
 pub halts-starve : (sys : System) (x : Cursor) (v u w : LaneView) (h : Halt) → Glances v u → AllByRecursion (IsClear u) (priorities sys) → h ≡ halt.Memory → TurnHalts u w h → StarvesThere sys x x v w
-halts-starve sys x v u w h g clear is halts = starves-there sys x x v u w (along-glances v u g) (finds-glanced sys v u g clear) (subst (TurnHalts u w) is halts) refl
+halts-starve sys x v u w h g clear is halts =
+    starves-there sys x x v (asked_once u) w (along-then v u (asked_once u) (along-glances v u g) (along-once u)) (finds-once sys v u (finds-glanced sys v u g clear)) (subst (TurnHalts u w) is halts) refl
+
+-- The stop word was found unset behind looks that add nothing.
+left-two : (a b c : Bool) → (a && b && c) ≡ true → (a && b) ≡ true
+left-two true true c h = refl
+left-two true false c h = h
+left-two false b c h = h
+
+pub unset-before : (v u : LaneView) → Glances v u → is_unset u ≡ true → (no_code v.stops && no_code v.answered) ≡ true
+unset-before v u glances unset =
+    ap (λ c. no_code c && no_code v.answered) (sym glances.stops)
+    ∙ ap (λ c. no_code u.stops && no_code c) (sym glances.answered)
+    ∙ left-two (no_code u.stops) (no_code u.answered) (list_all is_codeless u.aside.purses) unset

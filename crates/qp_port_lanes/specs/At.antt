@@ -1,5 +1,5 @@
 -- Where an object that has a lane of its own is: before its start, between two turns, and within a step.
-use Rattle.std.specs.Prelude.{◌≡◌, ℕ, Bool, true, false, List, [], length, Some}
+use Rattle.std.specs.Prelude.{◌≡◌, ℕ, ◌+◌, ◌≤◌, Bool, true, false, List, [], length, Some}
 use Rattle.std.specs.List.{list_all}
 use Rattle.qp_chart.specs.declared.checked.Chart.{Chart}
 use Rattle.qp_model.specs.declared.systems.System.{System}
@@ -53,17 +53,25 @@ pub record IsIn (sys : System) (d : ObjectDef) (chart : Chart) (x : Home) (v : L
   pub spills : spills_told v.told ≡ false
   pub only : (t : Token) → count_of t v.hands ≡ own_count t x.object
 
--- the object rests, and whole groups stand in its lane
+-- The object rests, and whole groups stand in its lane. The lane has looked at the stop word once for each entry that was taken, and once for each
+-- scheduling point, or more often.
 pub record IsHome (sys : System) (budget : ℕ) (x : Home) (v : LaneView) : Type 0 where
   pub d : ObjectDef
   pub chart : Chart
   pub at : IsIn sys d chart x v
   pub es : List Entry
+  pub points : ℕ
   pub c : Config
   pub calm : x.busy ≡ false
   pub rest : IsAtRest c x.object
   pub taken : x.object.taken ≡ length es
-  pub records : HomeRests sys d chart budget (v.own d.priority) x.looked v.told es c
+  pub records : HomeRests sys d chart budget (v.own d.priority) x.looked v.told es points c
+  pub asked : x.object.taken + points ≤ v.asked
+
+-- at a scheduling point a look at the stop word is owed
+abbrev pub owed : Bool → ℕ
+owed true = 1
+owed false = 0
 
 -- a step is under way; `waits` tells that it waits at a scheduling point
 pub record IsBusyHome (sys : System) (budget : ℕ) (waits : Bool) (x : Home) (v : LaneView) : Type 0 where
@@ -71,6 +79,7 @@ pub record IsBusyHome (sys : System) (budget : ℕ) (waits : Bool) (x : Home) (v
   pub chart : Chart
   pub at : IsIn sys d chart x v
   pub es : List Entry
+  pub points : ℕ
   pub ev : Event
   pub e : Entry
   pub left : Remainder
@@ -79,4 +88,5 @@ pub record IsBusyHome (sys : System) (budget : ℕ) (waits : Bool) (x : Home) (v
   pub unseen : x.looked ≡ false
   pub turn : IsInTurn (home_of sys chart x.object) ev e left c x.object v
   pub taken : x.object.taken ≡ length es
-  pub records : IsBusy sys d chart budget (v.own d.priority) false waits v.told es ev e left c
+  pub records : IsBusy sys d chart budget (v.own d.priority) false waits v.told es points ev e left c
+  pub asked : x.object.taken + points ≤ v.asked + owed waits

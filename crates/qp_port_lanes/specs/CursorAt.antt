@@ -75,10 +75,11 @@ at_settle_in x = x.settling || begins_settle (drop x.begun (mine x))
 abbrev pub left_in : Cursor → Bool
 left_in x = x.settling || is_some_left (drop x.begun (mine x))
 
--- a source of the stimuli, in a lane that is where the cursor is
+-- A source of the stimuli, in a lane that is where the cursor is. The lane has looked at the stop word once for each stimulus that was begun, or more often.
 pub record IsCursorAt (sys : System) (x : Cursor) (v : LaneView) : Type 0 where
   pub fits : StimuliFit sys x.stim.now
   pub some : 0 < x.source
   pub there : x.source ≤ length x.stim.now
   pub begun : x.settling ≡ true → 0 < x.begun
   pub at : IsSourceAt sys (mine x) (done x) x.settling v
+  pub asked : x.begun ≤ v.asked

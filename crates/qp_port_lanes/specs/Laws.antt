@@ -22,7 +22,7 @@ pub record HasBegunNothing (sys : System) (x : Cursor) : Type 0 where
 abbrev pub NewCursorsStand : Type 0
 NewCursorsStand = (sys : System) (x : Cursor) (v : LaneView) → HasBegunNothing sys x → v.sys ≡ sys → IsNew v → IsCursorAt sys x v
 
--- nothing changed but what the lane has seen, and of queues it has seen no less
+-- nothing changed but what the lane has seen and how often it asked, and of queues it has seen no less
 pub record SeesMore (v w : LaneView) : Type 0 where
   pub sys : w.sys ≡ v.sys
   pub told : w.told ≡ v.told
@@ -30,6 +30,7 @@ pub record SeesMore (v w : LaneView) : Type 0 where
   pub hands : w.hands ≡ v.hands
   pub rise : (p : ℕ) → v.mark (word.Queue p) ≤ w.mark (word.Queue p)
   pub shown : (p : ℕ) → w.mark (word.Queue p) ≡ v.mark (word.Queue p) → w.shown (word.Queue p) ≡ v.shown (word.Queue p)
+  pub asked : v.asked ≤ w.asked
 
 -- so the cursor stands there as well
 abbrev pub CursorsStay : Type 0

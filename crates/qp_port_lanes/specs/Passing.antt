@@ -17,7 +17,7 @@ use Rattle.qp_model.specs.Ends.{is_end}
 use Rattle.qp_model.specs.Lawful.{is_settle}
 use Rattle.qp_model.specs.WordLaw.{is_object}
 use Rattle.qp_calls.specs.declared.answers.Counts as counts
-use Rattle.qp_calls.specs.LaneView.{LaneView, Counts}
+use Rattle.qp_calls.specs.LaneView.{LaneView, Counts, no_code}
 use Rattle.qp_model_order.specs.SourceRun.{untold_all}
 use Rattle.qp_kernel_turns.specs.Lanes.{SameLane}
 use Rattle.qp_port_lanes.specs.declared.cursor.Cursor.{Cursor}
@@ -36,6 +36,7 @@ pub record Glances (v w : LaneView) : Type 0 where
   pub hands : w.hands ≡ v.hands
   pub stops : w.stops ≡ v.stops
   pub answered : w.answered ≡ v.answered
+  pub asked : w.asked ≡ v.asked
   pub keeps : SameLane v w
 
 -- the lane has seen the queue of p empty
@@ -65,6 +66,7 @@ pub record GoesAlong (v w : LaneView) : Type 0 where
   pub hands : w.hands ≡ v.hands
   pub stops : w.stops ≡ v.stops
   pub answered : w.answered ≡ v.answered
+  pub asked : v.asked ≤ w.asked
   pub keeps : SameLane v w
 
 -- A source's lane within a `settle`: whole stimuli, the `stim` of the `settle`, and so many tries of it.
@@ -173,3 +175,10 @@ Passes sys x y v w passed.Yes = HasPassed sys x y v w
 Passes sys x y v w (passed.Found p now) = FindsEntry sys p now x y v w
 Passes sys x y v w passed.Stopped = StopsThere sys x y v w
 Passes sys x y v w passed.Memory = StarvesThere sys x y v w
+
+-- No `settle` is passed but where the stop word was found unset by the lane, behind the looks that add nothing. The lane had handed in no code and found none.
+abbrev pub PassesUnset : LaneView → Passed → Type 0
+PassesUnset v passed.Yes = (no_code v.stops && no_code v.answered) ≡ true
+PassesUnset v (passed.Found p now) = Unit {0}
+PassesUnset v passed.Stopped = Unit {0}
+PassesUnset v passed.Memory = Unit {0}

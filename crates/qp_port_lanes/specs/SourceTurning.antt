@@ -13,6 +13,7 @@ use Rattle.qp_port_law.specs.SourcesLeft.{SourceLeaves}
 use Rattle.qp_port_lanes.specs.declared.cursor.Cursor.{Cursor}
 use Rattle.qp_calls_stimulus.specs.declared.doing.Stimulated.TheVariants as stimulated
 use Rattle.qp_calls_stimulus.specs.Stimulating.{Stimulates}
+use Rattle.qp_kernel.specs.Interrupting.{is_unset}
 use Rattle.qp_kernel_turns.specs.Halting.{FindsStop}
 use Rattle.qp_kernel_turns.specs.Lanes.{HandsCode, HasFound, SameLane}
 use Rattle.qp_port_lanes.specs.CursorAt.{IsCursorAt, mine, at_settle_in, begins_settle, left_in}
@@ -98,3 +99,8 @@ DoesNext sys x y v w (Some t) = SourceTurns sys x y v w t
 abbrev pub NextBreaks : System → Cursor → Cursor → LaneView → LaneView → Option Turn → Type 0
 NextBreaks sys x y v w None = Unit {0}
 NextBreaks sys x y v w (Some t) = UnlessIdle sys x y v w t
+
+-- No stimulus more is done but where the stop word was found unset first.
+abbrev pub UnsetNext : LaneView → Option Turn → Type 0
+UnsetNext v None = is_unset v ≡ true
+UnsetNext v (Some t) = Unit {0}

@@ -18,6 +18,7 @@ use Rattle.qp_dispatch.specs.declared.objects.Turn.TheVariants as turn
 use Rattle.qp_dispatch.specs.declared.steps.Step.{Step}
 use Rattle.qp_dispatch.specs.declared.steps.Step.TheVariants as step
 use Rattle.qp_dispatch.specs.Lasts.{config_of}
+use Rattle.qp_kernel.specs.Interrupting.{is_unset}
 use Rattle.qp_kernel.specs.ZeroEnds.{own_told}
 use Rattle.qp_kernel_turns.specs.declared.halting.Halt.{Halt}
 use Rattle.qp_kernel_turns.specs.declared.halting.Halt.TheVariants as halt
@@ -77,6 +78,11 @@ abbrev pub NextTo : System → ℕ → ℕ → Home → LaneView → Result Bool
 NextTo sys budget me y w (Ok true) = IsBusyHome sys budget false y w
 NextTo sys budget me y w (Ok false) = HomeIdles sys budget y w
 NextTo sys budget me y w (Err h) = HomeHalts sys budget me y w h
+
+-- No step begins, and no turn is over, but where the stop word was found unset first.
+abbrev pub UnsetFirst : LaneView → Result Bool Halt → Type 0
+UnsetFirst v (Ok b) = is_unset v ≡ true
+UnsetFirst v (Err h) = Unit {0}
 
 -- the step is done
 abbrev pub StepsTo : System → ℕ → ℕ → Home → LaneView → Result (Unit {0}) Halt → Type 0

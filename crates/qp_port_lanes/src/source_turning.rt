@@ -3,7 +3,7 @@
 ghost use Rattle.std.specs.Prelude.{◌≡◌, ◌<◌};
 ghost use Rattle.qp_model.specs.Sound.{IsSound};
 ghost use Rattle.qp_port_lanes.specs.CursorAt.{IsCursorAt};
-ghost use Rattle.qp_port_lanes.specs.SourceTurning.{DoesNext, IsSameSource, NextBreaks, SourceTurns, UnlessIdle};
+ghost use Rattle.qp_port_lanes.specs.SourceTurning.{DoesNext, IsSameSource, NextBreaks, SourceTurns, UnlessIdle, UnsetNext};
 
 use crate::cursor::Cursor;
 use qp_base::{Steps, Tells};
@@ -27,6 +27,7 @@ fn do_next<O: Ops, G: Tells, L: Ledger>(
     ensures does { DoesNext sys.now source.old source.new (O.lane ops.old) (O.lane ops.new) result }
     ensures breaks { NextBreaks sys.now source.old source.new (O.lane ops.old) (O.lane ops.new) result }
     ensures same { IsSameSource source.old source.new }
+    ensures unset { UnsetNext (O.lane ops.old) result }
 {
     if source.settling {
         return Some(Turn::Idle);

@@ -5,7 +5,7 @@ ghost use Rattle.qp_model.specs.Sound.{IsSound};
 ghost use Rattle.qp_kernel_turns.specs.Lanes.{LaneTo, LaneTurns};
 ghost use Rattle.qp_port_lanes.specs.At.{IsBusyHome, IsHome};
 ghost use Rattle.qp_port_lanes.specs.Takes.{BeginTakes, FinishTakes, LookTakes};
-ghost use Rattle.qp_port_lanes.specs.Turning.{HomeTurns, LooksTo, NeverEmpty, NextTo, StaysEmpty, StepsTo, UnlessFound, UnlessIdle, UnlessOver};
+ghost use Rattle.qp_port_lanes.specs.Turning.{HomeTurns, LooksTo, NeverEmpty, NextTo, StaysEmpty, StepsTo, UnlessFound, UnlessIdle, UnlessOver, UnsetFirst};
 
 use crate::home::Home;
 use qp_base::Tells;
@@ -73,6 +73,7 @@ pub fn begin_step<R: Wait, O: Ops, G: Tells>(
     requires knows { IsHome sys.now budget home.old (O.lane ops.old) }
     ensures goes { NextTo sys.now budget home.old.me home.new (O.lane ops.new) result }
     ensures never { UnlessOver (O.lane ops.old) (O.lane ops.new) result }
+    ensures unset { UnsetFirst (O.lane ops.old) result }
     ensures lane { LaneTo false (O.lane ops.old) (O.lane ops.new) result }
     ensures same { home.new.me ≡ home.old.me }
     ensures takes { BeginTakes home.old home.new (O.lane ops.old).told (O.lane ops.new).told result }

@@ -278,7 +278,7 @@ module _ (sys : System) (d : ObjectDef) (chart : Chart) (some : 0 < d.priority) 
 
   module _ (own : Own) (looked : Bool) (told : List ToldItem) (es : List Entry) (lane : IsHomeLane d.priority budget own looked told es) where
     -- The object rests, and its lane stops.
-    module _ (c : Config) (whole : IsWholeHome sys d chart told es c) where
+    module _ (points : ℕ) (c : Config) (whole : IsWholeHome sys d chart told es points c) where
       follows : FollowsTo sys d Stopped whole.ps
       follows =
           follows-waiting sys d chart its able false es whole.ps (stage.Resting c)
@@ -356,7 +356,7 @@ module _ (sys : System) (d : ObjectDef) (chart : Chart) (some : 0 < d.priority) 
           own_last = rw ((other-zero d.priority some).1, self) refl
 
     -- A step is under way.
-    module _ (waits : Bool) (ev : Event) (e : Entry) (left : Remainder) (c : Config) (part : IsPartHome sys d chart waits told es ev e left c) where
+    module _ (waits : Bool) (points : ℕ) (ev : Event) (e : Entry) (left : Remainder) (c : Config) (part : IsPartHome sys d chart waits told es points ev e left c) where
       -- It ends in its assertion.
       pub step-fails : (g : List Told) → StepGoesOn sys (actor d chart) ev e left c (tell g) None → HomeEnds sys d budget end (told ++ of_it d.priority g)
       unfolding StepShape
@@ -364,13 +364,13 @@ module _ (sys : System) (d : ObjectDef) (chart : Chart) (some : 0 < d.priority) 
           let form = failed-form sys (actor d chart) ev e left c part.ready.closing d.priority g goes in
           let inside = own-inside g form.own in
           let broken : BrokenStep sys d.priority (records_in part.step ++ g) =
-          subst (BrokenStep sys d.priority) (step-bare sys d chart some waits told es ev e left c part g) (step-shape sys (actor d chart) e part.first (part.step ++ tell g) None (part.goes (tell g) None goes)) in
+          subst (BrokenStep sys d.priority) (step-bare sys d chart some waits told es points ev e left c part g) (step-shape sys (actor d chart) e part.first (part.step ++ tell g) None (part.goes (tell g) None goes)) in
           ends-stopped sys d budget own looked told es lane end early (of_it d.priority g) (last-failed sys d budget own looked told es lane end early g form)
-          (inr (subst (ObjectGroups sys d.priority true true) (sym (part-groups sys d chart some waits told es ev e left c part g ∙ append_assoc part.whole.start part.whole.turns (records_in part.step ++ g)))
+          (inr (subst (ObjectGroups sys d.priority true true) (sym (part-groups sys d chart some waits told es points ev e left c part g ∙ append_assoc part.whole.start part.whole.turns (records_in part.step ++ g)))
           (groups-of sys d.priority true true part.whole.start part.whole.turns (records_in part.step ++ g) part.whole.begins part.whole.goes (BreaksStep refl broken))))
           (part.whole.ps ++ (part.step ++ tell g))
-          (course-bare sys d chart some waits told es ev e left c part g ∙ sym (part-own sys d chart some waits told es ev e left c part g inside))
-          (follows-stopped sys d chart its es (part.whole.ps ++ (part.step ++ tell g)) None (course-goes sys d chart some waits told es ev e left c part (tell g) None goes))
+          (course-bare sys d chart some waits told es points ev e left c part g ∙ sym (part-own sys d chart some waits told es points ev e left c part g inside))
+          (follows-stopped sys d chart its es (part.whole.ps ++ (part.step ++ tell g)) None (course-goes sys d chart some waits told es points ev e left c part (tell g) None goes))
 
       -- It is cut by a `spill`.
       pub step-is_cut : (g : List Told) (n : ℕ) (qs : List Piece) (last : Option Config) → list_any (λ t. is_end t.body) g ≡ false → StepGoesOn sys (actor d chart) ev e left c (tell g ++ qs) last
@@ -383,19 +383,19 @@ module _ (sys : System) (d : ObjectDef) (chart : Chart) (some : 0 < d.priority) 
           let turns = part.whole.turns in
           let all : (start ++ turns) ++ (records_in part.step ++ (g ++ records_in qs)) ≡ home_told d.priority (told ++ (of_it d.priority g ++ spill_told n ∷ [])) ++ records_in qs =
           ap (λ x. (start ++ turns) ++ x) (sym (append_assoc (records_in part.step) g (records_in qs))) ∙ sym (append_assoc (start ++ turns) (records_in part.step ++ g) (records_in qs))
-          ∙ ap (λ x. x ++ records_in qs) (sym (home-spilled told g n ∙ part-groups sys d chart some waits told es ev e left c part g)) in
+          ∙ ap (λ x. x ++ records_in qs) (sym (home-spilled told g n ∙ part-groups sys d chart some waits told es points ev e left c part g)) in
           let pieces : records_in (part.step ++ (tell g ++ qs)) ≡ records_in part.step ++ (g ++ records_in qs) =
           bare-append part.step (tell g ++ qs) ∙ ap (λ x. records_in part.step ++ x) (bare-append (tell g) qs ∙ ap (λ x. x ++ records_in qs) (bare-tell g)) in
           let course : Course sys (actor d chart) (first_config d) es ((part.whole.ps ++ (part.step ++ tell g)) ++ qs) last =
           subst (λ x. Course sys (actor d chart) (first_config d) es x last)
           (ap (λ x. part.whole.ps ++ x) (sym (append_assoc part.step (tell g) qs)) ∙ sym (append_assoc part.whole.ps (part.step ++ tell g) qs))
-          (course-goes sys d chart some waits told es ev e left c part (tell g ++ qs) last goes) in
+          (course-goes sys d chart some waits told es points ev e left c part (tell g ++ qs) last goes) in
           ends-cut sys d budget own looked told es lane end early (of_it d.priority g ++ spill_told n ∷ [])
           (last-spilled sys d budget own looked told es lane end early g n some inside calm count many) cuts (records_in qs)
           (subst (ObjectGroups sys d.priority true true) all
           (by last (subst (StepShape sys d.priority last) pieces (step-shape sys (actor d chart) e part.first (part.step ++ (tell g ++ qs)) last (part.goes (tell g ++ qs) last goes)))))
           (part.whole.ps ++ (part.step ++ tell g))
-          (course-bare sys d chart some waits told es ev e left c part g ∙ sym (ap dispatched (own-spilled told g n) ∙ part-own sys d chart some waits told es ev e left c part g inside))
+          (course-bare sys d chart some waits told es points ev e left c part g ∙ sym (ap dispatched (own-spilled told g n) ∙ part-own sys d chart some waits told es points ev e left c part g inside))
           (follows-anywhere sys d chart its es (part.whole.ps ++ (part.step ++ tell g)) qs last course)
         where
           cuts : spill_cuts d.priority (untold_all (told ++ (of_it d.priority g ++ spill_told n ∷ []))) ≡ true
@@ -430,15 +430,15 @@ module _ (sys : System) (d : ObjectDef) (chart : Chart) (some : 0 < d.priority) 
           let rest = goes_on-completes sys (actor d chart) ev e left c part.ready.able part.ready.room in
           let before = (part.point stands).0 in
           let same : part.step ≡ before ++ Point ∷ [] = (part.point stands).1 in
-          let course = course-goes sys d chart some waits told es ev e left c part rest.0 rest.1 rest.2 in
+          let course = course-goes sys d chart some waits told es points ev e left c part rest.0 rest.1 rest.2 in
           let at : ends_at_point (part.whole.ps ++ part.step) ≡ true =
           ap ends_at_point (ap (λ x. part.whole.ps ++ x) same ∙ sym (append_assoc part.whole.ps before (Point ∷ []))) ∙ ends-point (part.whole.ps ++ before) in
           let groups : home_told d.priority told ≡ part.whole.start ++ (part.whole.turns ++ records_in part.step) =
-          ap (home_told d.priority) (sym (append-nil told)) ∙ part-groups sys d chart some waits told es ev e left c part []
+          ap (home_told d.priority) (sym (append-nil told)) ∙ part-groups sys d chart some waits told es points ev e left c part []
           ∙ ap (λ x. (part.whole.start ++ part.whole.turns) ++ x) (append-nil (records_in part.step)) ∙ append_assoc part.whole.start part.whole.turns (records_in part.step) in
           let own_is : records_in (part.whole.ps ++ part.step) ≡ dispatched (own_told d.priority told) =
           bare-append part.whole.ps part.step
-          ∙ sym (ap (λ x. dispatched (own_told d.priority x)) (sym (append-nil told)) ∙ part-own sys d chart some waits told es ev e left c part [] tt ∙ ap (λ x. records_in part.whole.ps ++ x) (append-nil (records_in part.step))) in
+          ∙ sym (ap (λ x. dispatched (own_told d.priority x)) (sym (append-nil told)) ∙ part-own sys d chart some waits told es points ev e left c part [] tt ∙ ap (λ x. records_in part.whole.ps ++ x) (append-nil (records_in part.step))) in
           subst (HomeEnds sys d budget end) (append-nil told)
           (ends-stopped sys d budget own looked told es lane end early [] (last-none sys d budget own looked told es lane end early)
           (inr (subst (λ ts. ObjectGroups sys d.priority true true (home_told d.priority ts)) (sym (append-nil told))

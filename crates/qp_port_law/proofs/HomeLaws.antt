@@ -30,16 +30,16 @@ home_starts sys d chart budget own g c at starts =
     (home-inside d.priority budget own own [] [] g (omega arith) (omega arith) (home-new d.priority budget own) (started-inside g form) (ends-told d.priority g (started-calm g form)), whole-started sys d chart at.some g c starts)
 
 pub nil_is_told : NilIsTold
-nil_is_told sys d chart budget own looked told es c f l m at l_is m_is empty another rests = (
+nil_is_told sys d chart budget own looked told es points c f l m at l_is m_is empty another rests = (
   home-nil d.priority budget own looked told es f l m l_is m_is empty another rests.0,
-  whole-mark sys d chart at.some told es c (for_object d.priority (plain (body.Nil f l m))) (plain (body.Nil f l m)) (FindsEmpty f l m refl refl) (home-of d.priority (plain (body.Nil f l m) ∷ []) at.some)
+  whole-mark sys d chart at.some told es points c (for_object d.priority (plain (body.Nil f l m))) (plain (body.Nil f l m)) (FindsEmpty f l m refl refl) (home-of d.priority (plain (body.Nil f l m) ∷ []) at.some)
       (ap dispatched (own-of d.priority (plain (body.Nil f l m) ∷ []))) rests.1,
 )
 
 pub look_is_told : LookIsTold
-look_is_told sys d chart budget own told es c f l m at l_is m_is empty spent rests = (
+look_is_told sys d chart budget own told es points c f l m at l_is m_is empty spent rests = (
   home-look d.priority budget own told es f l m l_is m_is empty spent rests.0,
-  whole-mark sys d chart at.some told es c (seen_told d.priority f l m) (plain (body.Seen d.priority f l m)) (LooksOnly d.priority f l m refl refl) as_home as_own rests.1,
+  whole-mark sys d chart at.some told es points c (seen_told d.priority f l m) (plain (body.Seen d.priority f l m)) (LooksOnly d.priority f l m refl refl) as_home as_own rests.1,
 )
   where
     as_home : home_told d.priority (seen_told d.priority f l m ∷ []) ≡ plain (body.Seen d.priority f l m) ∷ []
@@ -49,24 +49,24 @@ look_is_told sys d chart budget own told es c f l m at l_is m_is empty spent res
     as_own = rw (other-zero d.priority at.some).1 refl
 
 pub home_step_begins : HomeStepBegins
-home_step_begins sys d chart budget own more looked told es c f l m e ev at grows few rests = (
+home_step_begins sys d chart budget own more looked told es points c f l m e ev at grows few rests = (
   subst (λ b. IsHomeLane d.priority budget more b (told ++ for_object d.priority (told_took f l m e ev) ∷ []) (es ++ e ∷ [])) (not-looked d.priority budget own looked told es rests.0 few)
       (home-took d.priority budget own more looked told es f l m e ev grows.l grows.m rests.0 few),
-  part-took sys d chart at.some told es c f l m e ev at.able rests.1,
+  part-took sys d chart at.some told es points c f l m e ev at.able rests.1,
 )
 
 pub home_step_pauses : HomeStepPauses
-home_step_pauses sys d chart budget own more waits told es ev e left later c after g at grows goes ready busy =
-    let inside = point-inside sys d chart at.some waits told es ev e left c busy.1 later after g goes ready in (
+home_step_pauses sys d chart budget own more waits told es points ev e left later c after g at grows goes ready busy =
+    let inside = point-inside sys d chart at.some waits told es points ev e left c busy.1 later after g goes ready in (
       home-inside d.priority budget own more told es g grows.l grows.m busy.0 inside.0 (ends-told d.priority g inside.1),
-      part-point sys d chart at.some waits told es ev e left c busy.1 later after g goes ready,
+      part-point sys d chart at.some waits told es points ev e left c busy.1 later after g goes ready,
     )
 
 pub home_step_ends : HomeStepEnds
-home_step_ends sys d chart budget own more waits told es ev e left c after g at grows goes busy =
+home_step_ends sys d chart budget own more waits told es points ev e left c after g at grows goes busy =
     let form = done-form sys (actor d chart) ev e left c busy.1.ready.closing g after goes in (
       home-inside d.priority budget own more told es g grows.l grows.m busy.0 (done-inside g form) (ends-told d.priority g (done-calm g form)),
-      part-done sys d chart at.some waits told es ev e left c busy.1 after g goes,
+      part-done sys d chart at.some waits told es points ev e left c busy.1 after g goes,
     )
 
 pub unstarted_home_ends : UnstartedHomeEnds
@@ -79,25 +79,25 @@ pub home_start_is_cut : HomeStartIsCut
 home_start_is_cut sys d chart budget end g n qs last at early left calm starts count many = start-is_cut sys d chart at.some at.its at.able budget end early g n qs last left calm starts count many
 
 pub resting_home_ends : RestingHomeEnds
-resting_home_ends sys d chart budget end own looked told es c at early rests = waiting-ends sys d chart at.some at.its at.able budget end early own looked told es rests.0 c rests.1
+resting_home_ends sys d chart budget end own looked told es points c at early rests = waiting-ends sys d chart at.some at.its at.able budget end early own looked told es rests.0 points c rests.1
 
 pub full_home_ends : FullHomeEnds
-full_home_ends sys d chart budget end own looked told es c n at early rests count many = full-ends sys d chart at.some at.its at.able budget end early own looked told es rests.0 c rests.1 n count many
+full_home_ends sys d chart budget end own looked told es points c n at early rests count many = full-ends sys d chart at.some at.its at.able budget end early own looked told es rests.0 points c rests.1 n count many
 
 pub spent_home_ends : SpentHomeEnds
-spent_home_ends sys d chart budget end own looked told es c f l m at early rests l_is m_is entry spent =
-    spent-ends sys d chart at.some at.its at.able budget end early own looked told es rests.0 c rests.1 f l m l_is m_is entry spent
+spent_home_ends sys d chart budget end own looked told es points c f l m at early rests l_is m_is entry spent =
+    spent-ends sys d chart at.some at.its at.able budget end early own looked told es rests.0 points c rests.1 f l m l_is m_is entry spent
 
 pub waiting_home_ends : WaitingHomeEnds
-waiting_home_ends sys d chart budget end own looked told es ev e left c at early busy = step-stops sys d chart at.some at.its at.able budget end early own looked told es busy.0 true ev e left c busy.1 refl
+waiting_home_ends sys d chart budget end own looked told es points ev e left c at early busy = step-stops sys d chart at.some at.its at.able budget end early own looked told es busy.0 true points ev e left c busy.1 refl
 
 pub home_step_fails : HomeStepFails
-home_step_fails sys d chart budget end own looked waits told es ev e left c g at early busy goes =
-    step-fails sys d chart at.some at.its at.able budget end early own looked told es busy.0 waits ev e left c busy.1 g goes
+home_step_fails sys d chart budget end own looked waits told es points ev e left c g at early busy goes =
+    step-fails sys d chart at.some at.its at.able budget end early own looked told es busy.0 waits points ev e left c busy.1 g goes
 
 pub home_step_is_cut : HomeStepIsCut
-home_step_is_cut sys d chart budget end own looked waits told es ev e left c g n qs last at early busy calm goes count many =
-    step-is_cut sys d chart at.some at.its at.able budget end early own looked told es busy.0 waits ev e left c busy.1 g n qs last calm goes count many
+home_step_is_cut sys d chart budget end own looked waits told es points ev e left c g n qs last at early busy calm goes count many =
+    step-is_cut sys d chart at.some at.its at.able budget end early own looked told es busy.0 waits points ev e left c busy.1 g n qs last calm goes count many
 
 pub own_rises : OwnRises
 unfolding own_after
@@ -126,7 +126,7 @@ own_rises a own (t ∷ ts) =
 
 pub resting_home_leaves : RestingHomeLeaves
 unfolding CourseLeaves ComesTo Leaves records_in
-resting_home_leaves sys d chart budget own looked told ts es c rests none =
+resting_home_leaves sys d chart budget own looked told ts es points c rests none =
     let whole = rests.1 in (
       whole.ps,
       [],

@@ -1,5 +1,5 @@
 -- An object in its lane comes to rest, and goes on.
-use Rattle.std.proofs.Common.{◌≡◌, ℕ, ◌<◌, Bool, true, false, List, [], ◌∷◌, ◌++◌, refl, sym, ◌∙◌, ap, subst, arith, Option, Some, append_assoc, append-nil}
+use Rattle.std.proofs.Common.{◌≡◌, ℕ, suc, ◌+◌, ◌<◌, Bool, true, false, List, [], ◌∷◌, ◌++◌, refl, sym, ◌∙◌, ap, subst, arith, Option, Some, append_assoc, append-nil}
 use Rattle.std.specs.List.{list_any}
 use Rattle.qp_chart.specs.declared.checked.Chart.{Chart}
 use Rattle.qp_model.specs.declared.systems.System.{System}
@@ -33,7 +33,7 @@ use Rattle.qp_kernel.proofs.StageLemmas.{comes-started}
 use Rattle.qp_kernel.proofs.TurnLemmas.{DoneForm, StartForm, done-form, inner-calm, inner-own, point-inner, start-form}
 use Rattle.qp_kernel.proofs.ZeroLemmas.{drops-calm}
 use Rattle.qp_port_law.specs.Homes.{home_told}
-use Rattle.qp_port_law.specs.HomeLanes.{IsPartHome, IsWholeHome}
+use Rattle.qp_port_law.specs.HomeLanes.{IsPartHome, IsWholeHome, points_in}
 use Rattle.qp_port_law.proofs.HomeRecords.{AreInside, of_it, own-inside, drops-inside, inside-then, inside-dispatched, own-of, home-of, home-append, dispatched-append}
 
 -- the records of a start, and of a step that comes to its end
@@ -52,9 +52,37 @@ done-calm g form =
     subst (λ x. list_any (λ t. is_end t.body) x ≡ false) (sym form.whole)
     (any-both (λ (t : Told). is_end t.body) form.front (plain body.Done ∷ form.rel) form.calm (drops-calm form.rel form.drops))
 
+-- Scheduling points.
+pub points-tell : (g : List Told) → points_in (tell g) ≡ 0
+points-tell [] = refl
+points-tell (t ∷ g) = points-tell g
+
+pub points-append : (ps qs : List Piece) → points_in (ps ++ qs) ≡ points_in ps + points_in qs
+points-append [] qs = omega arith
+points-append (Point ∷ ps) qs = let r = points-append ps qs in omega (arith, r)
+points-append (Tell t ∷ ps) qs = points-append ps qs
+
+took-points : (n : ℕ) (t : Told) → n + points_in (Tell t ∷ []) ≡ n
+took-points n t = omega arith
+
+point-points : (before points : ℕ) (step : List Piece) (g : List Told) → before + points_in step ≡ points → before + points_in (step ++ (tell g ++ Point ∷ [])) ≡ suc points
+point-points before points step g are =
+    let one = points-append step (tell g ++ Point ∷ []) in
+    let two = points-append (tell g) (Point ∷ []) in
+    let none = points-tell g in
+    let last : points_in (Point ∷ []) ≡ 1 = refl in
+    omega (arith, one, two, none, last, are)
+
+done-points : (before points : ℕ) (ps step : List Piece) (g : List Told) → points_in ps ≡ before → before + points_in step ≡ points → points_in (ps ++ (step ++ tell g)) ≡ points
+done-points before points ps step g first are =
+    let one = points-append ps (step ++ tell g) in
+    let two = points-append step (tell g) in
+    let none = points-tell g in
+    omega (arith, one, two, none, first, are)
+
 module _ (sys : System) (d : ObjectDef) (chart : Chart) (some : 0 < d.priority) where
   -- It has started.
-  pub whole-started : (g : List Told) (c : Config) → Starts sys (actor d chart) (first_config d) (tell g) (Some c) → IsWholeHome sys d chart (of_it d.priority g) [] c
+  pub whole-started : (g : List Told) (c : Config) → Starts sys (actor d chart) (first_config d) (tell g) (Some c) → IsWholeHome sys d chart (of_it d.priority g) [] 0 c
   unfolding ComesTo StartShape
   whole-started g c starts =
       let form = start-form sys (actor d chart) (first_config d) g c starts in
@@ -69,12 +97,13 @@ module _ (sys : System) (d : ObjectDef) (chart : Chart) (some : 0 < d.priority) 
         comes =
             subst (λ ps. ComesTo sys (actor d chart) (first_config d) [] ps (stage.Resting c)) (append-nil (tell g))
             (comes-started sys (actor d chart) (first_config d) [] [] c g starts (omega arith) (refl, refl));
+        points_are = points-tell g;
       }
 
   -- A turn without a step comes: the queue was found empty, or looked at.
-  pub whole-mark : (told : List ToldItem) (es : List Entry) (c : Config) (t : ToldItem) (one : Told) → IsTurn sys d.priority true (one ∷ []) → home_told d.priority (t ∷ []) ≡ one ∷ []
-      → dispatched (own_told d.priority (t ∷ [])) ≡ [] → IsWholeHome sys d chart told es c → IsWholeHome sys d chart (told ++ t ∷ []) es c
-  whole-mark told es c t one turn home none whole = record {
+  pub whole-mark : (told : List ToldItem) (es : List Entry) (points : ℕ) (c : Config) (t : ToldItem) (one : Told) → IsTurn sys d.priority true (one ∷ []) → home_told d.priority (t ∷ []) ≡ one ∷ []
+      → dispatched (own_told d.priority (t ∷ [])) ≡ [] → IsWholeHome sys d chart told es points c → IsWholeHome sys d chart (told ++ t ∷ []) es points c
+  whole-mark told es points c t one turn home none whole = record {
     start = whole.start;
     turns = whole.turns ++ one ∷ [];
     begins = whole.begins;
@@ -87,14 +116,15 @@ module _ (sys : System) (d : ObjectDef) (chart : Chart) (some : 0 < d.priority) 
         whole.bare_is
         ∙ sym (ap dispatched (own-append d.priority told (t ∷ [])) ∙ dispatched-append (own_told d.priority told) (own_told d.priority (t ∷ []))
         ∙ ap (λ x. dispatched (own_told d.priority told) ++ x) none ∙ append-nil (dispatched (own_told d.priority told)));
+    points_are = whole.points_are;
     comes = whole.comes;
   }
 
   -- It takes an entry up: its step begins.
-  pub part-took : (told : List ToldItem) (es : List Entry) (c : Config) (f l m : ℕ) (e : Entry) (ev : Event) → chart_able sys chart ≡ true → IsWholeHome sys d chart told es c
-      → IsPartHome sys d chart false (told ++ for_object d.priority (told_took f l m e ev) ∷ []) (es ++ e ∷ []) ev e (whole_step (actor d chart) c ev) c
+  pub part-took : (told : List ToldItem) (es : List Entry) (points : ℕ) (c : Config) (f l m : ℕ) (e : Entry) (ev : Event) → chart_able sys chart ≡ true → IsWholeHome sys d chart told es points c
+      → IsPartHome sys d chart false (told ++ for_object d.priority (told_took f l m e ev) ∷ []) (es ++ e ∷ []) points ev e (whole_step (actor d chart) c ev) c
   unfolding ComesTo StepGoesOn DoesLeft Step StepBehind whole_step records_in
-  part-took told es c f l m e ev able whole = record {
+  part-took told es points c f l m e ev able whole = record {
     front = told;
     back = for_object d.priority (told_took f l m e ev) ∷ [];
     told_is = refl;
@@ -104,10 +134,12 @@ module _ (sys : System) (d : ObjectDef) (chart : Chart) (some : 0 < d.priority) 
     others = es;
     es_are = refl;
     first = c;
+    before = points;
     whole = whole;
     step = Tell (told_took f l m e ev) ∷ [];
     groups = home-of d.priority (told_took f l m e ev ∷ []) some;
     bare_is = ap dispatched (own-of d.priority (told_took f l m e ev ∷ []));
+    points_are = took-points points (told_took f l m e ev);
     goes = λ qs end k. (f, l, m, ev, qs, refl, k);
     ready =
         let parts = whole-ready sys (actor d chart) c ev able in
@@ -115,7 +147,7 @@ module _ (sys : System) (d : ObjectDef) (chart : Chart) (some : 0 < d.priority) 
     point = λ yes. absurd (cc);
   }
 
-  module _ (waits : Bool) (told : List ToldItem) (es : List Entry) (ev : Event) (e : Entry) (left : Remainder) (c : Config) (part : IsPartHome sys d chart waits told es ev e left c) where
+  module _ (waits : Bool) (told : List ToldItem) (es : List Entry) (points : ℕ) (ev : Event) (e : Entry) (left : Remainder) (c : Config) (part : IsPartHome sys d chart waits told es points ev e left c) where
     -- what is told, with records of the step behind it
     pub part-groups : (g : List Told) → home_told d.priority (told ++ of_it d.priority g) ≡ (part.whole.start ++ part.whole.turns) ++ (records_in part.step ++ g)
     part-groups g =
@@ -162,7 +194,7 @@ module _ (sys : System) (d : ObjectDef) (chart : Chart) (some : 0 < d.priority) 
         (own-inside g (inner-own g inner), inner-calm g inner)
 
     pub part-point : (later : Remainder) (after : Config) (g : List Told) → Advances sys (actor d chart) ev e left c (tell g ++ Point ∷ []) later after → IsReady sys (actor d chart) later after
-        → IsPartHome sys d chart true (told ++ of_it d.priority g) es ev e later after
+        → IsPartHome sys d chart true (told ++ of_it d.priority g) es (suc points) ev e later after
     unfolding Advances records_in
     part-point later after g goes ready =
         let inside = (point-inside later after g goes ready).0 in
@@ -178,6 +210,7 @@ module _ (sys : System) (d : ObjectDef) (chart : Chart) (some : 0 < d.priority) 
           others = part.others;
           es_are = part.es_are;
           first = part.first;
+          before = part.before;
           whole = part.whole;
           step = part.step ++ (tell g ++ Point ∷ []);
           groups =
@@ -186,6 +219,7 @@ module _ (sys : System) (d : ObjectDef) (chart : Chart) (some : 0 < d.priority) 
               ap dispatched (own-append d.priority part.back (of_it d.priority g)) ∙ dispatched-append (own_told d.priority part.back) (own_told d.priority (of_it d.priority g))
               ∙ ap (λ x. dispatched (own_told d.priority part.back) ++ x) (ap dispatched (own-of d.priority g) ∙ inside-dispatched d.priority g inside)
               ∙ ap (λ x. x ++ g) part.bare_is ∙ sym bare-step;
+          points_are = point-points part.before points part.step g part.points_are;
           goes = λ qs end k.
               subst (λ x. Step sys (actor d chart) e part.first x end) (sym (append_assoc part.step (tell g ++ Point ∷ []) qs)) (part.goes ((tell g ++ Point ∷ []) ++ qs) end (goes qs end k));
           ready = ready;
@@ -193,7 +227,7 @@ module _ (sys : System) (d : ObjectDef) (chart : Chart) (some : 0 < d.priority) 
         }
 
     -- The step comes to its end.
-    pub part-done : (after : Config) (g : List Told) → StepGoesOn sys (actor d chart) ev e left c (tell g) (Some after) → IsWholeHome sys d chart (told ++ of_it d.priority g) es after
+    pub part-done : (after : Config) (g : List Told) → StepGoesOn sys (actor d chart) ev e left c (tell g) (Some after) → IsWholeHome sys d chart (told ++ of_it d.priority g) es points after
     unfolding ComesTo Leaves StepShape
     part-done after g goes =
         let form = done-form sys (actor d chart) ev e left c part.ready.closing g after goes in
@@ -208,5 +242,6 @@ module _ (sys : System) (d : ObjectDef) (chart : Chart) (some : 0 < d.priority) 
           groups = part-groups g ∙ append_assoc part.whole.start part.whole.turns (records_in part.step ++ g);
           ps = part.whole.ps ++ (part.step ++ tell g);
           bare_is = course-bare g ∙ sym (part-own g (done-inside g form));
+          points_are = done-points part.before points part.whole.ps part.step g part.whole.points_are part.points_are;
           comes = (course, course-within sys (actor d chart) (first_config d) after es (part.whole.ps ++ (part.step ++ tell g)) (omega arith) course);
         }

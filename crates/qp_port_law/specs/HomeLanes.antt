@@ -1,5 +1,5 @@
 -- The lane of an object that takes in a thread of its own: what is known of it between two steps, and within one.
-use Rattle.std.specs.Prelude.{◌≡◌, ℕ, ◌+◌, ◌≤◌, ◌==◌, nat_le, Bool, true, false, ◌&&◌, List, [], ◌∷◌, ◌++◌, length, map}
+use Rattle.std.specs.Prelude.{◌≡◌, ℕ, suc, ◌+◌, ◌≤◌, ◌==◌, nat_le, Bool, true, false, ◌&&◌, List, [], ◌∷◌, ◌++◌, length, map}
 use Rattle.std.specs.declared.option.Option.{Option}
 use Rattle.std.specs.List.{list_all, list_any, filter_map}
 use Rattle.qp_chart.specs.declared.checked.Chart.{Chart}
@@ -12,7 +12,7 @@ use Rattle.qp_model.specs.End.{took_count}
 use Rattle.qp_model.specs.HomeLane.{are_at_home, nil_counts, seen_counts, all_differ}
 use Rattle.qp_model.specs.ObjectShape.{StartGroup, IsTurn}
 use Rattle.qp_model.specs.Sequence.{Sequence}
-use Rattle.qp_model.specs.Pieces.{Piece, Point, records_in}
+use Rattle.qp_model.specs.Pieces.{Piece, Tell, Point, records_in}
 use Rattle.qp_model.specs.Acts.{Config}
 use Rattle.qp_model.specs.Step.{Remainder, StepGoesOn, Step}
 use Rattle.qp_model.specs.Course.{actor, first_config}
@@ -61,8 +61,14 @@ pub record IsHomeLane (o budget : ℕ) (own : Own) (looked : Bool) (told : List 
   pub looks : LooksOnce looked own (looks_in told)
   pub spent : looked ≡ true → length es ≡ budget
 
--- whole groups alone stand in the lane, by which the object has come to rest
-pub record IsWholeHome (sys : System) (d : ObjectDef) (chart : Chart) (told : List ToldItem) (es : List Entry) (c : Config) : Type 0 where
+-- how many scheduling points stand among pieces
+abbrev pub points_in : List Piece → ℕ
+points_in [] = 0
+points_in (Point ∷ ps) = suc (points_in ps)
+points_in (Tell t ∷ ps) = points_in ps
+
+-- whole groups alone stand in the lane, by which the object has come to rest; its course has had so many scheduling points
+pub record IsWholeHome (sys : System) (d : ObjectDef) (chart : Chart) (told : List ToldItem) (es : List Entry) (points : ℕ) (c : Config) : Type 0 where
   pub start : List Told
   pub turns : List Told
   pub begins : StartGroup sys d.priority start
@@ -70,10 +76,11 @@ pub record IsWholeHome (sys : System) (d : ObjectDef) (chart : Chart) (told : Li
   pub groups : home_told d.priority told ≡ start ++ turns
   pub ps : List Piece
   pub bare_is : records_in ps ≡ dispatched (own_told d.priority told)
+  pub points_are : points_in ps ≡ points
   pub comes : ComesTo sys (actor d chart) (first_config d) es ps (stage.Resting c)
 
 -- whole groups, and a step under way behind them; `waits` tells that it waits at a scheduling point
-pub record IsPartHome (sys : System) (d : ObjectDef) (chart : Chart) (waits : Bool) (told : List ToldItem) (es : List Entry) (ev : Event) (e : Entry) (left : Remainder) (c : Config) : Type 0 where
+pub record IsPartHome (sys : System) (d : ObjectDef) (chart : Chart) (waits : Bool) (told : List ToldItem) (es : List Entry) (points : ℕ) (ev : Event) (e : Entry) (left : Remainder) (c : Config) : Type 0 where
   pub front : List ToldItem
   pub back : List ToldItem
   pub told_is : told ≡ front ++ back
@@ -84,10 +91,12 @@ pub record IsPartHome (sys : System) (d : ObjectDef) (chart : Chart) (waits : Bo
   pub others : List Entry
   pub es_are : es ≡ others ++ e ∷ []
   pub first : Config
-  pub whole : IsWholeHome sys d chart front others first
+  pub before : ℕ
+  pub whole : IsWholeHome sys d chart front others before first
   pub step : List Piece
   pub groups : home_told d.priority back ≡ records_in step
   pub bare_is : dispatched (own_told d.priority back) ≡ records_in step
+  pub points_are : before + points_in step ≡ points
   -- whatever ends what is left ends the step
   pub goes : (qs : List Piece) (end : Option Config) → StepGoesOn sys (actor d chart) ev e left c qs end → Step sys (actor d chart) e first (step ++ qs) end
   pub ready : IsReady sys (actor d chart) left c

@@ -1,5 +1,5 @@
 -- Lanes that stay the same lanes.
-use Rattle.std.proofs.Common.{◌≡◌, ◌⊎◌, ℕ, ◌<◌, ◌≤◌, Bool, true, false, List, [], ◌∷◌, length, refl, sym, ◌∙◌, ap, subst, inl, inr, arith, IsTrue, Some, None}
+use Rattle.std.proofs.Common.{◌≡◌, ◌⊎◌, ℕ, suc, ◌<◌, ◌≤◌, Bool, true, false, List, [], ◌∷◌, length, sym, ◌∙◌, ap, subst, inl, inr, arith, IsTrue, Some, None}
 use Rattle.std.proofs.lemmas.Bool.Decides.{nat_tests}
 use Rattle.qp_calls.specs.Clauses.{Stopped}
 use Rattle.std.specs.List.{AllByRecursion, list_all}
@@ -9,7 +9,7 @@ use Rattle.qp_calls.specs.LaneView.{LaneView, is_codeless}
 use Rattle.qp_calls_log.specs.Meeting.{IsTogether}
 use Rattle.qp_port_phases.specs.Lanes.{AreObjects, AreOneTable, AreTogether, IsTable, KeepEach, Kept, SameEach}
 use Rattle.qp_port_phases.specs.Rows.{Numbers}
-use Rattle.qp_port_phases.specs.Quiet.{AllBelow, FirstFound, HasFound, IsCodeOf}
+use Rattle.qp_port_phases.specs.Quiet.{AllBelow, FirstFound, HasFound, IsCodeOf, IsUnstopped}
 use Rattle.qp_port_phases.specs.Stopping.{Hears, SameCodes}
 use Rattle.qp_port_phases.specs.Turns.{AreReady, TurnEach}
 
@@ -152,10 +152,9 @@ pub found-other : (u v w : LaneView) (code : ℕ) → SameCodes u v → Stopped 
 found-other u v w code same h other = let some = h.1 in let few = h.2 in found false u v w code same h (some, grind (arith, nat_tests, other, some, few))
 
 -- none was found, and the looks behind that are no words with it
-pub unstopped-still : (u v w : LaneView) → Stopped u v None → SameCodes v w → Stopped w w None
+pub unstopped-still : (u v w : LaneView) → Stopped u v None → SameCodes v w → IsUnstopped w
 unstopped-still u v w h same =
-    let is : v ≡ u = h.0 in (
-      refl,
+    let is : v ≡ record u { asked = suc u.asked } = h.0 in (
       same.0 ∙ ap (λ x. x.stops) is ∙ h.1,
       same.1 ∙ ap (λ x. x.answered) is ∙ h.2,
       subst (λ a. IsTrue (list_all is_codeless a.purses)) (sym (same.2 ∙ ap (λ x. x.aside) is)) h.3,

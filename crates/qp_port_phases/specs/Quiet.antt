@@ -1,9 +1,8 @@
 -- When the phases of a run are over.
-use Rattle.std.specs.Prelude.{◌≡◌, ◌⊎◌, ℕ, ◌+◌, ◌<◌, ◌≤◌, Bool, true, false, List, [], ◌∷◌, length, ⊤, None}
-use Rattle.std.specs.List.{AllByRecursion, list_any}
+use Rattle.std.specs.Prelude.{◌≡◌, ◌⊎◌, ℕ, ◌+◌, ◌<◌, ◌≤◌, Bool, true, false, List, [], ◌∷◌, length, ⊤, IsTrue}
+use Rattle.std.specs.List.{AllByRecursion, list_all, list_any}
 use Rattle.qp_model.specs.declared.words.Word.TheVariants as word
-use Rattle.qp_calls.specs.LaneView.{LaneView, Counts}
-use Rattle.qp_calls.specs.Clauses.{Stopped}
+use Rattle.qp_calls.specs.LaneView.{LaneView, Counts, is_codeless}
 use Rattle.qp_port_phases.specs.Floors.{AllUnder}
 
 -- each knows of at most as many operations of each word as v
@@ -21,12 +20,16 @@ pub record IsEmpty (v : LaneView) (p : ℕ) : Type 0 where
 abbrev pub AreEmpty : List ℕ → LaneView → Type 0
 AreEmpty ps v = AllByRecursion (IsEmpty v) ps
 
+-- the lane handed in no code and found none, and no other lane of its world did
+abbrev pub IsUnstopped : LaneView → Type 0
+IsUnstopped v = (v.stops ≡ []) × (v.answered ≡ []) × IsTrue (list_all is_codeless v.aside.purses)
+
 -- the first lane knows of as many operations as each other, saw all queues empty and the stop word at 0, and no lane has a stimulus left
 pub record IsQuiet {T : Type 0} (view : T → LaneView) (remains : T → Bool) (objects : List ℕ) (first : T) (others : List T) : Type 0 where
   pub below : AllBelow view (view first) others
   pub empty : AreEmpty objects (view first)
   pub none : list_any remains others ≡ false
-  pub unstopped : Stopped (view first) (view first) None
+  pub unstopped : IsUnstopped (view first)
 
 abbrev pub HasEnded : {T : Type 0} → (T → LaneView) → (T → Bool) → List ℕ → List T → Type 0
 HasEnded view remains objects [] = ⊥

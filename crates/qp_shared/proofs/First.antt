@@ -16,7 +16,7 @@ use Rattle.qp_model.specs.Sound.{IsSound, IsSoundSignal}
 use Rattle.qp_model.proofs.ListLemmas.{every-at}
 use Rattle.qp_model.specs.Parts.{is_static}
 use Rattle.qp_model.specs.declared.systems.SignalDef.{SignalDef}
-use Rattle.qp_calls.specs.LaneView.{Shown, FreeBlocks, first_shown, handled_in, ceiling_in, own_after}
+use Rattle.qp_calls.specs.LaneView.{Shown, FreeBlocks, first_shown, codes_in, handled_in, ceiling_in, own_after}
 use Rattle.qp_calls.specs.Tokens.{Token, Held, Loose, token_of, hands_after}
 use Rattle.qp_calls_log.specs.declared.log.Log.{Log}
 use Rattle.qp_table.specs.Rule.{params_of, mark_in, bits_value, is_serve}
@@ -108,7 +108,7 @@ module _ (sys : System) (sound : IsSound sys) (count n : ℕ) (g : Log) (bare : 
     same_side = ap on_side_of bare.recs ∙ no-recs-side;
     serves = λ o. refl;
     stops = bare.stops;
-    answered = bare.answered;
+    answered = ap codes_in bare.answered;
     beside = sym (ap length bare.recs);
     hands = λ t. ap (λ ts. tokens t (hands_after [] ts)) nothing-told ∙ no-tokens t;
     read = λ e l. absurd (omega arith);
@@ -190,7 +190,8 @@ module _ (sys : System) (sound : IsSound sys) (count n : ℕ) (g : Log) (bare : 
       told = nothing-told;
       by = refl;
       stops = bare.stops;
-      answered = bare.answered;
+      answered = ap codes_in bare.answered;
+      asked = ap length bare.answered;
       mark = no-mark;
       shown = shown-first;
       own = λ a. ap (own_after a (record { l = 0; m = 0 })) nothing-told;

@@ -10,7 +10,7 @@ use Rattle.qp_model.specs.History.{touch_of}
 use Rattle.qp_model.specs.Told.{ToldItem, Event, for_object}
 use Rattle.qp_model.specs.Knowing.{ceiling_after}
 use Rattle.qp_model.proofs.RecordLemmas.{lane-length}
-use Rattle.qp_calls.specs.LaneView.{LaneView, Roomier, GrowsOf, Gains, handled_in, ceiling_in}
+use Rattle.qp_calls.specs.LaneView.{LaneView, Roomier, GrowsOf, Gains, codes_in, handled_in, ceiling_in}
 use Rattle.qp_calls.specs.Notes.{IsNote, MayNote, told_as as noted_as, told_note}
 use Rattle.qp_calls.specs.Tokens.{Token, hands_after, handles}
 use Rattle.qp_calls_log.specs.declared.log.Log.{Log}
@@ -34,14 +34,14 @@ told-long l = told-items l.log (state_view l) (tells l) ∙ lane-length l.log.re
 
 module _ (l : LaneState) (g : Log) (recs : g.recs.items ≡ l.log.recs.items) (stops : g.stops.list ≡ l.log.stops.list) (answered : g.answered.list ≡ l.log.answered.list) where
   kept : LogKept (world_in l) l.sys.now l.by l.count l.ceiling l.log l.numbers.list l.seat.me.0 l.side.seat.me.0 g l.side.seat.me.0
-  kept = logs_keep_the_lane (world_in l) l.sys.now l.by l.count l.ceiling l.log l.numbers.list l.seat.me.0 l.side.seat.me.0 g l.side.seat.me.0 l.holds recs refl (stops ∙ l.holds.stops) (answered ∙ l.holds.answered)
+  kept = logs_keep_the_lane (world_in l) l.sys.now l.by l.count l.ceiling l.log l.numbers.list l.seat.me.0 l.side.seat.me.0 g l.side.seat.me.0 l.holds recs refl (stops ∙ l.holds.stops) (ap codes_in answered ∙ l.holds.answered)
 
   pub room-holds : LaneHolds l.sys.now l.count l.ceiling g l.numbers.list l.seat.me.0 l.side.seat.me.0
   room-holds = kept.holds
 
   pub room-view : lane_with (world_in l) l.sys.now l.by g l.numbers.list l.seat.me.0 l.side.seat.me.0 ≡ record (state_view l) { spare = g.spare }
   unfolding lane_of
-  room-view = kept.is ∙ (λ i. record (state_view l) { spare = g.spare; stops = stops i; answered = answered i })
+  room-view = kept.is ∙ (λ i. record (state_view l) { spare = g.spare; stops = stops i; answered = codes_in (answered i); asked = length (answered i) })
 
   pub roomier : l.log.spare ≤ g.spare → Roomier (state_view l) (lane_with (world_in l) l.sys.now l.by g l.numbers.list l.seat.me.0 l.side.seat.me.0)
   unfolding lane_of

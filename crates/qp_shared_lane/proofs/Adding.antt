@@ -22,7 +22,7 @@ use Rattle.qp_table.specs.After.{logged}
 use Rattle.qp_table.specs.declared.view.SeatLog as table_log
 use Rattle.qp_table.specs.declared.view.View.{View}
 use Rattle.qp_calls.specs.Tokens.{Token, token_of, hands_of, hands_by, hands_after, handles}
-use Rattle.qp_calls.specs.LaneView.{Gains, mark_or, mark_by, mark_after, shown_from, placed_by, own_after}
+use Rattle.qp_calls.specs.LaneView.{Gains, codes_in, mark_or, mark_by, mark_after, shown_from, placed_by, own_after}
 use Rattle.qp_calls.proofs.Advancing.{between-one}
 use Rattle.qp_calls.proofs.HandLemmas.{hands-append}
 use Rattle.qp_calls.proofs.Growing.{own-append}
@@ -365,7 +365,8 @@ module _ (world : List ℕ) (sys : System) (by count ceiling : ℕ) (g : Log) (n
     by = refl;
     serves = λ o. refl;
     stops = put.stops;
-    answered = put.answered;
+    answered = ap codes_in put.answered;
+    asked = ap length put.answered;
     mark = λ w. sym (note-marks w (lane_mark sys v.seen (side_mark sys s) w));
     rise = λ w. omega arith;
     between = λ w. between-one w (lane_mark sys v.seen (side_mark sys s) w) (lane_mark sys v.seen (side_mark sys s) w) t (sym (note-marks w (lane_mark sys v.seen (side_mark sys s) w))) (omega arith);

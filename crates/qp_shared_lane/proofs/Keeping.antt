@@ -14,7 +14,7 @@ use Rattle.qp_model.specs.Knowing.{ceiling_after}
 use Rattle.qp_table.specs.Rule.{mark_in, is_serve}
 use Rattle.qp_table.specs.declared.view.View.{View}
 use Rattle.qp_calls.specs.Tokens.{Token, token_of, stands, hands_after, handles}
-use Rattle.qp_calls.specs.LaneView.{Shown, Gains, Looks, handled_in, is_known, ceiling_in}
+use Rattle.qp_calls.specs.LaneView.{Shown, Gains, Looks, codes_in, handled_in, is_known, ceiling_in}
 use Rattle.qp_calls.proofs.HandLemmas.{hands-append}
 use Rattle.qp_calls_log.specs.declared.log.Log.{Log}
 use Rattle.qp_table.specs.Words.{mark_seen, shown_seen}
@@ -114,7 +114,7 @@ module _ (sys : System) (count ceiling : ℕ) (g : Log) (numbers : List ℕ) (v 
       same_side = ap on_side_of put.recs ∙ adds.same_side;
       serves = λ o. ap (list_any (is_serve o)) side.serves ∙ (holds.serves o ∙ sym (goes.serves o));
       stops = put.stops ∙ (holds.stops ∙ sym side.stops);
-      answered = put.answered ∙ (holds.answered ∙ sym side.answered);
+      answered = ap codes_in put.answered ∙ (holds.answered ∙ sym side.answered);
       beside = let a = ap length put.recs in let b = ap length put.numbers_are in let c = holds.beside in omega (arith, length-append g.recs.items (rec ∷ []), length-append numbers (number ∷ []));
       hands = hands-are;
       read = goes.read;

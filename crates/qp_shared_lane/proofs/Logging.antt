@@ -8,7 +8,7 @@ use Rattle.qp_model.specs.Told.{ToldItem}
 use Rattle.qp_table.specs.Rule.{is_serve}
 use Rattle.qp_table.specs.declared.view.View.{View}
 use Rattle.qp_calls.specs.Tokens.{hands_after}
-use Rattle.qp_calls.specs.LaneView.{ceiling_in}
+use Rattle.qp_calls.specs.LaneView.{codes_in, ceiling_in}
 use Rattle.qp_calls_log.specs.declared.log.Log.{Log}
 use Rattle.qp_table.specs.Lane.{lane_of, own_recs, on_table_of, tell, event_seen, tokens, lane_number}
 use Rattle.qp_side.specs.declared.view.SideView.{SideView}
@@ -18,7 +18,7 @@ use Rattle.qp_shared_lane.specs.Laws.{LogsKeepTheLane}
 
 -- the facts that the records and numbers bear, and those of both views
 module _ (sys : System) (count ceiling : ℕ) (g : Log) (numbers : List ℕ) (v : View) (s : SideView) (h : Log) (z : SideView)
-    (holds : LaneHolds sys count ceiling g numbers v s) (recs : h.recs.items ≡ g.recs.items) (view : z.view ≡ s.view) (stops : h.stops.list ≡ z.stops) (answered : h.answered.list ≡ z.answered) where
+    (holds : LaneHolds sys count ceiling g numbers v s) (recs : h.recs.items ≡ g.recs.items) (view : z.view ≡ s.view) (stops : h.stops.list ≡ z.stops) (answered : codes_in h.answered.list ≡ z.answered) where
   same-told : told_by h numbers v ≡ told_by g numbers v
   same-told = ap (λ rs. tell (event_seen v.contents) rs numbers) recs
 
@@ -55,7 +55,7 @@ module _ (sys : System) (count ceiling : ℕ) (g : Log) (numbers : List ℕ) (v 
   marks-are : ◌≡◌ {A = Word → ℕ} (side_mark sys z) (side_mark sys s)
   marks-are = ap (λ (x : View). side_mark sys (record { view = x; stops = z.stops; answered = z.answered })) view ∙ refl
 
-  pub log-is : (world : List ℕ) (by : ℕ) → lane_with world sys by h numbers v z ≡ record (lane_with world sys by g numbers v s) { spare = h.spare; stops = h.stops.list; answered = h.answered.list }
+  pub log-is : (world : List ℕ) (by : ℕ) → lane_with world sys by h numbers v z ≡ record (lane_with world sys by g numbers v s) { spare = h.spare; stops = h.stops.list; answered = codes_in h.answered.list; asked = length h.answered.list }
   unfolding lane_of
   log-is world by = (λ i. lane_of (record { world = world; sys = sys; number = lane_number v; by = by; stops = h.stops.list; answered = h.answered.list; side = marks-are i }) (same-told i) h.spare v)
 

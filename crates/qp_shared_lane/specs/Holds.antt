@@ -21,7 +21,7 @@ use Rattle.qp_table.specs.Rule.{Fitting, params_of, pool_at, block_at, mark_in, 
 use Rattle.qp_table.specs.declared.view.Glance.{Glance}
 use Rattle.qp_table.specs.declared.view.SeatLog as table_log
 use Rattle.qp_table.specs.declared.view.View.{View}
-use Rattle.qp_calls.specs.LaneView.{handled_in, ceiling_in}
+use Rattle.qp_calls.specs.LaneView.{codes_in, handled_in, ceiling_in}
 use Rattle.qp_calls.specs.Tokens.{Token, token_of, hands_after}
 use Rattle.qp_calls_log.specs.declared.Log.{Log}
 use Rattle.qp_table.specs.Words.{mark_seen}
@@ -168,7 +168,7 @@ pub record LaneHolds (sys : System) (count ceiling : ℕ) (g : Log) (numbers : L
   pub same_side : on_side_of g.recs.items ≡ own_recs s.view
   pub serves : (o : ℕ) → list_any (is_serve o) s.view.serves ≡ list_any (is_serve o) v.serves
   pub stops : g.stops.list ≡ s.stops
-  pub answered : g.answered.list ≡ s.answered
+  pub answered : codes_in g.answered.list ≡ s.answered
   pub beside : length numbers ≡ length g.recs.items
   pub hands : (t : Token) → tokens t (hands_after [] (told_by g numbers v)) ≡ tokens_in v t
   pub read : IsRead v

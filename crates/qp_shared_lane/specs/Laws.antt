@@ -10,7 +10,7 @@ use Rattle.qp_model.specs.Knowing.{ceiling_after}
 use Rattle.qp_table.specs.Rule.{is_serve}
 use Rattle.qp_table.specs.After.{HasRoom}
 use Rattle.qp_table.specs.declared.view.View.{View}
-use Rattle.qp_calls.specs.LaneView.{Shown, Gains, Looks}
+use Rattle.qp_calls.specs.LaneView.{Shown, Gains, Looks, codes_in}
 use Rattle.qp_calls.specs.Tokens.{Token, stands, hands_after}
 use Rattle.qp_calls_log.specs.declared.log.Log.{Log}
 use Rattle.qp_calls_log.specs.LaneLaws.{TellsLog}
@@ -74,11 +74,11 @@ SideRecordsKeepTheLane = (world : List ℕ) (sys : System) (by count ceiling : �
 -- Spare, and codes that both the log and the view of the side table have: all else stands.
 pub record LogKept (world : List ℕ) (sys : System) (by count ceiling : ℕ) (g : Log) (numbers : List ℕ) (v : View) (s : SideView) (h : Log) (z : SideView) : Type 0 where
   pub holds : LaneHolds sys count ceiling h numbers v z
-  pub is : lane_with world sys by h numbers v z ≡ record (lane_with world sys by g numbers v s) { spare = h.spare; stops = h.stops.list; answered = h.answered.list }
+  pub is : lane_with world sys by h numbers v z ≡ record (lane_with world sys by g numbers v s) { spare = h.spare; stops = h.stops.list; answered = codes_in h.answered.list; asked = length h.answered.list }
 
 abbrev pub LogsKeepTheLane : Type 0
 LogsKeepTheLane = (world : List ℕ) (sys : System) (by count ceiling : ℕ) (g : Log) (numbers : List ℕ) (v : View) (s : SideView) (h : Log) (z : SideView)
-    → LaneHolds sys count ceiling g numbers v s → h.recs.items ≡ g.recs.items → z.view ≡ s.view → h.stops.list ≡ z.stops → h.answered.list ≡ z.answered
+    → LaneHolds sys count ceiling g numbers v s → h.recs.items ≡ g.recs.items → z.view ≡ s.view → h.stops.list ≡ z.stops → codes_in h.answered.list ≡ z.answered
     → LogKept world sys by count ceiling g numbers v s h z
 
 -- What a lane may do.

@@ -1,7 +1,8 @@
 -- Codes that a lane hands in and finds.
-use Rattle.std.proofs.Common.{◌≡◌, ℕ, ◌<◌, ◌≤◌, ◌==◌, ◌∷◌, true, IsTrue, Some, None, refl, sym, ap, subst, ◌∙◌}
+use Rattle.std.proofs.Common.{◌≡◌, ℕ, zero, suc, ◌<◌, ◌≤◌, ◌==◌, List, ◌∷◌, length, true, IsTrue, Option, Some, None, refl, sym, ap, subst, ◌∙◌, arith}
+use Rattle.std.specs.Option.{unwrap_or}
 use Rattle.std.specs.List.{list_all}
-use Rattle.qp_calls.specs.LaneView.{LaneView}
+use Rattle.qp_calls.specs.LaneView.{LaneView, codes_in}
 use Rattle.qp_calls.specs.Notes.{MayStop}
 use Rattle.qp_calls.specs.Clauses.{Stops, Stopped}
 use Rattle.qp_calls_log.specs.declared.log.Log.{Log}
@@ -24,6 +25,10 @@ module _ (l : LaneState) (code : ℕ) (may : MayStop code (state_view l)) where
   pub caused : is_caused_in (lane_items l.log.recs.items) code ≡ true
   caused = note.stop-caused l.log (state_view l) code (lanes_tell_their_logs (world_in l) l.sys.now l.by l.count l.ceiling l.log l.numbers.list l.seat.me.0 l.side.seat.me.0 l.holds) may
 
+code-more : (code : ℕ) (xs : List ℕ) → 0 < code → codes_in (code ∷ xs) ≡ code ∷ codes_in xs
+code-more zero xs some = absurd (omega (arith, some))
+code-more (suc n) xs some = refl
+
 module _ (l : LaneState) (z : SideView) where
   abbrev s : SideView
   s = l.side.seat.me.0
@@ -37,26 +42,42 @@ module _ (l : LaneState) (z : SideView) where
     unfolding lane_of
     handed code is stops answered =
         let k = logs_keep_the_lane (world_in l) l.sys.now l.by l.count l.ceiling l.log l.numbers.list l.seat.me.0 s h z l.holds recs (ap (λ (x : SideView). x.view) is)
-        (stops ∙ (ap (λ xs. code ∷ xs) l.holds.stops ∙ sym (ap (λ (x : SideView). x.stops) is))) (answered ∙ (l.holds.answered ∙ sym (ap (λ (x : SideView). x.answered) is))) in
-        (k.holds, subst (λ x. Stops code (state_view l) (lane_then h x)) (sym same) (k.is ∙ (λ i. record (state_view l) { spare = spare i; stops = stops i; answered = answered i })))
+        (stops ∙ (ap (λ xs. code ∷ xs) l.holds.stops ∙ sym (ap (λ (x : SideView). x.stops) is))) (ap codes_in answered ∙ (l.holds.answered ∙ sym (ap (λ (x : SideView). x.answered) is))) in
+        (k.holds, subst (λ x. Stops code (state_view l) (lane_then h x)) (sym same) (k.is ∙ (λ i. record (state_view l) { spare = spare i; stops = stops i; answered = codes_in (answered i); asked = length (answered i) })))
 
-    pub found : (code : ℕ) → FindsCode s z (Some code) → h.stops.list ≡ l.log.stops.list → h.answered.list ≡ code ∷ l.log.answered.list → LaneHolds l.sys.now l.count l.ceiling h l.numbers.list l.seat.me.0 z × Stopped (state_view l) (lane_then h side) (Some code)
+    -- what the log has then, of a word that holds this answer
+    codes-then : (r : Option ℕ) → FindsCode s z r → h.answered.list ≡ unwrap_or r 0 ∷ l.log.answered.list → codes_in h.answered.list ≡ z.answered
+    codes-then None is answered = ap codes_in answered ∙ (l.holds.answered ∙ sym (ap (λ (x : SideView). x.answered) is.0))
+    codes-then (Some code) is answered = ap codes_in answered ∙ (code-more code l.log.answered.list is.1 ∙ (ap (λ xs. code ∷ xs) l.holds.answered ∙ sym (ap (λ (x : SideView). x.answered) is.0)))
+
+    stops-then : (r : Option ℕ) → FindsCode s z r → h.stops.list ≡ l.log.stops.list → h.stops.list ≡ z.stops
+    stops-then None is stops = stops ∙ (l.holds.stops ∙ sym (ap (λ (x : SideView). x.stops) is.0))
+    stops-then (Some code) is stops = stops ∙ (l.holds.stops ∙ sym (ap (λ (x : SideView). x.stops) is.0))
+
+    view-then : (r : Option ℕ) → FindsCode s z r → z.view ≡ s.view
+    view-then None is = ap (λ (x : SideView). x.view) is.0
+    view-then (Some code) is = ap (λ (x : SideView). x.view) is.0
+
+    asked-by : (r : Option ℕ) → FindsCode s z r → h.stops.list ≡ l.log.stops.list → h.answered.list ≡ unwrap_or r 0 ∷ l.log.answered.list → Stopped (state_view l) (lane_then h l.side.words.now.shared.table_id) r
     unfolding lane_of
-    found code is stops answered =
-        let k = logs_keep_the_lane (world_in l) l.sys.now l.by l.count l.ceiling l.log l.numbers.list l.seat.me.0 s h z l.holds recs (ap (λ (x : SideView). x.view) is.0)
-        (stops ∙ (l.holds.stops ∙ sym (ap (λ (x : SideView). x.stops) is.0))) (answered ∙ (ap (λ xs. code ∷ xs) l.holds.answered ∙ sym (ap (λ (x : SideView). x.answered) is.0))) in (
-          k.holds,
-          subst (λ x. Stopped (state_view l) (lane_then h x) (Some code)) (sym same) (
-            k.is ∙ (λ i. record (state_view l) { spare = spare i; stops = stops i; answered = answered i }),
-            is.1,
-            is.2,
-            subst (λ xs. IsTrue (list_all (λ c. c == code) xs)) (sym l.holds.answered) is.3,
-          ),
+    asked-by None is stops answered =
+        let k = logs_keep_the_lane (world_in l) l.sys.now l.by l.count l.ceiling l.log l.numbers.list l.seat.me.0 s h z l.holds recs (view-then None is) (stops-then None is stops) (codes-then None is answered) in (
+          k.is ∙ (λ i. record (state_view l) { spare = spare i; stops = stops i; answered = codes_in (answered i); asked = length (answered i) }),
+          l.holds.stops ∙ is.1,
+          l.holds.answered ∙ is.2,
+          refl,
+        )
+    asked-by (Some code) is stops answered =
+        let k = logs_keep_the_lane (world_in l) l.sys.now l.by l.count l.ceiling l.log l.numbers.list l.seat.me.0 s h z l.holds recs (view-then (Some code) is) (stops-then (Some code) is stops) (codes-then (Some code) is answered) in (
+          k.is ∙ (λ i. record (state_view l) { spare = spare i; stops = stops i; answered = (ap codes_in answered ∙ code-more code l.log.answered.list is.1) i; asked = length (answered i) }),
+          is.1,
+          is.2,
+          subst (λ xs. IsTrue (list_all (λ c. c == code) xs)) (sym l.holds.answered) is.3,
         )
 
-  pub found-none : (side : TableId) → side ≡ l.side.words.now.shared.table_id → FindsCode s z None → LaneHolds l.sys.now l.count l.ceiling l.log l.numbers.list l.seat.me.0 z × Stopped (state_view l) (lane_then l.log side) None
-  unfolding lane_of
-  found-none side same is = (
-    subst (LaneHolds l.sys.now l.count l.ceiling l.log l.numbers.list l.seat.me.0) (sym is.0) l.holds,
-    subst (λ (q : TableId × SideView). Stopped (state_view l) (lane_with (world_of l.words.now.shared.table_id q.0 l.count) l.sys.now l.by l.log l.numbers.list l.seat.me.0 q.1) None) (λ i. (sym same i, sym is.0 i)) (refl, l.holds.stops ∙ is.1, l.holds.answered ∙ is.2, refl),
-  )
+    -- A question, and what it found.
+    pub asked : (r : Option ℕ) → FindsCode s z r → h.stops.list ≡ l.log.stops.list → h.answered.list ≡ unwrap_or r 0 ∷ l.log.answered.list → LaneHolds l.sys.now l.count l.ceiling h l.numbers.list l.seat.me.0 z × Stopped (state_view l) (lane_then h side) r
+    asked r is stops answered = (
+      (logs_keep_the_lane (world_in l) l.sys.now l.by l.count l.ceiling l.log l.numbers.list l.seat.me.0 s h z l.holds recs (view-then r is) (stops-then r is stops) (codes-then r is answered)).holds,
+      subst (λ x. Stopped (state_view l) (lane_then h x) r) (sym same) (asked-by r is stops answered),
+    )

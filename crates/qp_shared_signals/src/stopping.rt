@@ -20,7 +20,7 @@ pub fn stop(lane: &mut LaneState<'_>, code: u8)
 pub fn stopped(lane: &mut LaneState<'_>) -> Option<u8>
     ensures { Stopped (state_view lane.old) (state_view lane.new) result }
 {
-    let code = lane.side.stopped()?;
-    lane.log.answer(code);
-    Some(code)
+    let found = lane.side.stopped();
+    lane.log.answer(found.unwrap_or(0));
+    found
 }

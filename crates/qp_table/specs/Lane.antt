@@ -1,5 +1,5 @@
 -- A lane as its caller sees it, and what ties that to its view.
-use Rattle.std.specs.Prelude.{ℕ, eqb, Bool, true, false, nat_lt, ◌&&◌, ◌||◌, List, [], ◌∷◌, cond, map}
+use Rattle.std.specs.Prelude.{ℕ, eqb, Bool, true, false, nat_lt, ◌&&◌, ◌||◌, List, [], ◌∷◌, cond, map, length}
 use Rattle.std.specs.List.{filter, list_any}
 use Rattle.qp_model.specs.declared.record.Rec.{Rec}
 use Rattle.qp_model.specs.declared.systems.System.{System}
@@ -18,7 +18,7 @@ use Rattle.qp_table.specs.declared.view.Content.{Content}
 use Rattle.qp_table.specs.declared.view.Glance.{Glance}
 use Rattle.qp_table.specs.declared.view.SeatLog.{SeatLog}
 use Rattle.qp_table.specs.declared.view.View.{View}
-use Rattle.qp_calls.specs.LaneView.{LaneView, own_after, placed_by}
+use Rattle.qp_calls.specs.LaneView.{LaneView, codes_in, own_after, placed_by}
 use Rattle.qp_calls.specs.Tokens.{Token, Held, Loose, same_token, hands_after}
 use Rattle.qp_table.specs.Words.{mark_seen, shown_seen}
 
@@ -73,7 +73,7 @@ lane_mark sys seen side (word.Timer t) = side (word.Timer t)
 lane_mark sys seen side w = mark_seen sys seen w
 
 -- what a lane is besides its records and its view: the name of its table, the system, its number, the object for which it adds
--- records, the codes that it handed in and found, and its marks of signals and timers
+-- records, the codes that it handed in, the answers to its questions (0 where no code was found), and its marks of signals and timers
 pub record Standing : Type 0 where
   pub world : List ℕ
   pub sys : System
@@ -93,7 +93,8 @@ lane_of at told spare v = record {
   by = at.by;
   serves = λ o. list_any (is_serve o) v.serves;
   stops = at.stops;
-  answered = at.answered;
+  answered = codes_in at.answered;
+  asked = length at.answered;
   mark = lane_mark at.sys v.seen at.side;
   shown = shown_seen at.sys v.seen;
   own = λ a. own_after a (record { l = 0; m = 0 }) told;

@@ -19,12 +19,13 @@ use Rattle.qp_dispatch.proofs.Quiet.{spills-append}
 use Rattle.qp_kernel.specs.Happenings.{lanes_of}
 use Rattle.qp_kernel.specs.Turning.{Terms, rest_told}
 use Rattle.qp_kernel.proofs.HappeningLemmas.{IsIdleRecord}
+use Rattle.qp_kernel_turns.specs.Halting.{asked_once}
 use Rattle.qp_kernel_turns.specs.Knowing.{IsScanning}
 use Rattle.qp_kernel_turns.specs.Ordering.{AreSeenEmpty, InOrder, PassedInOrder}
 use Rattle.qp_kernel_turns.specs.Turning.{Stand, Stood}
 use Rattle.qp_kernel_turns.proofs.Halted.{same-lanes}
 use Rattle.qp_kernel_turns.proofs.Looking.{GoesFor}
-use Rattle.qp_kernel_turns.proofs.Ordered.{grows-in_order, none-still, still-empty}
+use Rattle.qp_kernel_turns.proofs.Ordered.{empty-once, grows-in_order, in_order-once, none-still, still-empty}
 use Rattle.qp_kernel_turns.proofs.Pending.{stays-by}
 use Rattle.qp_kernel_turns.proofs.Places.{follow-none}
 use Rattle.qp_kernel_turns.proofs.Turns.{noted}
@@ -42,7 +43,7 @@ rest-own : (q k : ℕ) (o : Own) → own_after q o (rest_told k ∷ []) ≡ o
 unfolding own_after
 rest-own q k o = refl
 
-rest-goes : (n : ℕ) (v v1 v2 : LaneView) → Roomier v v1 → GrowsOf 0 (plain (body.Rest n) ∷ []) v1 v2 → spills_told v.told ≡ false → GoesFor (rest_told n ∷ []) v v2
+rest-goes : (n : ℕ) (v v1 v2 : LaneView) → Roomier (asked_once v) v1 → GrowsOf 0 (plain (body.Rest n) ∷ []) v1 v2 → spills_told v.told ≡ false → GoesFor (rest_told n ∷ []) v v2
 unfolding hands_after hands_by ceiling_in
 rest-goes n v v1 v2 room grown none =
     let told : v2.told ≡ v.told ++ rest_told n ∷ [] = grown.told ∙ ap (λ u. u.told ++ rest_told n ∷ []) room.same in
@@ -56,7 +57,7 @@ rest-goes n v v1 v2 room grown none =
     }
 
 module _ (sys : System) (sound : IsSound sys) (terms : Terms) (single : terms.threaded ≡ false) (cooperative : terms.cooperative ≡ true) (a : Stand) (base : a.stack ≡ [])
-    (k : Stood (IsScanning sys terms []) sys terms a) (r : Rec) (v1 v2 : LaneView) (room : Roomier a.lane v1)
+    (k : Stood (IsScanning sys terms []) sys terms a) (r : Rec) (v1 v2 : LaneView) (room : Roomier (asked_once a.lane) v1)
     (is : item_of r ≡ record { of = 0; body = body.Rest a.looks }) (grown : GrowsOf r.of (told_note r v1) v1 v2) where
   note : GrowsOf 0 (plain (body.Rest a.looks) ∷ []) v1 v2
   note = noted 0 (body.Rest a.looks) r v1 v2 is grown
@@ -80,10 +81,11 @@ module _ (sys : System) (sound : IsSound sys) (terms : Terms) (single : terms.th
 
   pub rested-in_order : (acts : Bool) → InOrder acts sys a.looks a.lane → AreSeenEmpty sys 0 0 a.lane → PassedInOrder acts sys 0 0 a (record a { lane = v2 })
   rested-in_order acts h seen =
-      let gains = room-then (rest_told a.looks ∷ []) a.lane v1 v2 room note in
+      let gains = room-then (rest_told a.looks ∷ []) (asked_once a.lane) v1 v2 room note in
+      let once = in_order-once acts sys a.looks a.lane h in
       record {
-        order = grows-in_order acts sys a.looks (rest_told a.looks ∷ []) a.lane v2 gains (refl, tt) refl refl h;
-        none = λ side acting none. none-still acts sys a.looks (rest_told a.looks) a.lane v2 (rest-idle a.looks) gains h side acting none;
-        empty = λ i d from its high. still-empty d.priority (rest_told a.looks ∷ []) a.lane v2 gains (rest-mark d.priority (a.lane.mark (word.Queue d.priority)) a.looks) (rest-own d.priority a.looks (a.lane.own d.priority)) (seen i d from its high);
+        order = grows-in_order acts sys a.looks (rest_told a.looks ∷ []) (asked_once a.lane) v2 gains (refl, tt) refl refl once;
+        none = λ side acting none. none-still acts sys a.looks (rest_told a.looks) (asked_once a.lane) v2 (rest-idle a.looks) gains once side acting none;
+        empty = λ i d from its high. still-empty d.priority (rest_told a.looks ∷ []) (asked_once a.lane) v2 gains (rest-mark d.priority (a.lane.mark (word.Queue d.priority)) a.looks) (rest-own d.priority a.looks (a.lane.own d.priority)) (empty-once d.priority a.lane (seen i d from its high));
         stays = stays-by a.lane v2 (λ p. gains.own p ∙ rest-own p a.looks (a.lane.own p)) (λ p. gains.rise (word.Queue p));
       }

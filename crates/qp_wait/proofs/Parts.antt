@@ -7,8 +7,9 @@ use Rattle.qp_model.specs.Sound.{IsSound}
 use Rattle.qp_calls.specs.LaneView.{LaneView}
 use Rattle.qp_kernel_turns.specs.declared.halting.Halt.{Halt}
 use Rattle.qp_kernel_turns.specs.declared.halting.Halt.TheVariants as halt
+use Rattle.qp_kernel_turns.specs.Halting.{asked_once}
 use Rattle.qp_kernel_turns.specs.Lanes.{LaneGoes, LaneHalts}
-use Rattle.qp_kernel_turns.proofs.Lanes.{finds-stop, stops-memory}
+use Rattle.qp_kernel_turns.proofs.Lanes.{finds-stop, goes-once, goes-then, stops-memory}
 use Rattle.qp_port_lanes.specs.declared.home.Home.{Home}
 use Rattle.qp_port_lanes.specs.At.{IsHome}
 use Rattle.qp_port_lanes.specs.Turning.{HomeHalts}
@@ -51,7 +52,9 @@ module _ (x w : BellLane) (keeps : KeepsPerch x w) where
 
   pub parks-by : (me place : ℕ) (r : Result (Unit {0}) Memory) → (is_park_place me (bell_view x).told place ≡ true) × ((k : ℕ) → place < k → is_park_place me (bell_view x).told k ≡ false)
       → OnOk r (parks_of w.perch ≡ parks_of x.perch ++ place ∷ []) → OnErr r (parks_of w.perch ≡ parks_of x.perch) → Parks me x w r
-  parks-by me place (Ok u) look one two = record { rests = kept; lane = ap lane_view keeps.ringing.lane; place = place; look = look.0; last = look.1; parks = one; spent = keeps.ringing.found }
+  parks-by me place (Ok u) look one two =
+      let same : bell_view w ≡ bell_view x = ap lane_view keeps.ringing.lane in
+      (record { rests = kept; told = ap (λ v. v.told) same; place = place; look = look.0; last = look.1; parks = one; spent = keeps.ringing.found }, same)
   parks-by me place (Err e) look one two = record { rests = kept; lane = ap lane_view keeps.ringing.lane; parks = two }
 
 pub looked : (over : Bool) (x y : BellLane) → LooksAtCount over x y → HasNotParked over x y
@@ -61,7 +64,7 @@ looked over x y looks = record {
   parks = ap parks_of looks.perch;
 }
 
-rests-then : (x y w : BellLane) → LaneRests false x y → LaneRests false y w → LaneRests false x w
+pub rests-then : (x y w : BellLane) → LaneRests false x y → LaneRests false y w → LaneRests false x w
 rests-then x y w one two = record {
   ended = two.ended ∙ one.ended;
   looks = let first = one.looks in let second = two.looks in omega (arith, first, second);
@@ -69,17 +72,14 @@ rests-then x y w one two = record {
   said = two.said ∙ one.said;
 }
 
-pub not-parked-then : (x y w : BellLane) → HasNotParked false x y → HasNotParked false y w → HasNotParked false x w
-not-parked-then x y w one two = record { rests = rests-then x y w one.rests two.rests; lane = two.lane ∙ one.lane; parks = two.parks ∙ one.parks }
-
-pub parked-then : (me : ℕ) (x y w : BellLane) → HasNotParked false x y → HasParkedAt me y w → HasParkedAt me x w
-parked-then me x y w one two = record {
-  rests = rests-then x y w one.rests two.rests;
-  lane = two.lane ∙ one.lane;
+pub parked-then : (me : ℕ) (x y w : BellLane) → LaneRests false x y → (bell_view y).told ≡ (bell_view x).told → parks_of y.perch ≡ parks_of x.perch → HasParkedAt me y w → HasParkedAt me x w
+parked-then me x y w rests told parks two = record {
+  rests = rests-then x y w rests two.rests;
+  told = two.told ∙ told;
   place = two.place;
-  look = subst (λ v. is_park_place me v.told two.place ≡ true) one.lane two.look;
-  last = λ k less. subst (λ v. is_park_place me v.told k ≡ false) one.lane (two.last k less);
-  parks = two.parks ∙ ap (λ ks. ks ++ two.place ∷ []) one.parks;
+  look = subst (λ ts. is_park_place me ts two.place ≡ true) told two.look;
+  last = λ k less. subst (λ ts. is_park_place me ts k ≡ false) told (two.last k less);
+  parks = two.parks ∙ ap (λ ks. ks ++ two.place ∷ []) parks;
   spent = two.spent;
 }
 
@@ -90,7 +90,7 @@ module _ (sys : System) (sound : IsSound sys) (budget : ℕ) (y : Home) (z w : B
 
   pub pause-halts : (u : LaneView) (h : Halt) → LaneGoes false u (bell_view z) → Pauses y.me z w (Err h) → (HomeHalts sys budget y.me y (bell_view w) h) × (LaneHalts false u (bell_view w) h)
   pause-halts u halt.Stopped goes s = (pause-stops s, finds-stop false s.code u (bell_view z) (bell_view w) goes s.found.0)
-  pause-halts u halt.Memory goes s = (tt, stops-memory false u (bell_view z) (bell_view w) goes s.stops)
+  pause-halts u halt.Memory goes s = (tt, stops-memory false u (asked_once (bell_view z)) (bell_view w) (goes-then false u (bell_view z) (asked_once (bell_view z)) goes (goes-once false (bell_view z))) s.stops)
 
 pub pause-rests : (me : ℕ) (z w : BellLane) (h : Halt) → Pauses me z w (Err h) → ((bell_view w).told ≡ (bell_view z).told) × LaneRests false z w × (parks_of w.perch ≡ parks_of z.perch)
 pause-rests me z w halt.Stopped s = (ap (λ v. v.told) s.found.0, s.rests, s.parks)

@@ -161,7 +161,7 @@ module _ (x y : BellLane) (said : Bool) (h : IsWaiting said x y) where
         let all = steps-all 0 (bell_view z).told more in
         record {
           ts = h.ts ++ more.ts;
-          told = ap (λ v. v.told) p.lane ∙ told-all 0 (bell_view z).told more;
+          told = p.told ∙ told-all 0 (bell_view z).told more;
           ended =
               let first = h.ended in
               let same = keeps.ended in
@@ -183,7 +183,7 @@ module _ (x y : BellLane) (said : Bool) (h : IsWaiting said x y) where
           ks = h.ks ++ p.place ∷ [];
           parks = p.parks ∙ ap (λ ks. ks ++ p.place ∷ []) parks-all ∙ append_assoc (parks_of x.perch) h.ks (p.place ∷ []);
           nils = λ n most at.
-              empty-parked (bell_view x).told h.ks me (bell_view y).told (bell_view z).told h.nils e p.place p.look p.last n most (ap (λ v. is_nil_at v.told n) (sym p.lane) ∙ at);
+              empty-parked (bell_view x).told h.ks me (bell_view y).told (bell_view z).told h.nils e p.place p.look p.last n most (ap (λ ts. is_nil_at ts n) (sym p.told) ∙ at);
         }
 
     -- or the turn is over, or stops

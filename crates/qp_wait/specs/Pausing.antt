@@ -4,6 +4,9 @@ use Rattle.std.specs.declared.result.Result.{Result}
 use Rattle.qp_base.specs.declared.faults.Memory.{Memory}
 use Rattle.qp_model.specs.Told.{ToldItem}
 use Rattle.qp_calls.specs.Clauses.{Stopped, Stops}
+use Rattle.qp_calls.specs.LaneView.{LaneView}
+use Rattle.qp_kernel.specs.Interrupting.{is_unset}
+use Rattle.qp_kernel_turns.specs.Halting.{asked_once}
 use Rattle.qp_kernel_turns.specs.declared.halting.Halt.{Halt}
 use Rattle.qp_kernel_turns.specs.declared.halting.Halt.TheVariants as halt
 use Rattle.qp_wait_bells.specs.Tallies.{one_where}
@@ -25,7 +28,7 @@ pub record LaneRests (over : Bool) (old new : BellLane) : Type 0 where
 -- it parked behind the last look that found the queue of object `me` empty
 pub record HasParkedAt (me : ℕ) (old new : BellLane) : Type 0 where
   pub rests : LaneRests false old new
-  pub lane : bell_view new ≡ bell_view old
+  pub told : (bell_view new).told ≡ (bell_view old).told
   pub place : ℕ
   pub look : is_park_place me (bell_view old).told place ≡ true
   pub last : (k : ℕ) → place < k → is_park_place me (bell_view old).told k ≡ false
@@ -39,7 +42,7 @@ pub record HasNotParked (over : Bool) (old new : BellLane) : Type 0 where
   pub parks : parks_of new.perch ≡ parks_of old.perch
 
 abbrev pub Parks : ℕ → BellLane → BellLane → Result (Unit {0}) Memory → Type 0
-Parks me old new (Ok u) = HasParkedAt me old new
+Parks me old new (Ok u) = HasParkedAt me old new × (bell_view new ≡ bell_view old)
 Parks me old new (Err e) = HasNotParked false old new
 
 -- the stop word was found set
@@ -49,15 +52,21 @@ pub record IsStopFound (old new : BellLane) : Type 0 where
   pub found : Stopped (bell_view old) (bell_view new) (Some code)
   pub parks : parks_of new.perch ≡ parks_of old.perch
 
--- it couldn't park
-pub record IsShort (old new : BellLane) : Type 0 where
+-- it couldn't park, and handed in 7 from there on
+pub record IsShort (from : LaneView) (old new : BellLane) : Type 0 where
   pub rests : LaneRests false old new
-  pub stops : Stops 7 (bell_view old) (bell_view new)
+  pub stops : Stops 7 from (bell_view new)
   pub parks : parks_of new.perch ≡ parks_of old.perch
 
--- the turn is over exactly where nothing was found on the count
+-- The turn is over exactly where nothing was found on the count. Else the stop word was looked at, once.
 abbrev pub Pauses : ℕ → BellLane → BellLane → Result Bool Halt → Type 0
-Pauses me old new (Ok true) = HasParkedAt me old new
+Pauses me old new (Ok true) = HasParkedAt me old new × (bell_view new ≡ asked_once (bell_view old))
 Pauses me old new (Ok false) = HasNotParked true old new
 Pauses me old new (Err halt.Stopped) = IsStopFound old new
-Pauses me old new (Err halt.Memory) = IsShort old new
+Pauses me old new (Err halt.Memory) = IsShort (asked_once (bell_view old)) old new
+
+-- It parks only where the stop word was found unset first.
+abbrev pub ParksUnset : LaneView → Result Bool Halt → Type 0
+ParksUnset v (Ok true) = is_unset v ≡ true
+ParksUnset v (Ok false) = Unit {0}
+ParksUnset v (Err h) = Unit {0}

@@ -2,7 +2,7 @@
 
 ghost use Rattle.std.specs.Prelude.{◌≡◌, ◌≤◌, Some, length};
 ghost use Rattle.qp_wait.specs.Lane.{bell_view};
-ghost use Rattle.qp_wait.specs.Pausing.{HasLook, IsShort, Parks, Pauses};
+ghost use Rattle.qp_wait.specs.Pausing.{HasLook, IsShort, Parks, ParksUnset, Pauses};
 
 use crate::lane::BellLane;
 use crate::looking::last_look;
@@ -34,7 +34,8 @@ pub(crate) fn pause<R: Wait>(rt: &R, lane: &mut BellLane<'_>, me: u8) -> Result<
     requires found { lane.old.ringing.found ≡ Some me }
     requires look { HasLook me (bell_view lane.old).told }
     requires few { length (bell_view lane.old).told ≤ 1000000 }
-    ensures { Pauses me lane.old lane.new result }
+    ensures pauses { Pauses me lane.old lane.new result }
+    ensures unset { ParksUnset (bell_view lane.old) result }
 {
     if lane.is_over() {
         return Ok(false);
@@ -51,7 +52,7 @@ pub(crate) fn pause<R: Wait>(rt: &R, lane: &mut BellLane<'_>, me: u8) -> Result<
 
 /// The turn ends as for want of memory.
 pub(crate) fn give_up(lane: &mut BellLane<'_>)
-    ensures { IsShort lane.old lane.new }
+    ensures { IsShort (bell_view lane.old) lane.old lane.new }
 {
     lane.ringing.stop(qp_model::stops::MEMORY);
 }

@@ -5,7 +5,7 @@ ghost use Rattle.qp_model.specs.Sound.{IsSound};
 ghost use Rattle.qp_kernel_turns.specs.Lanes.{LaneTo};
 ghost use Rattle.qp_port_lanes.specs.At.{IsBusyHome, IsHome};
 ghost use Rattle.qp_port_lanes.specs.Takes.{BeginTakes, FinishTakes};
-ghost use Rattle.qp_port_lanes.specs.Turning.{NextTo, StepsTo};
+ghost use Rattle.qp_port_lanes.specs.Turning.{NextTo, StepsTo, UnsetFirst};
 ghost use Rattle.qp_wait.specs.Lane.{bell_view};
 ghost use Rattle.qp_wait.specs.Steps.{ClosesStep, FinishesStep, KeepsCounts};
 
@@ -33,6 +33,7 @@ pub(crate) fn begin<R: Wait, G: Tells>(
     ensures lane { LaneTo false (bell_view lane.old) (bell_view lane.new) result }
     ensures same { home.new.me ≡ home.old.me }
     ensures takes { BeginTakes home.old home.new (bell_view lane.old).told (bell_view lane.new).told result }
+    ensures unset { UnsetFirst (bell_view lane.old) result }
     ensures counts { KeepsCounts lane.old lane.new }
 {
     begin_step(rt, &mut lane.ringing, sys, home, number, budget, gate)

@@ -4,13 +4,15 @@ use Rattle.qp_model.specs.Told.{plain}
 use Rattle.qp_calls.proofs.Growing.{gains-none, room-then}
 use Rattle.qp_calls.proofs.Noting.{may-note}
 use Rattle.qp_kernel.specs.Turning.{look_told}
+use Rattle.qp_kernel_turns.specs.declared.halting.Halt.TheVariants as halt
+use Rattle.qp_kernel_turns.specs.Halting.{asked_once}
 use Rattle.qp_kernel_turns.specs.Ordering.{LookedInOrder}
 use Rattle.qp_kernel_turns.specs.TurnRows.{bare_row, idle_rows}
 use Rattle.qp_kernel_turns.specs.Turning.{stand_of, terms_of}
 use Rattle.qp_kernel_turns.proofs.BaseRows.{few-more, idle-is}
 use Rattle.qp_kernel_turns.proofs.Halted.{halts-few, halts-turn}
-use Rattle.qp_kernel_turns.proofs.Lanes.{gains-goes, goes-then, halts-lane, happened-goes, memory-halts, nothing-goes, stopped-halts, stops-memory}
-use Rattle.qp_kernel_turns.proofs.Ordered.{halts-in_order, none-in_order, some-in_order, stopped-in_order, unset-still}
+use Rattle.qp_kernel_turns.proofs.Lanes.{asked-goes, goes-then, halts-lane, happened-goes, memory-halts, nothing-goes, stopped-halts, stops-memory}
+use Rattle.qp_kernel_turns.proofs.Ordered.{halts-behind, halts-in_order, in_order-once, none-in_order, some-in_order, stopped-in_order, unset-still}
 use Rattle.qp_kernel_turns.proofs.Resting.{rests-halted, rests-noted}
 use Rattle.qp_kernel_turns.proofs.Staying.{all-wait}
 use Rattle.qp_kernel_turns.proofs.Turns.{looked-none, looked-some, looked-stopped, noted, row-stopped}
@@ -51,14 +53,14 @@ returns-in-Happened g c =
     let v2 = lane c.note.new.self in
     let v3 = lane c.interrupt.new.self in
     let note = noted 0 (body.Look n c.args.floor) c.look.result v1 v2 c.look.ensures c.note.ensures.grows in
-    let gains = room-then (look_told n c.args.floor ∷ []) (lane c.args.world.now) v1 v2 c.in_ok-ready.ensures.roomier note in
+    let gains = room-then (look_told n c.args.floor ∷ []) (asked_once (lane c.args.world.now)) v1 v2 c.in_ok-ready.ensures.roomier note in
     record {
       goes = looked-some sys c.requires.sound (terms_of c.args.at.now) _ c.requires.knows n c.args.floor refl c.requires.floor v1 v2 v3 c.in_ok-ready.ensures.roomier note _ c.in-Happened.ensures.1;
       order =
           subst (λ f. LookedInOrder g.W.World.acts sys (f == 0) (record { looks = n; stack = c.args.kernel.now.stack.items; objects = c.args.objects.now; lane = v3 }) true) c.requires.floor
-          (some-in_order g.W.World.acts sys c.args.kernel.now.looks n c.args.floor _ (lane c.args.world.now) v2 v3 c.requires.knows.knows.lane.of gains refl refl c.requires.order (stand_of c.args.kernel.now c.args.objects.now (lane c.args.world.now)) c.in-Happened.ensures.1);
+          (some-in_order g.W.World.acts sys c.args.kernel.now.looks n c.args.floor _ (asked_once (lane c.args.world.now)) v2 v3 c.requires.knows.knows.lane.of gains refl refl (in_order-once g.W.World.acts sys c.args.kernel.now.looks (lane c.args.world.now) c.requires.order) (stand_of c.args.kernel.now c.args.objects.now (lane c.args.world.now)) c.in-Happened.ensures.1);
       rests = tt;
-      lane = goes-then g.W.World.acts (lane c.args.world.now) v2 v3 (gains-goes g.W.World.acts (look_told n c.args.floor ∷ []) (lane c.args.world.now) v2 gains) (happened-goes g.W.World.acts _ n v2 v3 c.in-Happened.ensures.0 c.in-Happened.ensures.1);
+      lane = goes-then g.W.World.acts (lane c.args.world.now) v2 v3 (asked-goes g.W.World.acts (look_told n c.args.floor ∷ []) (lane c.args.world.now) v2 gains) (happened-goes g.W.World.acts _ n v2 v3 c.in-Happened.ensures.0 c.in-Happened.ensures.1);
       steps = refl;
       rows = λ came. c.in-Happened.ensures.0;
     }
@@ -72,14 +74,14 @@ returns-in-Nothing g c =
     let v2 = lane c.note.new.self in
     let v3 = lane c.interrupt.new.self in
     let note = noted 0 (body.Look n c.args.floor) c.look.result v1 v2 c.look.ensures c.note.ensures.grows in
-    let gains = room-then (look_told n c.args.floor ∷ []) (lane c.args.world.now) v1 v2 c.in_ok-ready.ensures.roomier note in
+    let gains = room-then (look_told n c.args.floor ∷ []) (asked_once (lane c.args.world.now)) v1 v2 c.in_ok-ready.ensures.roomier note in
     record {
       goes = looked-none sys c.requires.sound (terms_of c.args.at.now) _ c.requires.knows n c.args.floor refl c.requires.floor v1 v2 v3 c.in_ok-ready.ensures.roomier note _ _ c.in-Nothing.ensures;
       order =
           subst (λ f. LookedInOrder g.W.World.acts sys (f == 0) (record { looks = n; stack = c.args.kernel.now.stack.items; objects = c.args.objects.now; lane = v3 }) false) c.requires.floor
-          (none-in_order g.W.World.acts sys c.args.kernel.now.looks n c.args.floor _ (lane c.args.world.now) v2 v3 c.requires.knows.knows.lane.of gains refl refl c.requires.order (stand_of c.args.kernel.now c.args.objects.now (lane c.args.world.now)) c.in-Nothing.ensures);
+          (none-in_order g.W.World.acts sys c.args.kernel.now.looks n c.args.floor _ (asked_once (lane c.args.world.now)) v2 v3 c.requires.knows.knows.lane.of gains refl refl (in_order-once g.W.World.acts sys c.args.kernel.now.looks (lane c.args.world.now) c.requires.order) (stand_of c.args.kernel.now c.args.objects.now (lane c.args.world.now)) c.in-Nothing.ensures);
       rests = tt;
-      lane = goes-then g.W.World.acts (lane c.args.world.now) v2 v3 (gains-goes g.W.World.acts (look_told n c.args.floor ∷ []) (lane c.args.world.now) v2 gains) (nothing-goes g.W.World.acts _ v2 v3 c.in-Nothing.ensures);
+      lane = goes-then g.W.World.acts (lane c.args.world.now) v2 v3 (asked-goes g.W.World.acts (look_told n c.args.floor ∷ []) (lane c.args.world.now) v2 gains) (nothing-goes g.W.World.acts _ v2 v3 c.in-Nothing.ensures);
       steps = refl;
       rows = λ came. absurd (cc);
     }
@@ -93,14 +95,16 @@ returns-in-Stopped g c =
     let v2 = lane c.note.new.self in
     let v3 = lane c.interrupt.new.self in
     let note = noted 0 (body.Look n c.args.floor) c.look.result v1 v2 c.look.ensures c.note.ensures.grows in
-    let gains = room-then (look_told n c.args.floor ∷ []) (lane c.args.world.now) v1 v2 c.in_ok-ready.ensures.roomier note in
+    let gains = room-then (look_told n c.args.floor ∷ []) (asked_once (lane c.args.world.now)) v1 v2 c.in_ok-ready.ensures.roomier note in
     record {
       goes = looked-stopped sys c.requires.sound (terms_of c.args.at.now) _ c.requires.knows n c.args.floor refl c.requires.floor v1 v2 v3 c.in_ok-ready.ensures.roomier note _ c.in-Stopped.ensures.1;
       order =
-          stopped-in_order g.W.World.acts sys c.args.kernel.now.looks n c.args.floor _ (lane c.args.world.now) v2 v3 c.requires.knows.knows.lane.of gains refl refl c.requires.order
-          c.in-Stopped.ensures.1 (unset-still (look_told n c.args.floor ∷ []) (lane c.args.world.now) v2 gains c.in_ok-ready.ensures.unset);
+          halts-behind g.W.World.acts sys (lane c.args.world.now) (asked_once (lane c.args.world.now)) v3 halt.Stopped refl refl
+          (stopped-in_order g.W.World.acts sys c.args.kernel.now.looks n c.args.floor _ (asked_once (lane c.args.world.now)) v2 v3 c.requires.knows.knows.lane.of gains refl refl
+          (in_order-once g.W.World.acts sys c.args.kernel.now.looks (lane c.args.world.now) c.requires.order)
+          c.in-Stopped.ensures.1 (unset-still (look_told n c.args.floor ∷ []) (asked_once (lane c.args.world.now)) v2 gains c.in_ok-ready.ensures.unset));
       rests = rests-noted sys c.requires.sound (terms_of c.args.at.now) c.args.kernel.now.looks c.args.kernel.now.stack.items c.args.objects.now (lane c.args.world.now) c.requires.knows.knows _ c.requires.knows.at.stack n v3 (plain (body.Look n c.args.floor)) (c.in-Stopped.ensures.1.kept.told ∙ gains.told);
-      lane = stopped-halts g.W.World.acts _ n (lane c.args.world.now) v2 v3 c.in-Stopped.ensures.0 (gains-goes g.W.World.acts (look_told n c.args.floor ∷ []) (lane c.args.world.now) v2 gains) c.in-Stopped.ensures.1;
+      lane = stopped-halts g.W.World.acts _ n (lane c.args.world.now) v2 v3 c.in-Stopped.ensures.0 (asked-goes g.W.World.acts (look_told n c.args.floor ∷ []) (lane c.args.world.now) v2 gains) c.in-Stopped.ensures.1;
       steps = refl;
       rows = row-stopped sys c.requires.sound (terms_of c.args.at.now) _ c.requires.knows n c.args.floor refl c.requires.floor v1 v2 v3 c.in_ok-ready.ensures.roomier note _ c.in-Stopped.ensures.1;
     }
@@ -112,12 +116,12 @@ returns-in-Memory g c =
     let v1 = lane c.ready.new.ops in
     let v2 = lane c.note.new.self in
     let note = noted 0 (body.Look n c.args.floor) c.look.result v1 v2 c.look.ensures c.note.ensures.grows in
-    let gains = room-then (look_told n c.args.floor ∷ []) (lane c.args.world.now) v1 v2 c.in_ok-ready.ensures.roomier note in
+    let gains = room-then (look_told n c.args.floor ∷ []) (asked_once (lane c.args.world.now)) v1 v2 c.in_ok-ready.ensures.roomier note in
     record {
       goes = tt;
       order = tt;
       rests = tt;
-      lane = memory-halts g.W.World.acts (lane c.args.world.now) v2 (lane c.interrupt.new.self) (lane c.stop-in-Memory.new.self) c.in-Memory.ensures.0 (gains-goes g.W.World.acts (look_told n c.args.floor ∷ []) (lane c.args.world.now) v2 gains) c.in-Memory.ensures.1 c.stop-in-Memory.ensures;
+      lane = memory-halts g.W.World.acts (lane c.args.world.now) v2 (lane c.interrupt.new.self) (lane c.stop-in-Memory.new.self) c.in-Memory.ensures.0 (asked-goes g.W.World.acts (look_told n c.args.floor ∷ []) (lane c.args.world.now) v2 gains) c.in-Memory.ensures.1 c.stop-in-Memory.ensures;
       steps = refl;
       rows = tt;
     }
@@ -127,4 +131,4 @@ returns-then-kernel-clause-lane g c =
     let lane = g.W.Ops.lane in
     let v = lane c.args.world.now in
     let w = lane c.ready.new.ops in
-    stops-memory g.W.World.acts v w (lane c.stop.new.self) (gains-goes g.W.World.acts [] v w (room-then [] v w w c.in_ok-ready.ensures.roomier (gains-none w))) c.stop.ensures
+    stops-memory g.W.World.acts v w (lane c.stop.new.self) (asked-goes g.W.World.acts [] v w (room-then [] (asked_once v) w w c.in_ok-ready.ensures.roomier (gains-none w))) c.stop.ensures

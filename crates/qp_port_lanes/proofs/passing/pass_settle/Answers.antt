@@ -4,7 +4,7 @@ use Rattle.qp_calls_stimulus.specs.Settling.{SettlesTo}
 use Rattle.qp_calls.specs.Notes.{spills_told}
 use Rattle.qp_port_lanes.proofs.Going.{unspilled-told}
 use Rattle.qp_port_lanes.proofs.Ending.{cut-starves, cut-stops, cut-unspilled, passes-found, passes-yes}
-use Rattle.qp_port_lanes.proofs.Waiting.{found-here, halts-starve, halts-stop}
+use Rattle.qp_port_lanes.proofs.Waiting.{found-here, halts-starve, halts-stop, unset-before}
 use Rattle.qp_port_lanes.proofs.passing.pass_settle.Goals as goal
 
 pub returns-in-Some-clause-passes : goal.returns-in-Some-clause-passes
@@ -51,3 +51,6 @@ returns-in-Memory-clause-passes g c =
     let lane = g.O.Ops.lane in
     cut-starves c.args.sys.now c.args.source.now c.open.new.source (lane c.args.ops.now) (lane c.look.new.ops) (lane c.ready.new.ops) (lane c.open.new.ops) c.requires.knows
     c.in_default.ensures.0 c.in_default.ensures.1 c.in-Ok.ensures.roomier c.open.ensures (lane c.settle.new.ops) c.in-Err.ensures.0 (lane c.halt.new.ops) c.in-Memory.ensures
+
+pub returns-in-Ok-Empty-clause-unset : goal.returns-in-Ok-Empty-clause-unset
+returns-in-Ok-Empty-clause-unset g c = unset-before (g.O.Ops.lane c.args.ops.now) (g.O.Ops.lane c.look.new.ops) c.in_default.ensures.0 c.in-Ok.ensures.unset

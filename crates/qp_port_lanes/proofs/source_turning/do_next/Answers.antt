@@ -4,9 +4,12 @@ use Rattle.qp_calls.specs.LaneView.{LaneView}
 use Rattle.qp_calls.specs.Notes.{spills_told}
 use Rattle.qp_calls_stimulus.specs.declared.doing.Stimulated.TheVariants as stimulated
 use Rattle.qp_calls_stimulus.specs.Stimulating.{Exhausts, Stimulates}
+use Rattle.qp_kernel_turns.specs.Halting.{asked_once}
+use Rattle.qp_kernel_turns.proofs.Ordered.{unset-by}
 use Rattle.qp_port_lanes.specs.CursorAt.{mine}
 use Rattle.qp_dispatch.specs.declared.objects.Turn.TheVariants as turn
-use Rattle.qp_port_lanes.proofs.Turned.{any-default, breaks-here, few-begun, finds-stop, goes-none, goes-on, never, rests-settling, starves, stops-here, unspilled}
+use Rattle.qp_port_lanes.proofs.Asking.{cursor-once}
+use Rattle.qp_port_lanes.proofs.Turned.{any-default, breaks-here, breaks-then, few-begun, finds-stop, goes-none, goes-on, goes-then, never, rests-settling, starves, stops-here, turns-then, unspilled}
 use Rattle.qp_port_lanes.proofs.source_turning.do_next.Goals as goal
 
 pub returns-in-Some-clause-does : goal.returns-in-Some-clause-does
@@ -45,8 +48,12 @@ returns-in-Done-clause-does g c =
     let is : s ≡ get_or (mine x) x.begun s = subst (λ (l : List Stim). s ≡ get_or l x.begun s) list (cc) in
     let long : length c.mine.inside.items.items ≡ length xs = ap (λ (l : List Stim). length l) c.mine.view_is in
     let lt : x.begun < length (mine x) = subst (λ (l : List Stim). x.begun < length l) list (omega (arith, c.if-at-len.false, c.len.ensures, long)) in
-    goes-on c.args.sys.now x _ knows c.if-source.false s lt is (x.begun + 1) refl _ c.in_default.not-Settle
-    (subst (λ (u : LaneView). Stimulates c.args.sys.now s (x.begun + 1) 0 u (lane c.stimulus-answer.new.ops) stimulated.Done) c.in_default-stopped.ensures.0 c.in-Done.ensures.stimulates)
+    let v = lane c.args.ops.now in
+    let once = cursor-once c.args.sys.now x v knows in
+    let asked = knows.asked in
+    let one = goes-on c.args.sys.now x (asked_once v) once.at c.if-source.false s lt is (x.begun + 1) refl (lane c.stimulus-answer.new.ops) c.in_default.not-Settle (omega (arith, asked))
+    (subst (λ (u : LaneView). Stimulates c.args.sys.now s (x.begun + 1) 0 u (lane c.stimulus-answer.new.ops) stimulated.Done) c.in_default-stopped.ensures.0 c.in-Done.ensures.stimulates) in
+    record { goes = goes-then c.args.sys.now x x (record x { begun = x.begun + 1 }) v (asked_once v) (lane c.stimulus-answer.new.ops) once one.goes; one = one.one }
 
 pub returns-in-Tried-clause-does : goal.returns-in-Tried-clause-does
 returns-in-Tried-clause-does g c =
@@ -61,7 +68,7 @@ returns-in-Tried-clause-does g c =
     let is : s ≡ get_or (mine x) x.begun s = subst (λ (l : List Stim). s ≡ get_or l x.begun s) list (cc) in
     let long : length c.mine.inside.items.items ≡ length xs = ap (λ (l : List Stim). length l) c.mine.view_is in
     let lt : x.begun < length (mine x) = subst (λ (l : List Stim). x.begun < length l) list (omega (arith, c.if-at-len.false, c.len.ensures, long)) in
-    absurd (never c.args.sys.now x _ knows c.if-source.false s lt is (x.begun + 1) refl _ c.in_default.not-Settle
+    absurd (never c.args.sys.now x (asked_once (lane c.args.ops.now)) (cursor-once c.args.sys.now x (lane c.args.ops.now) knows).at c.if-source.false s lt is (x.begun + 1) refl _ c.in_default.not-Settle
     (subst (λ (u : LaneView). Stimulates c.args.sys.now s (x.begun + 1) 0 u (lane c.stimulus-answer.new.ops) stimulated.Tried) c.in_default-stopped.ensures.0 c.in-Tried.ensures.stimulates))
 
 pub returns-in-Stopped-clause-does : goal.returns-in-Stopped-clause-does
@@ -77,8 +84,11 @@ returns-in-Stopped-clause-does g c =
     let is : s ≡ get_or (mine x) x.begun s = subst (λ (l : List Stim). s ≡ get_or l x.begun s) list (cc) in
     let long : length c.mine.inside.items.items ≡ length xs = ap (λ (l : List Stim). length l) c.mine.view_is in
     let lt : x.begun < length (mine x) = subst (λ (l : List Stim). x.begun < length l) list (omega (arith, c.if-at-len.false, c.len.ensures, long)) in
-    stops-here c.args.sys.now x _ knows c.if-source.false s lt is (x.begun + 1) refl _
-    (subst (λ (u : LaneView). Stimulates c.args.sys.now s (x.begun + 1) 0 u (lane c.stimulus-answer.new.ops) stimulated.Stopped) c.in_default-stopped.ensures.0 c.in-Stopped.ensures.stimulates)
+    let v = lane c.args.ops.now in
+    let once = cursor-once c.args.sys.now x v knows in
+    turns-then c.args.sys.now x x x v (asked_once v) (lane c.stimulus-answer.new.ops) turn.Stopped once
+    (stops-here c.args.sys.now x (asked_once v) once.at c.if-source.false s lt is (x.begun + 1) refl (lane c.stimulus-answer.new.ops)
+    (subst (λ (u : LaneView). Stimulates c.args.sys.now s (x.begun + 1) 0 u (lane c.stimulus-answer.new.ops) stimulated.Stopped) c.in_default-stopped.ensures.0 c.in-Stopped.ensures.stimulates))
 
 pub returns-in-Some-clause-breaks : goal.returns-in-Some-clause-breaks
 returns-in-Some-clause-breaks g c =
@@ -107,8 +117,11 @@ returns-in-Stopped-clause-breaks g c =
     let is : s ≡ get_or (mine x) x.begun s = subst (λ (l : List Stim). s ≡ get_or l x.begun s) list (cc) in
     let long : length c.mine.inside.items.items ≡ length xs = ap (λ (l : List Stim). length l) c.mine.view_is in
     let lt : x.begun < length (mine x) = subst (λ (l : List Stim). x.begun < length l) list (omega (arith, c.if-at-len.false, c.len.ensures, long)) in
-    breaks-here c.args.sys.now x _ knows c.if-source.false s lt is turn.Stopped _ c.in_default.not-Settle
-    (inr (subst (λ (u : LaneView). Stimulates c.args.sys.now s (x.begun + 1) 0 u (lane c.stimulus-answer.new.ops) stimulated.Stopped) c.in_default-stopped.ensures.0 c.in-Stopped.ensures.stimulates))
+    let v = lane c.args.ops.now in
+    let once = cursor-once c.args.sys.now x v knows in
+    breaks-then c.args.sys.now x x x v (asked_once v) (lane c.stimulus-answer.new.ops) turn.Stopped once
+    (breaks-here c.args.sys.now x (asked_once v) once.at c.if-source.false s lt is turn.Stopped (lane c.stimulus-answer.new.ops) c.in_default.not-Settle
+    (inr (subst (λ (u : LaneView). Stimulates c.args.sys.now s (x.begun + 1) 0 u (lane c.stimulus-answer.new.ops) stimulated.Stopped) c.in_default-stopped.ensures.0 c.in-Stopped.ensures.stimulates)))
 
 pub returns-in-Memory-clause-breaks : goal.returns-in-Memory-clause-breaks
 returns-in-Memory-clause-breaks g c =
@@ -123,8 +136,11 @@ returns-in-Memory-clause-breaks g c =
     let is : s ≡ get_or (mine x) x.begun s = subst (λ (l : List Stim). s ≡ get_or l x.begun s) list (cc) in
     let long : length c.mine.inside.items.items ≡ length xs = ap (λ (l : List Stim). length l) c.mine.view_is in
     let lt : x.begun < length (mine x) = subst (λ (l : List Stim). x.begun < length l) list (omega (arith, c.if-at-len.false, c.len.ensures, long)) in
-    breaks-here c.args.sys.now x _ knows c.if-source.false s lt is turn.Memory _ c.in_default.not-Settle
-    (subst (λ (u : LaneView). Stimulates c.args.sys.now s (x.begun + 1) 0 u (lane c.stimulus-answer.new.ops) stimulated.Memory) c.in_default-stopped.ensures.0 c.in-Memory.ensures.stimulates)
+    let v = lane c.args.ops.now in
+    let once = cursor-once c.args.sys.now x v knows in
+    breaks-then c.args.sys.now x x x v (asked_once v) (lane c.stimulus-answer.new.ops) turn.Memory once
+    (breaks-here c.args.sys.now x (asked_once v) once.at c.if-source.false s lt is turn.Memory (lane c.stimulus-answer.new.ops) c.in_default.not-Settle
+    (subst (λ (u : LaneView). Stimulates c.args.sys.now s (x.begun + 1) 0 u (lane c.stimulus-answer.new.ops) stimulated.Memory) c.in_default-stopped.ensures.0 c.in-Memory.ensures.stimulates))
 
 pub returns-in-Tried-clause-breaks : goal.returns-in-Tried-clause-breaks
 returns-in-Tried-clause-breaks g c =
@@ -139,7 +155,7 @@ returns-in-Tried-clause-breaks g c =
     let is : s ≡ get_or (mine x) x.begun s = subst (λ (l : List Stim). s ≡ get_or l x.begun s) list (cc) in
     let long : length c.mine.inside.items.items ≡ length xs = ap (λ (l : List Stim). length l) c.mine.view_is in
     let lt : x.begun < length (mine x) = subst (λ (l : List Stim). x.begun < length l) list (omega (arith, c.if-at-len.false, c.len.ensures, long)) in
-    absurd (never c.args.sys.now x _ knows c.if-source.false s lt is (x.begun + 1) refl _ c.in_default.not-Settle
+    absurd (never c.args.sys.now x (asked_once (lane c.args.ops.now)) (cursor-once c.args.sys.now x (lane c.args.ops.now) knows).at c.if-source.false s lt is (x.begun + 1) refl _ c.in_default.not-Settle
     (subst (λ (u : LaneView). Stimulates c.args.sys.now s (x.begun + 1) 0 u (lane c.stimulus-answer.new.ops) stimulated.Tried) c.in_default-stopped.ensures.0 c.in-Tried.ensures.stimulates))
 
 pub returns-then-source-clause-does : goal.returns-then-source-clause-does
@@ -148,4 +164,10 @@ returns-then-source-clause-does g c = record { goes = goes-none c.args.sys.now c
 pub returns-in-Memory-clause-does : goal.returns-in-Memory-clause-does
 returns-in-Memory-clause-does g c =
     let lane = g.O.Ops.lane in
-    starves (lane c.args.ops.now) (lane c.stimulus-answer.new.ops) (subst (λ (u : LaneView). Exhausts u (lane c.stimulus-answer.new.ops)) c.in_default-stopped.ensures.0 c.in-Memory.ensures.stimulates)
+    let x = c.args.source.now in
+    let v = lane c.args.ops.now in
+    turns-then c.args.sys.now x x x v (asked_once v) (lane c.stimulus-answer.new.ops) turn.Memory (cursor-once c.args.sys.now x v c.requires.knows)
+    (starves (asked_once v) (lane c.stimulus-answer.new.ops) (subst (λ (u : LaneView). Exhausts u (lane c.stimulus-answer.new.ops)) c.in_default-stopped.ensures.0 c.in-Memory.ensures.stimulates))
+
+pub returns-in-Done-clause-unset : goal.returns-in-Done-clause-unset
+returns-in-Done-clause-unset g c = let e = c.in_default-stopped.ensures in unset-by (g.O.Ops.lane c.args.ops.now) e.1 e.2 e.3

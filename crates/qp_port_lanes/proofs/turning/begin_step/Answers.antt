@@ -3,11 +3,12 @@ use Rattle.std.proofs.lemmas.Result.{err_from_is_err_and}
 use Rattle.qp_model.specs.Told.{for_object, told_took}
 use Rattle.qp_calls.specs.Clauses.{entry_of}
 use Rattle.qp_calls.proofs.Growing.{gains-none, room-then}
-use Rattle.qp_kernel_turns.proofs.Lanes.{gains-goes, goes-then, halts-lane}
+use Rattle.qp_kernel_turns.specs.Halting.{asked_once}
+use Rattle.qp_kernel_turns.proofs.Lanes.{asked-goes, goes-then, halts-lane}
 use Rattle.qp_port_lanes.specs.Takes.{AddsEmpty, AddsNoTake}
 use Rattle.qp_port_lanes.proofs.Takes.{empty-goes, empty-takes, no-take-halts}
 use Rattle.qp_port_lanes.proofs.Beginning.{begun}
-use Rattle.qp_port_lanes.proofs.Resting.{halts, object-room, resting-room, takes-none}
+use Rattle.qp_port_lanes.proofs.Resting.{halts, object-room, resting-room, room-more, takes-none}
 use Rattle.qp_port_lanes.proofs.Never.{never-halts, never-room, never-then, never-took}
 use Rattle.qp_port_lanes.proofs.turning.begin_step.Goals as goal
 
@@ -37,6 +38,7 @@ returns-in-Taken-clause-goes g c =
     let x = c.args.home.now in
     let h = resting-room sys c.requires.sound c.args.budget x (lane c.args.ops.now) c.requires.knows (lane c.ready.new.ops) c.in_ok-ready.ensures.roomier in
     begun sys c.requires.sound c.args.budget x (lane c.ready.new.ops) (lane c.take.new.self) c.in-Taken.e c.begin.new.self h (omega (arith, c.if-taken-budget.false, c.taken.ensures)) c.in-Taken.ensures c.begin.ensures
+    (room-more sys c.requires.sound c.args.budget x (lane c.args.ops.now) c.requires.knows (lane c.ready.new.ops) c.in_ok-ready.ensures.roomier)
 
 pub returns-in-Empty-clause-goes : goal.returns-in-Empty-clause-goes
 returns-in-Empty-clause-goes g c =
@@ -96,5 +98,20 @@ returns-in-Empty-clause-lane g c =
     let lane = g.O.Ops.lane in
     let v = lane c.args.ops.now in
     let m = lane c.ready.new.ops in
-    goes-then false v m (lane c.take.new.self) (gains-goes false [] v m (room-then [] v m m c.in_ok-ready.ensures.roomier (gains-none m)))
+    goes-then false v m (lane c.take.new.self) (asked-goes false [] v m (room-then [] (asked_once v) m m c.in_ok-ready.ensures.roomier (gains-none m)))
     (empty-goes c.args.home.now.me c.in-Empty.f c.in-Empty.l c.in-Empty.m m (lane c.take.new.self) c.in-Empty.ensures)
+
+pub returns-in_err-ready-clause-unset : goal.returns-in_err-ready-clause-unset
+returns-in_err-ready-clause-unset g c = let p = err_from_is_err_and c.from_residual.result c.from_residual.ensures.1 in rw p.1 tt
+
+pub returns-in_err-look_only-clause-unset : goal.returns-in_err-look_only-clause-unset
+returns-in_err-look_only-clause-unset g c = let p = err_from_is_err_and c.from_residual-in_err-look_only.result c.from_residual-in_err-look_only.ensures.1 in rw p.1 tt
+
+pub returns-then-taken-budget-clause-unset : goal.returns-then-taken-budget-clause-unset
+returns-then-taken-budget-clause-unset g c = c.in_ok-ready.ensures.unset
+
+pub returns-in-Taken-clause-unset : goal.returns-in-Taken-clause-unset
+returns-in-Taken-clause-unset g c = c.in_ok-ready.ensures.unset
+
+pub returns-in-Empty-clause-unset : goal.returns-in-Empty-clause-unset
+returns-in-Empty-clause-unset g c = c.in_ok-ready.ensures.unset

@@ -1,4 +1,4 @@
-use Rattle.std.proofs.Common.{Bool, ◌≡◌, false}
+use Rattle.std.proofs.Common.{Bool, ◌+◌, ◌≡◌, ◌≤◌, false}
 use Rattle.qp_kernel_turns.specs.Lanes.{LaneGoes}
 use Rattle.qp_port_lanes.specs.At.{IsBusyHome}
 use Rattle.qp_port_lanes.specs.Takes.{AddsNoTake}
@@ -16,4 +16,5 @@ invariant-loop g l =
       same : l.home.me ≡ l.fn.home.me;
       takes : AddsNoTake (g.O.Ops.lane l.fn.ops).told (g.O.Ops.lane l.ops).told;
       under_way : l.home.busy ≡ l.fn.home.busy;
+      asked : l.home.object.taken + busy.points ≤ (g.O.Ops.lane l.ops).asked;
     }

@@ -4,9 +4,10 @@ use Rattle.qp_model.specs.declared.bodies.Body.TheVariants as body
 use Rattle.qp_calls.proofs.Growing.{room-then}
 use Rattle.qp_calls.proofs.Noting.{may-note}
 use Rattle.qp_kernel.specs.Turning.{rest_told}
+use Rattle.qp_kernel_turns.specs.Halting.{asked_once}
 use Rattle.qp_kernel_turns.specs.Turning.{stand_of, terms_of}
 use Rattle.qp_kernel_turns.proofs.Halted.{halts-turn}
-use Rattle.qp_kernel_turns.proofs.Lanes.{gains-goes, halts-lane}
+use Rattle.qp_kernel_turns.proofs.Lanes.{asked-goes, halts-lane}
 use Rattle.qp_kernel_turns.proofs.Ordered.{halts-in_order}
 use Rattle.qp_kernel_turns.proofs.Resting.{rests-halted}
 use Rattle.qp_kernel_turns.proofs.Staying.{all-wait}
@@ -48,7 +49,7 @@ returns g c =
           c.rest.ensures c.note.ensures.grows g.W.World.acts c.requires.order c.requires.empty;
       rests = tt;
       lane =
-          gains-goes g.W.World.acts (rest_told c.args.kernel.now.looks ∷ []) (lane c.args.world.now) (lane c.note.new.self)
-          (room-then (rest_told c.args.kernel.now.looks ∷ []) (lane c.args.world.now) (lane c.ready.new.ops) (lane c.note.new.self) c.in_ok-ready.ensures.roomier
+          asked-goes g.W.World.acts (rest_told c.args.kernel.now.looks ∷ []) (lane c.args.world.now) (lane c.note.new.self)
+          (room-then (rest_told c.args.kernel.now.looks ∷ []) (asked_once (lane c.args.world.now)) (lane c.ready.new.ops) (lane c.note.new.self) c.in_ok-ready.ensures.roomier
           (noted 0 (body.Rest c.args.kernel.now.looks) c.rest.result (lane c.ready.new.ops) (lane c.note.new.self) c.rest.ensures c.note.ensures.grows));
     }

@@ -1,8 +1,10 @@
-use Rattle.std.proofs.Common.{◌∙◌, Err, Ok, ap, false, refl, subst, sym, true}
+use Rattle.std.proofs.Common.{◌∙◌, Err, Ok, ap, arith, false, refl, subst, sym, true}
 use Rattle.std.proofs.lemmas.Result.{err_from_is_err_and}
+use Rattle.qp_kernel_turns.specs.Halting.{asked_once}
 use Rattle.qp_kernel_turns.specs.Lanes.{LaneGoes}
-use Rattle.qp_kernel_turns.proofs.Lanes.{goes-none, goes-then, halts-then}
+use Rattle.qp_kernel_turns.proofs.Lanes.{goes-none, goes-once, goes-then, halts-then, stops-memory}
 use Rattle.qp_port_lanes.specs.At.{IsHome}
+use Rattle.qp_port_lanes.proofs.Resting.{resting-same}
 use Rattle.qp_port_lanes.specs.Takes.{BeginTakes}
 use Rattle.qp_port_lanes.specs.Turning.{HomeHalts, NextTo}
 use Rattle.qp_wait.specs.Lane.{bell_view}
@@ -12,7 +14,6 @@ use Rattle.qp_wait.specs.Waiting.{RoundWaits, Waits}
 use Rattle.qp_wait.proofs.FoundEmpty.{idles-few, idles-look}
 use Rattle.qp_wait.proofs.Parts.{pause-halts, pause-rests}
 use Rattle.qp_wait.proofs.Waiting.{waiting-none, waiting-parked, waiting-step, waits-before, waits-behind, waits-within}
-use Rattle.qp_kernel_turns.specs.declared.halting.Halt.TheVariants as halt
 use Rattle.qp_wait.proofs.turning.rounds.Goals as goal
 
 pub loop-init : goal.loop-init
@@ -73,7 +74,7 @@ returns-then-not-has_found-clause-lane g c =
     let y = bell_view c.loop.lane in
     let z = bell_view c.begin.new.lane in
     let idles = subst (λ b. NextTo c.args.sys.now c.args.budget c.loop.home.me c.begin.new.home z (Ok b)) c.if-branch.false c.in_ok-begin.ensures.goes in
-    (pause-halts c.args.sys.now c.requires.sound c.args.budget c.begin.new.home c.begin.new.lane c.give_up.new.lane idles.home x halt.Memory (goes-then false x y z c.loop.invariant.lane c.in_ok-begin.ensures.lane) c.give_up.ensures).1
+    stops-memory false x z (bell_view c.give_up.new.lane) (goes-then false x y z c.loop.invariant.lane c.in_ok-begin.ensures.lane) c.give_up.ensures.stops
 
 pub returns-then-not-has_found-clause-waits : goal.returns-then-not-has_found-clause-waits
 returns-then-not-has_found-clause-waits g c =
@@ -81,9 +82,9 @@ returns-then-not-has_found-clause-waits g c =
     let z = bell_view c.begin.new.lane in
     let idles = subst (λ b. NextTo c.args.sys.now c.args.budget c.loop.home.me c.begin.new.home z (Ok b)) c.if-branch.false c.in_ok-begin.ensures.goes in
     let empty = subst (λ b. BeginTakes c.loop.home c.begin.new.home y.told z.told (Ok b)) c.if-branch.false c.in_ok-begin.ensures.takes in
-    let rests = pause-rests c.loop.home.me c.begin.new.lane c.give_up.new.lane halt.Memory c.give_up.ensures in
+    let short = c.give_up.ensures in
     subst (λ b. Waits false b 0 c.args.lane.now c.give_up.new.lane) (sym idles.home.calm)
-    (waits-behind c.args.lane.now c.loop.lane c.loop.said c.loop.invariant.waits c.begin.new.lane c.give_up.new.lane c.loop.home.me empty c.in_ok-begin.ensures.counts false rests.0 rests.1 rests.2)
+    (waits-behind c.args.lane.now c.loop.lane c.loop.said c.loop.invariant.waits c.begin.new.lane c.give_up.new.lane c.loop.home.me empty c.in_ok-begin.ensures.counts false (ap (λ v. v.told) short.stops) short.rests short.parks)
 
 pub pause-requires-clause-look : goal.pause-requires-clause-look
 pause-requires-clause-look g c =
@@ -104,7 +105,7 @@ returns-in_err-pause-clause-goes g c =
     let z = bell_view c.begin.new.lane in
     let idles = subst (λ b. NextTo c.args.sys.now c.args.budget c.loop.home.me c.begin.new.home z (Ok b)) c.if-branch.false c.in_ok-begin.ensures.goes in
     let h = c.in_err-pause.field-0.0 in
-    let paused = subst (λ n. Pauses n c.begin.new.lane c.pause.new.lane (Err h)) c.priority-else-not-has_found.ensures c.in_err-pause.ensures in
+    let paused = subst (λ n. Pauses n c.begin.new.lane c.pause.new.lane (Err h)) c.priority-else-not-has_found.ensures c.in_err-pause.ensures.pauses in
     let p = err_from_is_err_and c.from_residual-in_err-pause.result c.from_residual-in_err-pause.ensures.1 in
     rw (p.1, p.2)
     (subst (λ me. HomeHalts c.args.sys.now c.args.budget me c.begin.new.home (bell_view c.pause.new.lane) h) (c.in_ok-begin.ensures.same ∙ c.loop.invariant.same)
@@ -117,7 +118,7 @@ returns-in_err-pause-clause-lane g c =
     let z = bell_view c.begin.new.lane in
     let idles = subst (λ b. NextTo c.args.sys.now c.args.budget c.loop.home.me c.begin.new.home z (Ok b)) c.if-branch.false c.in_ok-begin.ensures.goes in
     let h = c.in_err-pause.field-0.0 in
-    let paused = subst (λ n. Pauses n c.begin.new.lane c.pause.new.lane (Err h)) c.priority-else-not-has_found.ensures c.in_err-pause.ensures in
+    let paused = subst (λ n. Pauses n c.begin.new.lane c.pause.new.lane (Err h)) c.priority-else-not-has_found.ensures c.in_err-pause.ensures.pauses in
     let p = err_from_is_err_and c.from_residual-in_err-pause.result c.from_residual-in_err-pause.ensures.1 in
     rw (p.1, p.2) (pause-halts c.args.sys.now c.requires.sound c.args.budget c.begin.new.home c.begin.new.lane c.pause.new.lane idles.home x h (goes-then false x y z c.loop.invariant.lane c.in_ok-begin.ensures.lane) paused).1
 
@@ -127,7 +128,7 @@ returns-in_err-pause-clause-waits g c =
     let z = bell_view c.begin.new.lane in
     let idles = subst (λ b. NextTo c.args.sys.now c.args.budget c.loop.home.me c.begin.new.home z (Ok b)) c.if-branch.false c.in_ok-begin.ensures.goes in
     let empty = subst (λ b. BeginTakes c.loop.home c.begin.new.home y.told z.told (Ok b)) c.if-branch.false c.in_ok-begin.ensures.takes in
-    let rests = pause-rests c.priority-else-not-has_found.result c.begin.new.lane c.pause.new.lane c.in_err-pause.field-0.0 c.in_err-pause.ensures in
+    let rests = pause-rests c.priority-else-not-has_found.result c.begin.new.lane c.pause.new.lane c.in_err-pause.field-0.0 c.in_err-pause.ensures.pauses in
     let p = err_from_is_err_and c.from_residual-in_err-pause.result c.from_residual-in_err-pause.ensures.1 in
     subst (λ r. RoundWaits r c.begin.new.home.busy c.args.lane.now c.pause.new.lane) (sym p.1)
     (subst (λ b. Waits false b 0 c.args.lane.now c.pause.new.lane) (sym idles.home.calm)
@@ -138,7 +139,7 @@ returns-then-not-branch-clause-lane g c =
     let x = bell_view c.args.lane.now in
     let y = bell_view c.loop.lane in
     let z = bell_view c.begin.new.lane in
-    let over = subst (λ b. Pauses c.priority-else-not-has_found.result c.begin.new.lane c.pause.new.lane (Ok b)) c.if-not-branch.true c.in_ok-pause.ensures in
+    let over = subst (λ b. Pauses c.priority-else-not-has_found.result c.begin.new.lane c.pause.new.lane (Ok b)) c.if-not-branch.true c.in_ok-pause.ensures.pauses in
     subst (LaneGoes false x) (sym over.lane) (goes-then false x y z c.loop.invariant.lane c.in_ok-begin.ensures.lane)
 
 pub returns-then-not-branch-clause-waits : goal.returns-then-not-branch-clause-waits
@@ -147,7 +148,7 @@ returns-then-not-branch-clause-waits g c =
     let z = bell_view c.begin.new.lane in
     let idles = subst (λ b. NextTo c.args.sys.now c.args.budget c.loop.home.me c.begin.new.home z (Ok b)) c.if-branch.false c.in_ok-begin.ensures.goes in
     let empty = subst (λ b. BeginTakes c.loop.home c.begin.new.home y.told z.told (Ok b)) c.if-branch.false c.in_ok-begin.ensures.takes in
-    let over = subst (λ b. Pauses c.priority-else-not-has_found.result c.begin.new.lane c.pause.new.lane (Ok b)) c.if-not-branch.true c.in_ok-pause.ensures in
+    let over = subst (λ b. Pauses c.priority-else-not-has_found.result c.begin.new.lane c.pause.new.lane (Ok b)) c.if-not-branch.true c.in_ok-pause.ensures.pauses in
     subst (λ b. Waits true b 0 c.args.lane.now c.pause.new.lane) (sym idles.home.calm)
     (waits-behind c.args.lane.now c.loop.lane c.loop.said c.loop.invariant.waits c.begin.new.lane c.pause.new.lane c.loop.home.me empty c.in_ok-begin.ensures.counts true (ap (λ v. v.told) over.lane) over.rests over.parks)
 
@@ -158,11 +159,12 @@ loop-preserved g c =
     let z = bell_view c.begin.new.lane in
     let idles = subst (λ b. NextTo c.args.sys.now c.args.budget c.loop.home.me c.begin.new.home z (Ok b)) c.if-branch.false c.in_ok-begin.ensures.goes in
     let empty = subst (λ b. BeginTakes c.loop.home c.begin.new.home y.told z.told (Ok b)) c.if-branch.false c.in_ok-begin.ensures.takes in
-    let parked = subst (λ b. Pauses c.priority-else-not-has_found.result c.begin.new.lane c.pause.new.lane (Ok b)) c.if-not-branch.false c.in_ok-pause.ensures in
+    let parked = subst (λ b. Pauses c.priority-else-not-has_found.result c.begin.new.lane c.pause.new.lane (Ok b)) c.if-not-branch.false c.in_ok-pause.ensures.pauses in
     record {
-      home = subst (IsHome c.args.sys.now c.args.budget c.begin.new.home) (sym parked.lane) idles.home;
-      lane = subst (LaneGoes false x) (sym parked.lane) (goes-then false x y z c.loop.invariant.lane c.in_ok-begin.ensures.lane);
+      home = subst (IsHome c.args.sys.now c.args.budget c.begin.new.home) (sym parked.1)
+          (resting-same c.args.sys.now c.requires.sound c.args.budget c.begin.new.home z idles.home (asked_once z) refl refl (λ o. refl) refl refl (omega arith));
+      lane = subst (LaneGoes false x) (sym parked.1) (goes-then false x z (asked_once z) (goes-then false x y z c.loop.invariant.lane c.in_ok-begin.ensures.lane) (goes-once false z));
       same = c.in_ok-begin.ensures.same ∙ c.loop.invariant.same;
       waits = waiting-parked c.args.lane.now c.loop.lane c.loop.said c.loop.invariant.waits c.begin.new.lane c.pause.new.lane c.loop.home.me empty c.in_ok-begin.ensures.counts
-          (subst (λ n. HasParkedAt n c.begin.new.lane c.pause.new.lane) (c.priority-else-not-has_found.ensures ∙ c.in_ok-begin.ensures.same) parked);
+          (subst (λ n. HasParkedAt n c.begin.new.lane c.pause.new.lane) (c.priority-else-not-has_found.ensures ∙ c.in_ok-begin.ensures.same) parked.0);
     }
