@@ -4,3 +4,4 @@ pub mod Completing
 mod Called
 mod Aloof
 mod Begun
+mod Telling

@@ -81,3 +81,10 @@ Stimulates sys s place look v w stimulated.Done = Happens sys s place look v w
 Stimulates sys s place look v w stimulated.Tried = Tries sys s place look v w
 Stimulates sys s place look v w stimulated.Stopped = Asserts sys s place look v w ⊎ Spills sys s place look v w ⊎ HaltsFull v w
 Stimulates sys s place look v w stimulated.Memory = Exhausts v w
+
+-- The gate was told of the stimulus, unless the lane gave up before its `stim`.
+abbrev pub StimulusTells : ℕ → LaneView → LaneView → List ℕ → List ℕ → Stimulated → Type 0
+StimulusTells place v w old new stimulated.Done = new ≡ place ∷ old
+StimulusTells place v w old new stimulated.Tried = new ≡ place ∷ old
+StimulusTells place v w old new stimulated.Stopped = (new ≡ place ∷ old) ⊎ ((new ≡ old) × HaltsFull v w)
+StimulusTells place v w old new stimulated.Memory = (new ≡ place ∷ old) ⊎ ((new ≡ old) × HaltsDry v w)

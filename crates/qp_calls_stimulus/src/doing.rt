@@ -5,12 +5,13 @@ ghost use Rattle.qp_model.specs.Sound.{IsSound};
 ghost use Rattle.qp_stim.specs.Rules.{StimFits};
 ghost use Rattle.qp_calls.specs.Clauses.{IsFault};
 ghost use Rattle.qp_calls.specs.Notes.{spills_told};
-ghost use Rattle.qp_calls_stimulus.specs.Stimulating.{StimulusHalts, KeepsOwn, Stimulates};
+ghost use Rattle.qp_calls_stimulus.specs.Stimulating.{StimulusHalts, StimulusTells, KeepsOwn, Stimulates};
 
 use crate::calling::{Called, make};
 use qp_base::{Steps, Tells};
 use qp_calls::{Halted, Ops, RoomFault, halt};
 use qp_model::{Rec, Stim, System};
+use qp_told::Told;
 use std::sync::ledger::Ledger;
 
 /// What became of a stimulus.
@@ -49,7 +50,7 @@ pub fn stimulus<O: Ops, L: Ledger, G: Tells>(
     look: u32,
     steps: &mut Steps<L>,
     lane: u32,
-    gate: &G,
+    gate: &mut Told<'_, G>,
 ) -> Stimulated
     requires of { (O.lane ops.old).sys ≡ sys.now }
     requires sound { IsSound sys.now }
@@ -58,6 +59,7 @@ pub fn stimulus<O: Ops, L: Ledger, G: Tells>(
     requires spills { spills_told (O.lane ops.old).told ≡ false }
     ensures stimulates { Stimulates sys.now s.now place look (O.lane ops.old) (O.lane ops.new) result }
     ensures own { KeepsOwn (O.lane ops.old) (O.lane ops.new) }
+    ensures tells { StimulusTells place (O.lane ops.old) (O.lane ops.new) gate.old.steps.list gate.new.steps.list result }
 {
     if let Err(fault) = ops.room() {
         return give_up(ops, fault);

@@ -23,6 +23,7 @@ use qp_kernel_end::{Outcome, Rest, outcome_of};
 use qp_kernel_turns::{Bounds, Objects, kernel_turn};
 use qp_model::{Journal, Lanes, Stimuli, System, kernels};
 use qp_plain::PlainWorld;
+use qp_told::Told;
 use qp_vanilla::{Vanilla, vanilla_turn};
 use std::alloc::Global;
 use std::sync::Wait;
@@ -91,7 +92,15 @@ fn run<R: Wait>(
         Step::Done => {
             if cooperative {
                 let mut vanilla = Vanilla::new();
-                let turn = vanilla_turn(rt, world, sys, objects, &mut vanilla, budget, &NoGate);
+                let turn = vanilla_turn(
+                    rt,
+                    world,
+                    sys,
+                    objects,
+                    &mut vanilla,
+                    budget,
+                    &mut Told::new(&NoGate),
+                );
                 end_of_turn(alloc, sys, objects, vanilla.under_way(), turn)
             } else {
                 let mut kernel = Kernel::new();
@@ -101,7 +110,14 @@ fn run<R: Wait>(
                     cooperative: false,
                     threaded: false,
                 };
-                let turn = kernel_turn(rt, world, &at, objects, &mut kernel, &NoGate);
+                let turn = kernel_turn(
+                    rt,
+                    world,
+                    &at,
+                    objects,
+                    &mut kernel,
+                    &mut Told::new(&NoGate),
+                );
                 end_of_turn(alloc, sys, objects, kernel.stack.as_slice(), turn)
             }
         }

@@ -16,6 +16,7 @@ use qp_calls::Ops;
 use qp_calls_stimulus::{Stimulated, stimulus};
 use qp_model::{Stim, System};
 use qp_plain::PlainWorld;
+use qp_told::Told;
 use std::sync::ledger::Ledger;
 
 /// Does the stimulus at `place` of a source, in the look with the number `look`, and comes back to lane 0. A `settle`
@@ -43,7 +44,16 @@ pub(crate) fn visit<L: Ledger>(
 {
     let home = plain.go(source);
     let former = plain.by(0);
-    let answer = stimulus(plain, sys, s, place, look, steps, 0, &NoGate);
+    let answer = stimulus(
+        plain,
+        sys,
+        s,
+        place,
+        look,
+        steps,
+        0,
+        &mut Told::new(&NoGate),
+    );
     let now = done.then(plain);
     plain.by(former);
     plain.go(home);

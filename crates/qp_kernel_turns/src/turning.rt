@@ -5,6 +5,7 @@ ghost use Rattle.qp_model.specs.KernelLane.{above, floor_in};
 ghost use Rattle.qp_model.specs.Sound.{IsSound};
 ghost use Rattle.qp_stim.specs.Rules.{StimuliFit};
 ghost use Rattle.qp_kernel.specs.Turning.{kernel_in};
+ghost use Rattle.qp_told.specs.Steps.{TellsSteps};
 ghost use Rattle.qp_kernel_turns.specs.AtRest.{HaltsAtRest, StopsAtRest};
 ghost use Rattle.qp_kernel_turns.specs.Counting.{AreCounted, Begin, BeginsFound, TurnsCounted};
 ghost use Rattle.qp_kernel_turns.specs.Knowing.{IsScanning, MayLook};
@@ -21,6 +22,7 @@ use qp_calls::{Ops, Take};
 use qp_dispatch::{Step, Turn};
 use qp_kernel::{Irq, Kernel, World};
 use qp_model::{Rec, System, stops};
+use qp_told::Told;
 use std::marker::Brand;
 use std::sync::Wait;
 use std::sync::ledger::{Blank, Ledger};
@@ -124,7 +126,7 @@ fn visit<R: Wait, W: World, G: Tells>(
     at: &Bounds<'_>,
     objects: &mut Objects,
     kernel: &mut Kernel,
-    gate: &G,
+    gate: &mut Told<'_, G>,
     floor: u8,
     place: usize,
 ) -> Result<bool, Halt>
@@ -148,6 +150,7 @@ fn visit<R: Wait, W: World, G: Tells>(
     ensures rows { VisitsRow at.now.sys.now (terms_of at.now) (row_below at.now.sys.now floor (place + 1)) (row_below at.now.sys.now floor place)
         (W.lane world.old)
         (W.lane world.new) result }
+    ensures tells { TellsSteps kernel.old.steps kernel.new.steps gate.old.steps.list gate.new.steps.list }
 {
     let sys = at.sys;
     let object = &sys.objects.items[place];
@@ -196,7 +199,7 @@ pub fn scan<R: Wait, W: World, G: Tells>(
     at: &Bounds<'_>,
     objects: &mut Objects,
     kernel: &mut Kernel,
-    gate: &G,
+    gate: &mut Told<'_, G>,
     floor: u8,
 ) -> Result<bool, Halt>
     requires sound { IsSound at.now.sys.now }
@@ -213,6 +216,7 @@ pub fn scan<R: Wait, W: World, G: Tells>(
     ensures lane { LaneTo W.acts (W.lane world.old) (W.lane world.new) result }
     ensures begun { BeginsFound kernel.old kernel.new objects.old objects.new result }
     ensures rows { VisitsRow at.now.sys.now (terms_of at.now) (above at.now.sys.now floor) [] (W.lane world.old) (W.lane world.new) result }
+    ensures tells { TellsSteps kernel.old.steps kernel.new.steps gate.old.steps.list gate.new.steps.list }
 {
     let many = count(at.sys);
     for place in (0..many).rev() {
@@ -266,7 +270,7 @@ fn rounds<R: Wait, W: World, G: Tells, L: Ledger>(
     at: &Bounds<'_>,
     objects: &mut Objects,
     kernel: &mut Kernel,
-    gate: &G,
+    gate: &mut Told<'_, G>,
     blank: Blank,
 ) -> Result<(), Halt>
     requires name { blank.name ≡ L.name }
@@ -288,6 +292,7 @@ fn rounds<R: Wait, W: World, G: Tells, L: Ledger>(
     ensures counted { IfOk result (λ u. AreCounted kernel.old kernel.new objects.old objects.new) }
     ensures pending { IfOk result (λ u. StepsOver at.now.sys.now kernel.old kernel.new (W.lane world.old)) }
     ensures rows { RoundsRows W.acts at.now.sys.now (terms_of at.now) kernel.old (W.lane world.old) (W.lane world.new) result }
+    ensures tells { TellsSteps kernel.old.steps kernel.new.steps gate.old.steps.list gate.new.steps.list }
 {
     let mut steps = Steps::<L>::open(blank);
     for _ in rt.forever() {
@@ -319,7 +324,7 @@ pub fn kernel_turn<R: Wait, W: World, G: Tells>(
     at: &Bounds<'_>,
     objects: &mut Objects,
     kernel: &mut Kernel,
-    gate: &G,
+    gate: &mut Told<'_, G>,
 ) -> Turn
     requires plain { at.now.cooperative ≡ false }
     requires sound { IsSound at.now.sys.now }
@@ -337,6 +342,7 @@ pub fn kernel_turn<R: Wait, W: World, G: Tells>(
     ensures counted { TurnsCounted kernel.old kernel.new objects.old objects.new result }
     ensures pending { TurnsOver at.now.sys.now kernel.old kernel.new (W.lane world.old) result }
     ensures rows { TurnsRows W.acts at.now.sys.now (terms_of at.now) kernel.old (W.lane world.old) (W.lane world.new) result }
+    ensures tells { TellsSteps kernel.old.steps kernel.new.steps gate.old.steps.list gate.new.steps.list }
 {
     match rounds::<R, W, G, Brand>(rt, world, at, objects, kernel, gate, Blank::new(1)) {
         Ok(()) => Turn::Idle,

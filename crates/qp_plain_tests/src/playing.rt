@@ -15,6 +15,7 @@ use qp_kernel_runs::SimWorld;
 use qp_kernel_turns::{Bounds, Objects, kernel_turn};
 use qp_model::{Lanes, Stimuli, System};
 use qp_plain::PlainWorld;
+use qp_told::Told;
 use std::alloc::Global;
 use std::sync::Wait;
 
@@ -51,7 +52,8 @@ fn run<R: Wait, G: Gate>(
                 threaded: false,
             };
             let mut kernel = Kernel::new();
-            let turn = kernel_turn(rt, world, &at, objects, &mut kernel, gate);
+            let mut told = Told::new(gate);
+            let turn = kernel_turn(rt, world, &at, objects, &mut kernel, &mut told);
             (turn, kernel.steps)
         }
         Step::Stopped => (Turn::Stopped, 0),

@@ -11,6 +11,7 @@ use qp_calls::Ops;
 use qp_calls_stimulus::{Stimulated, stimulus};
 use qp_model::{Lanes, Rec, Stim, System};
 use qp_plain::PlainWorld;
+use qp_told::Told;
 use std::alloc::Global;
 use std::marker::Brand;
 use std::sync::ledger::{Blank, Ledger};
@@ -62,10 +63,11 @@ fn play<O: Ops, L: Ledger, G: Gate>(
     requires base { IsBase sys.now (O.lane ops.old) }
 {
     let mut steps = Steps::<L>::open(blank);
+    let mut told = Told::new(gate);
     let mut place: u32 = 0;
     for s in stimuli {
         place = place.saturating_add(1);
-        match stimulus(ops, sys, s, place, 0, &mut steps, 5, gate) {
+        match stimulus(ops, sys, s, place, 0, &mut steps, 5, &mut told) {
             Stimulated::Done => {}
             answer => return answer,
         }

@@ -16,6 +16,7 @@ use qp_dispatch::{Step, Turn};
 use qp_model::System;
 use qp_port_lanes::{Cursor, Home, Passed, pass_settle, source_turn};
 use qp_port_phases::Serves;
+use qp_told::Told;
 use std::sync::Wait;
 
 /// What runs in a lane.
@@ -88,10 +89,11 @@ pub(crate) fn run_job<R: Wait, O: Ops, G: Tells, T: Turns<O>>(
     ensures feeds { Feeds (O.lane ops.old) (O.lane ops.new) result }
     ensures turns { JobTurns sys.now budget job.old job.new (O.lane ops.old) (O.lane ops.new) result }
 {
+    let mut told = Told::new(gate);
     match job {
         Job::Nothing => Turn::Idle,
-        Job::Home(home) => turns.object(rt, ops, sys, home, number, budget, gate),
-        Job::Source(source) => source_turn(ops, sys, source, gate),
+        Job::Home(home) => turns.object(rt, ops, sys, home, number, budget, &mut told),
+        Job::Source(source) => source_turn(ops, sys, source, &mut told),
     }
 }
 

@@ -4,6 +4,7 @@ ghost use Rattle.std.specs.Prelude.{ℕ, ◌≡◌, ◌≤◌, false};
 ghost use Rattle.qp_dispatch.specs.declared.objects.Turn.{Turn};
 ghost use Rattle.qp_model.specs.Sound.{IsSound};
 ghost use Rattle.qp_kernel_turns.specs.Lanes.{LaneTurns};
+ghost use Rattle.qp_told.specs.Steps.{TellsSteps};
 ghost use Rattle.qp_port_lanes.specs.At.{IsHome};
 ghost use Rattle.qp_port_lanes.specs.Turning.{HomeTurns};
 
@@ -12,6 +13,7 @@ use qp_calls::Ops;
 use qp_dispatch::Turn;
 use qp_model::System;
 use qp_port_lanes::{Home, object_turn};
+use qp_told::Told;
 use std::sync::Wait;
 
 /// How an object takes its turn over lanes of this kind, and what the lane of a source does behind one.
@@ -31,14 +33,15 @@ pub trait Turns<O: Ops> {
         home: &mut Home,
         lane: u32,
         budget: u32,
-        gate: &G,
+        gate: &mut Told<'_, G>,
     ) -> Turn
         requires sound { IsSound sys.now }
         requires few { budget ≤ 1000000 }
         requires knows { IsHome sys.now budget home.old (O.lane ops.old) }
         ensures goes { HomeTurns sys.now budget home.old.me home.new (O.lane ops.new) result }
         ensures lane { LaneTurns false (O.lane ops.old) (O.lane ops.new) result }
-        ensures same { home.new.me ≡ home.old.me };
+        ensures same { home.new.me ≡ home.old.me }
+        ensures tells { TellsSteps home.old.object.taken home.new.object.taken gate.old.steps.list gate.new.steps.list };
 
     /// So many sources take a turn next, and no lane runs. The lane stands as it stood.
     fn on_round(&self, ops: &mut O, sources: u32)
@@ -69,7 +72,7 @@ impl<O: Ops> Turns<O> for PortTurns {
         home: &mut Home,
         lane: u32,
         budget: u32,
-        gate: &G,
+        gate: &mut Told<'_, G>,
     ) -> Turn {
         object_turn(rt, ops, sys, home, lane, budget, gate)
     }

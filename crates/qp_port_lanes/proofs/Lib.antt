@@ -19,6 +19,7 @@ mod Ending
 mod Nexts
 pub mod Standing
 mod Asking
+mod Tellings
 pub mod Seeing
 pub mod Hearing
 pub mod Feeding

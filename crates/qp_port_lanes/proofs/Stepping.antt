@@ -347,6 +347,16 @@ module _ (sys : System) (sound : IsSound sys) (budget : ℕ) (waits : Bool) (x :
       by step.Stopped mid (same, inr b) is = spills y level mid w is b
       by step.Memory mid (same, t) is = tt
 
+  -- No entry is taken up.
+  pub taken-step : (level : ℕ) (y : Object) (w : LaneView) (answer : Step) → ObjectResumes sys x.ceiling level x.object y v w answer → y.taken ≡ x.object.taken
+  taken-step level y w answer r = by answer r.0 (subst (λ c. ResumesAs c sys x.ceiling level x.object y V r.0 answer) has-chart r.1)
+    where
+      by : (answer : Step) (mid : LaneView) → ResumesAs (Some h.chart) sys x.ceiling level x.object y V mid answer → y.taken ≡ x.object.taken
+      by step.Point mid (same, t) = ap (λ z. z.taken) same
+      by step.Done mid (same, t) = ap (λ z. z.taken) same
+      by step.Stopped mid (same, t) = ap (λ z. z.taken) same
+      by step.Memory mid (same, t) = ap (λ z. z.taken) same
+
   -- No record of a take comes.
 
   inside-takes : (g : List Told) (mid : LaneView) (new : List ToldItem) → new ≡ mid.told → Grows g V mid → AreInside g → AddsNoTake v.told new

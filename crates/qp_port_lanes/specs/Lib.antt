@@ -1,6 +1,7 @@
 pub mod At
 pub mod Turning
 pub mod Takes
+pub mod Tells
 pub mod Answers
 pub mod CursorAt
 pub mod SourceTurning

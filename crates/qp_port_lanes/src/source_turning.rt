@@ -4,6 +4,7 @@ ghost use Rattle.std.specs.Prelude.{◌≡◌, ◌<◌};
 ghost use Rattle.qp_model.specs.Sound.{IsSound};
 ghost use Rattle.qp_port_lanes.specs.CursorAt.{IsCursorAt};
 ghost use Rattle.qp_port_lanes.specs.SourceTurning.{DoesNext, IsSameSource, NextBreaks, SourceTurns, UnlessIdle, UnsetNext};
+ghost use Rattle.qp_port_lanes.specs.Tells.{NextTells, SourceTells};
 
 use crate::cursor::Cursor;
 use qp_base::{Steps, Tells};
@@ -11,6 +12,7 @@ use qp_calls::Ops;
 use qp_calls_stimulus::{Stimulated, stimulus};
 use qp_dispatch::Turn;
 use qp_model::{Stim, System};
+use qp_told::Told;
 use std::marker::Brand;
 use std::sync::ledger::{Blank, Ledger};
 
@@ -19,7 +21,7 @@ fn do_next<O: Ops, G: Tells, L: Ledger>(
     ops: &mut O,
     sys: &System,
     source: &mut Cursor<'_>,
-    gate: &G,
+    gate: &mut Told<'_, G>,
     steps: &mut Steps<L>,
 ) -> Option<Turn>
     requires sound { IsSound sys.now }
@@ -28,6 +30,7 @@ fn do_next<O: Ops, G: Tells, L: Ledger>(
     ensures breaks { NextBreaks sys.now source.old source.new (O.lane ops.old) (O.lane ops.new) result }
     ensures same { IsSameSource source.old source.new }
     ensures unset { UnsetNext (O.lane ops.old) result }
+    ensures tells { NextTells source.old source.new (O.lane ops.old) (O.lane ops.new) gate.old.steps.list gate.new.steps.list result }
 {
     if source.settling {
         return Some(Turn::Idle);
@@ -63,7 +66,7 @@ fn turn_in<O: Ops, G: Tells, L: Ledger>(
     ops: &mut O,
     sys: &System,
     source: &mut Cursor<'_>,
-    gate: &G,
+    gate: &mut Told<'_, G>,
     blank: Blank,
 ) -> Turn
     requires name { blank.name ≡ L.name }
@@ -74,6 +77,7 @@ fn turn_in<O: Ops, G: Tells, L: Ledger>(
     ensures turns { SourceTurns sys.now source.old source.new (O.lane ops.old) (O.lane ops.new) result }
     ensures breaks { UnlessIdle sys.now source.old source.new (O.lane ops.old) (O.lane ops.new) result }
     ensures same { IsSameSource source.old source.new }
+    ensures tells { SourceTells source.old source.new gate.old.steps.list gate.new.steps.list }
 {
     let mut steps = Steps::<L>::open(blank);
     let first = source.begun as usize;
@@ -94,13 +98,14 @@ pub fn source_turn<O: Ops, G: Tells>(
     ops: &mut O,
     sys: &System,
     source: &mut Cursor<'_>,
-    gate: &G,
+    gate: &mut Told<'_, G>,
 ) -> Turn
     requires sound { IsSound sys.now }
     requires knows { IsCursorAt sys.now source.old (O.lane ops.old) }
     ensures turns { SourceTurns sys.now source.old source.new (O.lane ops.old) (O.lane ops.new) result }
     ensures breaks { UnlessIdle sys.now source.old source.new (O.lane ops.old) (O.lane ops.new) result }
     ensures same { IsSameSource source.old source.new }
+    ensures tells { SourceTells source.old source.new gate.old.steps.list gate.new.steps.list }
 {
     turn_in::<O, G, Brand>(ops, sys, source, gate, Blank::new(1))
 }

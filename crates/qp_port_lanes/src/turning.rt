@@ -3,6 +3,7 @@
 ghost use Rattle.std.specs.Prelude.{◌≡◌, ◌≤◌, false};
 ghost use Rattle.qp_model.specs.Sound.{IsSound};
 ghost use Rattle.qp_kernel_turns.specs.Lanes.{LaneTo, LaneTurns};
+ghost use Rattle.qp_told.specs.Steps.{TellsSteps};
 ghost use Rattle.qp_port_lanes.specs.At.{IsBusyHome, IsHome};
 ghost use Rattle.qp_port_lanes.specs.Takes.{BeginTakes, FinishTakes, LookTakes};
 ghost use Rattle.qp_port_lanes.specs.Turning.{HomeTurns, LooksTo, NeverEmpty, NextTo, StaysEmpty, StepsTo, UnlessFound, UnlessIdle, UnlessOver, UnsetFirst};
@@ -13,6 +14,7 @@ use qp_calls::{Ops, Take};
 use qp_dispatch::{Step, Turn};
 use qp_kernel_turns::{Halt, ready};
 use qp_model::{Rec, System, stops};
+use qp_told::Told;
 use std::sync::Wait;
 
 /// Whether the queue was found empty in the place of a take, and is so still. This look adds no record.
@@ -41,6 +43,7 @@ fn look_only<O: Ops>(ops: &mut O, sys: &System, home: &mut Home, budget: u32) ->
     ensures lane { LaneTo false (O.lane ops.old) (O.lane ops.new) result }
     ensures same { home.new.me ≡ home.old.me }
     ensures takes { LookTakes home.old home.new (O.lane ops.old).told (O.lane ops.new).told result }
+    ensures kept { home.new.object.taken ≡ home.old.object.taken }
 {
     if stays_empty(ops, sys, home, budget) {
         return Ok(());
@@ -66,7 +69,7 @@ pub fn begin_step<R: Wait, O: Ops, G: Tells>(
     home: &mut Home,
     lane: u32,
     budget: u32,
-    gate: &G,
+    gate: &mut Told<'_, G>,
 ) -> Result<bool, Halt>
     requires sound { IsSound sys.now }
     requires few { budget ≤ 1000000 }
@@ -77,6 +80,7 @@ pub fn begin_step<R: Wait, O: Ops, G: Tells>(
     ensures lane { LaneTo false (O.lane ops.old) (O.lane ops.new) result }
     ensures same { home.new.me ≡ home.old.me }
     ensures takes { BeginTakes home.old home.new (O.lane ops.old).told (O.lane ops.new).told result }
+    ensures tells { TellsSteps home.old.object.taken home.new.object.taken gate.old.steps.list gate.new.steps.list }
 {
     ready(ops)?;
     if home.object.taken() >= budget {
@@ -109,6 +113,7 @@ pub fn finish_step<R: Wait, O: Ops>(
     ensures lane { LaneTo false (O.lane ops.old) (O.lane ops.new) result }
     ensures same { home.new.me ≡ home.old.me }
     ensures takes { FinishTakes home.old home.new (O.lane ops.old).told (O.lane ops.new).told result }
+    ensures kept { home.new.object.taken ≡ home.old.object.taken }
 {
     let _ = budget;
     for _ in rt.forever() {
@@ -137,7 +142,7 @@ fn rounds<R: Wait, O: Ops, G: Tells>(
     home: &mut Home,
     lane: u32,
     budget: u32,
-    gate: &G,
+    gate: &mut Told<'_, G>,
 ) -> Result<(), Halt>
     requires sound { IsSound sys.now }
     requires few { budget ≤ 1000000 }
@@ -146,6 +151,7 @@ fn rounds<R: Wait, O: Ops, G: Tells>(
     ensures never { UnlessFound (O.lane ops.old) (O.lane ops.new) result }
     ensures lane { LaneTo false (O.lane ops.old) (O.lane ops.new) result }
     ensures same { home.new.me ≡ home.old.me }
+    ensures tells { TellsSteps home.old.object.taken home.new.object.taken gate.old.steps.list gate.new.steps.list }
 {
     for _ in rt.forever() {
         if !begin_step(rt, ops, sys, home, lane, budget, gate)? {
@@ -166,7 +172,7 @@ pub fn object_turn<R: Wait, O: Ops, G: Tells>(
     home: &mut Home,
     lane: u32,
     budget: u32,
-    gate: &G,
+    gate: &mut Told<'_, G>,
 ) -> Turn
     requires sound { IsSound sys.now }
     requires few { budget ≤ 1000000 }
@@ -175,6 +181,7 @@ pub fn object_turn<R: Wait, O: Ops, G: Tells>(
     ensures never { UnlessIdle (O.lane ops.old) (O.lane ops.new) result }
     ensures lane { LaneTurns false (O.lane ops.old) (O.lane ops.new) result }
     ensures same { home.new.me ≡ home.old.me }
+    ensures tells { TellsSteps home.old.object.taken home.new.object.taken gate.old.steps.list gate.new.steps.list }
 {
     match rounds(rt, ops, sys, home, lane, budget, gate) {
         Ok(()) => Turn::Idle,

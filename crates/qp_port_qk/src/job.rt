@@ -20,6 +20,7 @@ use qp_kernel::{Kernel, World};
 use qp_kernel_turns::{Bounds, Objects, kernel_turn};
 use qp_model::System;
 use qp_port_lanes::{Cursor, Passed, pass_settle, source_turn};
+use qp_told::Told;
 use std::sync::Wait;
 
 /// What runs in a lane.
@@ -105,7 +106,8 @@ fn run_kernel<R: Wait, W: World, G: Tells>(
         cooperative: false,
         threaded: true,
     };
-    kernel_turn(rt, world, &at, objects, kernel, gate)
+    let mut told = Told::new(gate);
+    kernel_turn(rt, world, &at, objects, kernel, &mut told)
 }
 
 /// A turn of what runs in the lane.
@@ -131,7 +133,10 @@ pub(crate) fn run_job<R: Wait, W: World, G: Tells>(
 {
     match job {
         QkJob::Kernel(objects, kernel) => run_kernel(rt, world, sys, objects, kernel, budget, gate),
-        QkJob::Source(source) => source_turn(world, sys, source, gate),
+        QkJob::Source(source) => {
+            let mut told = Told::new(gate);
+            source_turn(world, sys, source, &mut told)
+        }
     }
 }
 

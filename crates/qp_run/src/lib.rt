@@ -4,7 +4,7 @@
 mod top;
 
 pub use qp_run_parts::{
-    Objects, Place, Sealed, Status, SummaryFault, Threaded, generate, kept_seal, kernel_turn, laws,
-    rerun, run_port, run_qk, run_qv, run_sim, run_wait, write_summary,
+    Objects, Place, Sealed, Status, SummaryFault, Threaded, Told, generate, kept_seal, kernel_turn,
+    laws, rerun, run_port, run_qk, run_qv, run_sim, run_wait, write_summary,
 };
 pub use top::{Answered, answer, qp_main, report, tell};

@@ -20,6 +20,7 @@ pub use qp_kernel_turns::{Objects, kernel_turn};
 pub use qp_replay::rerun;
 pub use qp_summary::{SummaryFault, write_summary};
 pub use qp_system::generate;
+pub use qp_told::Told;
 pub use qp_wait_runs::{Sealed, Threaded, run_port, run_qk, run_wait};
 pub use ran::{Finished, kept_seal};
 pub use replaying::replay_files;

@@ -23,6 +23,7 @@ use qp_model::{Stimuli, System};
 use qp_port_lanes::laws::new_cursors_stand;
 use qp_port_lanes::{Cursor, source_turn};
 use qp_shared::{Sealed, Shared, SharedLane};
+use qp_told::Told;
 use std::alloc::Global;
 use std::sync::Wait;
 
@@ -54,7 +55,8 @@ fn turn<R: Wait, W: World>(rt: &R, world: &mut W, sys: &System, objects: &mut Ob
         threaded: true,
     };
     let mut kernel = Kernel::new();
-    let _ = kernel_turn(rt, world, &at, objects, &mut kernel, &NoGate);
+    let mut told = Told::new(&NoGate);
+    let _ = kernel_turn(rt, world, &at, objects, &mut kernel, &mut told);
 }
 
 /// The same, where the objects have started.
@@ -91,7 +93,8 @@ fn act<O: Ops>(ops: &mut O, sys: &System, stim: &Stimuli)
     }
     let mut cursor = Cursor::new(stim, 1, 1);
     new_cursors_stand();
-    let _ = source_turn(ops, sys, &mut cursor, &NoGate);
+    let mut told = Told::new(&NoGate);
+    let _ = source_turn(ops, sys, &mut cursor, &mut told);
 }
 
 /// Starts all objects in the first lane, lets the source act in the second, and then the kernel in the first.

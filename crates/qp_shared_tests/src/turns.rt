@@ -16,6 +16,7 @@ use qp_dispatch::{Step, Turn};
 use qp_model::System;
 use qp_port_lanes::Home;
 use qp_shared::{Root, Shared};
+use qp_told::Told;
 use qp_wait::{BellLane, BellRoot, Bells, wait_turn};
 use std::alloc::Global;
 use std::sync::Wait;
@@ -41,7 +42,8 @@ fn waits<R: Wait>(rt: &R, lane: &mut BellLane<'_>, sys: &System, home: &mut Home
     requires sound { IsSound sys.now }
     requires knows { IsHome sys.now 100000 home.old (bell_view lane.old) }
 {
-    match wait_turn(rt, lane, sys, home, 1, BUDGET, &NoGate) {
+    let mut told = Told::new(&NoGate);
+    match wait_turn(rt, lane, sys, home, 1, BUDGET, &mut told) {
         Turn::Idle => true,
         _ => false,
     }

@@ -10,6 +10,7 @@ ghost use Rattle.qp_kernel_turns.specs.Knowing.{IsScanning, MayLook};
 ghost use Rattle.qp_kernel_turns.specs.Lanes.{LaneTo, LaneTurns};
 ghost use Rattle.qp_kernel_turns.specs.Ordering.{AreSeenEmpty, InOrder, RoundsInOrder, TurnsInOrder};
 ghost use Rattle.qp_kernel_turns.specs.Turning.{EndsTo, Stood, TurnsTo, stand_of, terms_of};
+ghost use Rattle.qp_told.specs.Steps.{TellsSteps};
 ghost use Rattle.qp_vanilla.specs.Resting.{RestsInOrder, RestsTo};
 
 use crate::vanilla::Vanilla;
@@ -18,6 +19,7 @@ use qp_dispatch::Turn;
 use qp_kernel::{Kernel, World};
 use qp_kernel_turns::{Bounds, Halt, Objects, floor, look, ready, scan, step, top};
 use qp_model::{Rec, System};
+use qp_told::Told;
 use std::marker::Brand;
 use std::sync::Wait;
 use std::sync::ledger::{Blank, Ledger};
@@ -58,7 +60,7 @@ fn rounds<R: Wait, W: World, G: Gate, L: Ledger>(
     at: &Bounds<'_>,
     objects: &mut Objects,
     kernel: &mut Kernel,
-    gate: &G,
+    gate: &mut Told<'_, G>,
     blank: Blank,
 ) -> Result<(), Halt>
     requires name { blank.name ≡ L.name }
@@ -79,6 +81,7 @@ fn rounds<R: Wait, W: World, G: Gate, L: Ledger>(
     ensures rests { IfErr result (HaltsAtRest at.now.sys.now (stand_of kernel.new objects.new (W.lane world.new))) }
     ensures lane { LaneTo W.acts (W.lane world.old) (W.lane world.new) result }
     ensures counted { IfOk result (λ u. AreCounted kernel.old kernel.new objects.old objects.new) }
+    ensures tells { TellsSteps kernel.old.steps kernel.new.steps gate.old.steps.list gate.new.steps.list }
 {
     let mut steps = Steps::<L>::open(blank);
     for _ in rt.forever() {
@@ -113,7 +116,7 @@ pub fn vanilla_turn<R: Wait, W: World, G: Gate>(
     objects: &mut Objects,
     vanilla: &mut Vanilla,
     budget: u32,
-    gate: &G,
+    gate: &mut Told<'_, G>,
 ) -> Turn
     requires sound { IsSound sys.now }
     requires few { budget ≤ 1000000 }
@@ -128,6 +131,7 @@ pub fn vanilla_turn<R: Wait, W: World, G: Gate>(
     ensures rests { StopsAtRest sys.now (stand_of vanilla.new.kernel objects.new (W.lane world.new)) result }
     ensures lane { LaneTurns W.acts (W.lane world.old) (W.lane world.new) result }
     ensures counted { TurnsCounted vanilla.old.kernel vanilla.new.kernel objects.old objects.new result }
+    ensures tells { TellsSteps vanilla.old.kernel.steps vanilla.new.kernel.steps gate.old.steps.list gate.new.steps.list }
 {
     let at = Bounds {
         sys,

@@ -3,6 +3,7 @@
 ghost use Rattle.std.specs.Prelude.{◌≡◌, ◌≤◌, false};
 ghost use Rattle.qp_model.specs.Sound.{IsSound};
 ghost use Rattle.qp_kernel_turns.specs.Lanes.{LaneTo};
+ghost use Rattle.qp_told.specs.Steps.{TellsSteps};
 ghost use Rattle.qp_port_lanes.specs.At.{IsBusyHome, IsHome};
 ghost use Rattle.qp_port_lanes.specs.Takes.{BeginTakes, FinishTakes};
 ghost use Rattle.qp_port_lanes.specs.Turning.{NextTo, StepsTo, UnsetFirst};
@@ -14,6 +15,7 @@ use qp_base::Tells;
 use qp_kernel_turns::Halt;
 use qp_model::System;
 use qp_port_lanes::{Home, begin_step, finish_step};
+use qp_told::Told;
 use std::sync::Wait;
 
 /// Takes the next entry, and begins its step. False where the queue was found empty.
@@ -24,7 +26,7 @@ pub(crate) fn begin<R: Wait, G: Tells>(
     home: &mut Home,
     number: u32,
     budget: u32,
-    gate: &G,
+    gate: &mut Told<'_, G>,
 ) -> Result<bool, Halt>
     requires sound { IsSound sys.now }
     requires few { budget ≤ 1000000 }
@@ -35,6 +37,7 @@ pub(crate) fn begin<R: Wait, G: Tells>(
     ensures takes { BeginTakes home.old home.new (bell_view lane.old).told (bell_view lane.new).told result }
     ensures unset { UnsetFirst (bell_view lane.old) result }
     ensures counts { KeepsCounts lane.old lane.new }
+    ensures tells { TellsSteps home.old.object.taken home.new.object.taken gate.old.steps.list gate.new.steps.list }
 {
     begin_step(rt, &mut lane.ringing, sys, home, number, budget, gate)
 }
@@ -54,6 +57,7 @@ fn go_on<R: Wait>(
     ensures same { home.new.me ≡ home.old.me }
     ensures takes { FinishTakes home.old home.new (bell_view lane.old).told (bell_view lane.new).told result }
     ensures counts { KeepsCounts lane.old lane.new }
+    ensures kept { home.new.object.taken ≡ home.old.object.taken }
 {
     finish_step(rt, &mut lane.ringing, sys, home, budget)
 }
@@ -85,6 +89,7 @@ pub(crate) fn finish<R: Wait>(
     ensures same { home.new.me ≡ home.old.me }
     ensures takes { FinishTakes home.old home.new (bell_view lane.old).told (bell_view lane.new).told result }
     ensures counts { FinishesStep said.old said.new lane.old lane.new result }
+    ensures kept { home.new.object.taken ≡ home.old.object.taken }
 {
     go_on(rt, lane, sys, home, budget)?;
     close(lane, said);

@@ -3,6 +3,7 @@
 ghost use Rattle.std.specs.Prelude.{◌≡◌, ◌≤◌, false};
 ghost use Rattle.qp_model.specs.Sound.{IsSound};
 ghost use Rattle.qp_kernel_turns.specs.Lanes.{LaneTo, LaneTurns};
+ghost use Rattle.qp_told.specs.Steps.{TellsSteps};
 ghost use Rattle.qp_port_lanes.specs.At.{IsHome};
 ghost use Rattle.qp_port_lanes.specs.Turning.{HomeTurns, LooksTo};
 ghost use Rattle.qp_wait.specs.Lane.{bell_view};
@@ -16,6 +17,7 @@ use qp_dispatch::Turn;
 use qp_kernel_turns::Halt;
 use qp_model::System;
 use qp_port_lanes::Home;
+use qp_told::Told;
 use std::sync::Wait;
 
 /// Goes on, with parks between, until the queue is found empty and nothing is on the count.
@@ -26,7 +28,7 @@ fn rounds<R: Wait, G: Tells>(
     home: &mut Home,
     number: u32,
     budget: u32,
-    gate: &G,
+    gate: &mut Told<'_, G>,
 ) -> Result<(), Halt>
     requires sound { IsSound sys.now }
     requires few { budget ≤ 1000000 }
@@ -35,6 +37,7 @@ fn rounds<R: Wait, G: Tells>(
     ensures lane { LaneTo false (bell_view lane.old) (bell_view lane.new) result }
     ensures same { home.new.me ≡ home.old.me }
     ensures waits { RoundWaits result home.new.busy lane.old lane.new }
+    ensures tells { TellsSteps home.old.object.taken home.new.object.taken gate.old.steps.list gate.new.steps.list }
 {
     let mut said = false;
     for _ in rt.forever() {
@@ -61,7 +64,7 @@ pub fn wait_turn<R: Wait, G: Tells>(
     home: &mut Home,
     number: u32,
     budget: u32,
-    gate: &G,
+    gate: &mut Told<'_, G>,
 ) -> Turn
     requires sound { IsSound sys.now }
     requires few { budget ≤ 1000000 }
@@ -70,6 +73,7 @@ pub fn wait_turn<R: Wait, G: Tells>(
     ensures lane { LaneTurns false (bell_view lane.old) (bell_view lane.new) result }
     ensures same { home.new.me ≡ home.old.me }
     ensures waits { TurnWaits result home.new.busy lane.old lane.new }
+    ensures tells { TellsSteps home.old.object.taken home.new.object.taken gate.old.steps.list gate.new.steps.list }
 {
     let Err(halt) = rounds(rt, lane, sys, home, number, budget, gate) else {
         return Turn::Idle;

@@ -9,6 +9,7 @@ use qp_model::System;
 use qp_port_lanes::{Home, is_idle, object_turn};
 use qp_port_phases::Rounds;
 use qp_port_runs::Turns;
+use qp_told::Told;
 use qp_wait::{BellLane, wait_turn};
 use std::sync::Wait;
 
@@ -33,7 +34,7 @@ impl<'a> Turns<BellLane<'a>> for WaitTurns<'_> {
         home: &mut Home,
         lane: u32,
         budget: u32,
-        gate: &G,
+        gate: &mut Told<'_, G>,
     ) -> Turn {
         if self.rounds.are_given_up() {
             return object_turn(rt, ops, sys, home, lane, budget, gate);

@@ -1,9 +1,10 @@
-use Rattle.std.proofs.Common.{refl, arith, inl}
+use Rattle.std.proofs.Common.{◌∷◌, ◌∙◌, ap, refl, arith, inl}
 use Rattle.qp_model.specs.declared.bodies.Body.TheVariants as body
 use Rattle.qp_calls_stimulus.specs.declared.doing.Stimulated.TheVariants as stimulated
 use Rattle.qp_calls.proofs.Noting.{adds-note, may-note}
 use Rattle.qp_calls_stimulus.proofs.Settled.{by-none}
 use Rattle.qp_calls_stimulus.proofs.Begun.{asserts, cut-unspilled, cuts, halts-first, happens, keeps-own, tries}
+use Rattle.qp_calls_stimulus.proofs.Telling.{tells-it, tells-none}
 use Rattle.qp_calls_stimulus.proofs.doing.stimulus.Goals as goal
 
 pub returns-in-Err-clause-stimulates : goal.returns-in-Err-clause-stimulates
@@ -62,3 +63,13 @@ returns-in-Ok-Asserted-clause-own g c = keeps-own c.args.sys.now c.args.s.now c.
 
 pub returns-in-Err-make-clause-own : goal.returns-in-Err-make-clause-own
 returns-in-Err-make-clause-own g c = keeps-own c.args.sys.now c.args.s.now c.args.place c.args.look _ _ c.give_up-in-Err-make.result (returns-in-Err-make-clause-stimulates g c)
+
+pub returns-in-Err-clause-tells : goal.returns-in-Err-clause-tells
+returns-in-Err-clause-tells g c =
+    let lane = g.O.Ops.lane in
+    tells-none c.args.place (lane c.args.ops.now) (lane c.room.new.self) (lane c.give_up.new.ops) c.args.gate.now.steps.list c.give_up.result c.in-Err.ensures.refused c.give_up.ensures
+
+pub returns-in-Err-make-clause-tells : goal.returns-in-Err-make-clause-tells
+returns-in-Err-make-clause-tells g c =
+    let lane = g.O.Ops.lane in
+    tells-it c.args.place (lane c.args.ops.now) (lane c.give_up-in-Err-make.new.ops) c.args.gate.now.steps.list c.tells.new.self.steps.list c.give_up-in-Err-make.result (c.tells.ensures ∙ ap (λ n. n ∷ c.args.gate.now.steps.list) c.from.ensures)

@@ -13,6 +13,7 @@ use Rattle.qp_kernel_turns.proofs.Lanes.{goes-any, goes-none, goes-then, halts-a
 use Rattle.qp_kernel_turns.proofs.Ordered.{halts-from}
 use Rattle.qp_kernel_turns.proofs.RoundRows.{row-again, row-begins, row-found, row-over, row-steps, stops-from, within-idle}
 use Rattle.qp_kernel_turns.proofs.Rounds.{came-is, entered-all, held-of, onward-all, onward-none, round-again, round-found, round-idle, round-over, round-step, round-top}
+use Rattle.qp_told.proofs.ToldLemmas.{tells-kept, tells-none, tells-step, tells-then}
 use Rattle.qp_kernel_turns.proofs.turning.rounds.Goals as goal
 
 pub floor-low-requires-clause-held : goal.floor-low-requires-clause-held
@@ -55,6 +56,7 @@ returns-then-not-happened g c =
       rests = tt;
       lane = looked-scanned g.W.World.acts (lane c.args.world.now) (lane c.loop.world) (lane c.look.new.world) (lane c.scan.new.world) c.loop.invariant.lane c.in_ok-happened.ensures.lane c.in_ok-found.ensures.lane;
       counted = counted-then 0 (omega arith) c.args.kernel.now c.loop.kernel c.look.new.kernel c.scan.new.kernel c.args.objects.now c.loop.objects c.scan.new.objects c.loop.invariant.counted c.in_ok-happened.ensures.steps c.in_ok-happened.ensures.goes.counted (subst (λ x. BeginsFound c.look.new.kernel c.scan.new.kernel c.loop.objects c.scan.new.objects (Ok x)) c.if-found.false c.in_ok-found.ensures.begun) pass.looks;
+      tells = tells-then c.args.kernel.now.steps c.look.new.kernel.steps c.scan.new.kernel.steps c.args.gate.now.steps.list c.loop.gate.steps.list c.scan.new.gate.steps.list (tells-kept c.args.kernel.now.steps c.loop.kernel.steps c.look.new.kernel.steps c.args.gate.now.steps.list c.loop.gate.steps.list c.loop.invariant.tells c.in_ok-happened.ensures.steps) c.in_ok-found.ensures.tells;
       pending = steps-end;
       rows = λ apart. row-over sys terms c.args.kernel.now c.loop.kernel (lane c.args.world.now) a.lane (c.loop.invariant.rows apart) c.scan.new.kernel d (subst (λ x. VisitsRow sys terms (above sys c.floor-low.result) [] b.lane d.lane (Ok x)) c.if-found.false c.in_ok-found.ensures.rows a.lane (subst (λ f. InRow sys terms (above sys f) a.lane b.lane) (sym c.floor-low.ensures) c.in_ok-happened.ensures.goes.row)) (steps-same c.loop.kernel c.look.new.kernel c.scan.new.kernel c.loop.objects c.scan.new.objects c.in_ok-happened.ensures.steps (subst (λ x. BeginsFound c.look.new.kernel c.scan.new.kernel c.loop.objects c.scan.new.objects (Ok x)) c.if-found.false c.in_ok-found.ensures.begun)) pass.knows steps-end;
     }
@@ -77,6 +79,7 @@ loop-preserved g c =
       order = seen.order;
       lane = looked-scanned g.W.World.acts (lane c.args.world.now) (lane c.loop.world) (lane c.look.new.world) (lane c.scan.new.world) c.loop.invariant.lane c.in_ok-happened.ensures.lane c.in_ok-found.ensures.lane;
       counted = counted-then 0 (omega arith) c.args.kernel.now c.loop.kernel c.look.new.kernel c.scan.new.kernel c.args.objects.now c.loop.objects c.scan.new.objects c.loop.invariant.counted c.in_ok-happened.ensures.steps c.in_ok-happened.ensures.goes.counted (subst (λ x. BeginsFound c.look.new.kernel c.scan.new.kernel c.loop.objects c.scan.new.objects (Ok x)) c.if-found.false c.in_ok-found.ensures.begun) pass.looks;
+      tells = tells-then c.args.kernel.now.steps c.look.new.kernel.steps c.scan.new.kernel.steps c.args.gate.now.steps.list c.loop.gate.steps.list c.scan.new.gate.steps.list (tells-kept c.args.kernel.now.steps c.loop.kernel.steps c.look.new.kernel.steps c.args.gate.now.steps.list c.loop.gate.steps.list c.loop.invariant.tells c.in_ok-happened.ensures.steps) c.in_ok-found.ensures.tells;
       rows = λ apart.
           row-again sys terms c.args.kernel.now c.loop.kernel (lane c.args.world.now) a.lane (c.loop.invariant.rows apart) c.scan.new.kernel d (subst (λ x. VisitsRow sys terms (above sys c.floor-low.result) [] b.lane d.lane (Ok x)) c.if-found.false c.in_ok-found.ensures.rows a.lane (subst (λ f. InRow sys terms (above sys f) a.lane b.lane) (sym c.floor-low.ensures) c.in_ok-happened.ensures.goes.row)) (steps-same c.loop.kernel c.look.new.kernel c.scan.new.kernel c.loop.objects c.scan.new.objects c.in_ok-happened.ensures.steps (subst (λ x. BeginsFound c.look.new.kernel c.scan.new.kernel c.loop.objects c.scan.new.objects (Ok x)) c.if-found.false c.in_ok-found.ensures.begun)) pass.knows g.W.World.acts apart (c.in_ok-happened.ensures.rows c.if-not-happened.false) c.requires.plain
           (came-is sys terms c.args.objects.now (lane c.args.world.now) a b d c.loop.invariant.onward true look pass);
@@ -135,6 +138,7 @@ loop-preserved-in-Continue-branch-3 g c =
       order = c.in_ok-step.ensures.order g.W.World.acts seen;
       lane = goes-then g.W.World.acts (lane c.args.world.now) (lane c.scan.new.world) (lane c.step.new.world) (looked-scanned g.W.World.acts (lane c.args.world.now) (lane c.loop.world) (lane c.look.new.world) (lane c.scan.new.world) c.loop.invariant.lane c.in_ok-happened.ensures.lane c.in_ok-found.ensures.lane) (goes-any g.W.World.acts (lane c.scan.new.world) (lane c.step.new.world) c.in_ok-step.ensures.lane);
       counted = counted-on c.args.kernel.now c.scan.new.kernel c.step.new.kernel c.args.objects.now c.scan.new.objects c.step.new.objects (counted-then 1 (omega arith) c.args.kernel.now c.loop.kernel c.look.new.kernel c.scan.new.kernel c.args.objects.now c.loop.objects c.scan.new.objects c.loop.invariant.counted c.in_ok-happened.ensures.steps c.in_ok-happened.ensures.goes.counted (subst (λ x. BeginsFound c.look.new.kernel c.scan.new.kernel c.loop.objects c.scan.new.objects (Ok x)) c.if-found.true c.in_ok-found.ensures.begun) enter.looks) c.in_ok-step.ensures.begun c.in_ok-step.ensures.goes.looks;
+      tells = tells-step c.args.kernel.now.steps c.scan.new.kernel.steps c.step.new.kernel.steps c.args.gate.now.steps.list c.scan.new.gate.steps.list (tells-then c.args.kernel.now.steps c.look.new.kernel.steps c.scan.new.kernel.steps c.args.gate.now.steps.list c.loop.gate.steps.list c.scan.new.gate.steps.list (tells-kept c.args.kernel.now.steps c.loop.kernel.steps c.look.new.kernel.steps c.args.gate.now.steps.list c.loop.gate.steps.list c.loop.invariant.tells c.in_ok-happened.ensures.steps) c.in_ok-found.ensures.tells) c.in_ok-step.ensures.begun.steps;
       rows = λ apart. row-found sys terms c.args.kernel.now c.loop.kernel (lane c.args.world.now) a.lane (c.loop.invariant.rows apart) c.step.new.kernel d.lane z.lane (subst (λ x. VisitsRow sys terms (above sys c.floor-low.result) [] b.lane d.lane (Ok x)) c.if-found.true c.in_ok-found.ensures.rows a.lane (subst (λ f. InRow sys terms (above sys f) a.lane b.lane) (sym c.floor-low.ensures) c.in_ok-happened.ensures.goes.row)) c.in_ok-step.ensures.goes.row;
       quiet = λ base same. absurd (never-still c.args.kernel.now c.loop.kernel c.look.new.kernel c.scan.new.kernel c.step.new.kernel c.args.objects.now c.loop.objects c.scan.new.objects c.step.new.objects c.loop.invariant.counted c.in_ok-happened.ensures.steps (subst (λ x. BeginsFound c.look.new.kernel c.scan.new.kernel c.loop.objects c.scan.new.objects (Ok x)) c.if-found.true c.in_ok-found.ensures.begun) c.in_ok-step.ensures.begun same);
     }
@@ -157,6 +161,7 @@ loop-preserved-in-Continue-branch-4 g c =
       order = c.in_ok-step-in-Some-top.ensures.order g.W.World.acts seen;
       lane = goes-then g.W.World.acts (lane c.args.world.now) (lane c.scan.new.world) (lane c.step-in-Some-top.new.world) (looked-scanned g.W.World.acts (lane c.args.world.now) (lane c.loop.world) (lane c.look.new.world) (lane c.scan.new.world) c.loop.invariant.lane c.in_ok-happened.ensures.lane c.in_ok-found.ensures.lane) (goes-any g.W.World.acts (lane c.scan.new.world) (lane c.step-in-Some-top.new.world) c.in_ok-step-in-Some-top.ensures.lane);
       counted = counted-on c.args.kernel.now c.scan.new.kernel c.step-in-Some-top.new.kernel c.args.objects.now c.scan.new.objects c.step-in-Some-top.new.objects (counted-then 0 (omega arith) c.args.kernel.now c.loop.kernel c.look.new.kernel c.scan.new.kernel c.args.objects.now c.loop.objects c.scan.new.objects c.loop.invariant.counted c.in_ok-happened.ensures.steps c.in_ok-happened.ensures.goes.counted (subst (λ x. BeginsFound c.look.new.kernel c.scan.new.kernel c.loop.objects c.scan.new.objects (Ok x)) c.if-found.false c.in_ok-found.ensures.begun) pass.looks) c.in_ok-step-in-Some-top.ensures.begun c.in_ok-step-in-Some-top.ensures.goes.looks;
+      tells = tells-step c.args.kernel.now.steps c.scan.new.kernel.steps c.step-in-Some-top.new.kernel.steps c.args.gate.now.steps.list c.scan.new.gate.steps.list (tells-then c.args.kernel.now.steps c.look.new.kernel.steps c.scan.new.kernel.steps c.args.gate.now.steps.list c.loop.gate.steps.list c.scan.new.gate.steps.list (tells-kept c.args.kernel.now.steps c.loop.kernel.steps c.look.new.kernel.steps c.args.gate.now.steps.list c.loop.gate.steps.list c.loop.invariant.tells c.in_ok-happened.ensures.steps) c.in_ok-found.ensures.tells) c.in_ok-step-in-Some-top.ensures.begun.steps;
       rows = λ apart.
           row-steps sys terms c.args.kernel.now c.loop.kernel (lane c.args.world.now) a.lane (c.loop.invariant.rows apart) c.scan.new.kernel d (subst (λ x. VisitsRow sys terms (above sys c.floor-low.result) [] b.lane d.lane (Ok x)) c.if-found.false c.in_ok-found.ensures.rows a.lane (subst (λ f. InRow sys terms (above sys f) a.lane b.lane) (sym c.floor-low.ensures) c.in_ok-happened.ensures.goes.row)) (steps-same c.loop.kernel c.look.new.kernel c.scan.new.kernel c.loop.objects c.scan.new.objects c.in_ok-happened.ensures.steps (subst (λ x. BeginsFound c.look.new.kernel c.scan.new.kernel c.loop.objects c.scan.new.objects (Ok x)) c.if-found.false c.in_ok-found.ensures.begun)) pass.knows c.in-Some-top.field-0 c.step-in-Some-top.new.kernel z.lane c.in-Some-top.ensures
           (steps-none c.scan.new.kernel c.step-in-Some-top.new.kernel c.scan.new.objects c.step-in-Some-top.new.objects c.in_ok-step-in-Some-top.ensures.begun) c.in_ok-step-in-Some-top.ensures.goes.row;
@@ -206,6 +211,7 @@ loop-init g c = record {
   order = c.requires.order;
   lane = goes-none g.W.World.acts (g.W.Ops.lane c.args.world.now);
   counted = counted-none c.args.kernel.now c.args.objects.now c.requires.counted;
+  tells = tells-none c.args.kernel.now.steps c.args.gate.now.steps.list;
   rows = λ apart. row-begins c.args.at.now.sys.now (terms_of c.args.at.now) c.args.kernel.now (g.W.Ops.lane c.args.world.now);
   quiet = λ base same. (base, λ p h. h);
 }
@@ -260,3 +266,15 @@ returns-in_err-step-in-Some-top-clause-rows g c =
     rw (p.1, p.2)
     (λ apart. stops-from sys terms c.args.kernel.now c.loop.kernel (lane c.args.world.now) a.lane (c.loop.invariant.rows apart) d.lane (lane c.step-in-Some-top.new.world) c.in_err-step-in-Some-top.field-0.0
     (within-idle sys terms c.args.kernel.now c.loop.kernel (lane c.args.world.now) a.lane (c.loop.invariant.rows apart) c.scan.new.kernel d (subst (λ x. VisitsRow sys terms (above sys c.floor-low.result) [] b.lane d.lane (Ok x)) c.if-found.false c.in_ok-found.ensures.rows a.lane (subst (λ f. InRow sys terms (above sys f) a.lane b.lane) (sym c.floor-low.ensures) c.in_ok-happened.ensures.goes.row)) (steps-same c.loop.kernel c.look.new.kernel c.scan.new.kernel c.loop.objects c.scan.new.objects c.in_ok-happened.ensures.steps (subst (λ x. BeginsFound c.look.new.kernel c.scan.new.kernel c.loop.objects c.scan.new.objects (Ok x)) c.if-found.false c.in_ok-found.ensures.begun)) pass.knows c.in-Some-top.field-0 c.in-Some-top.ensures) c.in_err-step-in-Some-top.ensures.rows)
+
+pub returns-in_err-happened-clause-tells : goal.returns-in_err-happened-clause-tells
+returns-in_err-happened-clause-tells g c = tells-kept c.args.kernel.now.steps c.loop.kernel.steps c.look.new.kernel.steps c.args.gate.now.steps.list c.loop.gate.steps.list c.loop.invariant.tells c.in_err-happened.ensures.steps
+
+pub returns-in_err-found-clause-tells : goal.returns-in_err-found-clause-tells
+returns-in_err-found-clause-tells g c = tells-then c.args.kernel.now.steps c.look.new.kernel.steps c.scan.new.kernel.steps c.args.gate.now.steps.list c.loop.gate.steps.list c.scan.new.gate.steps.list (tells-kept c.args.kernel.now.steps c.loop.kernel.steps c.look.new.kernel.steps c.args.gate.now.steps.list c.loop.gate.steps.list c.loop.invariant.tells c.in_ok-happened.ensures.steps) c.in_err-found.ensures.tells
+
+pub returns-in_err-step-clause-tells : goal.returns-in_err-step-clause-tells
+returns-in_err-step-clause-tells g c = tells-step c.args.kernel.now.steps c.scan.new.kernel.steps c.step.new.kernel.steps c.args.gate.now.steps.list c.scan.new.gate.steps.list (tells-then c.args.kernel.now.steps c.look.new.kernel.steps c.scan.new.kernel.steps c.args.gate.now.steps.list c.loop.gate.steps.list c.scan.new.gate.steps.list (tells-kept c.args.kernel.now.steps c.loop.kernel.steps c.look.new.kernel.steps c.args.gate.now.steps.list c.loop.gate.steps.list c.loop.invariant.tells c.in_ok-happened.ensures.steps) c.in_ok-found.ensures.tells) c.in_err-step.ensures.begun.steps
+
+pub returns-in_err-step-in-Some-top-clause-tells : goal.returns-in_err-step-in-Some-top-clause-tells
+returns-in_err-step-in-Some-top-clause-tells g c = tells-step c.args.kernel.now.steps c.scan.new.kernel.steps c.step-in-Some-top.new.kernel.steps c.args.gate.now.steps.list c.scan.new.gate.steps.list (tells-then c.args.kernel.now.steps c.look.new.kernel.steps c.scan.new.kernel.steps c.args.gate.now.steps.list c.loop.gate.steps.list c.scan.new.gate.steps.list (tells-kept c.args.kernel.now.steps c.loop.kernel.steps c.look.new.kernel.steps c.args.gate.now.steps.list c.loop.gate.steps.list c.loop.invariant.tells c.in_ok-happened.ensures.steps) c.in_ok-found.ensures.tells) c.in_err-step-in-Some-top.ensures.begun.steps

@@ -1,3 +1,4 @@
+use Rattle.qp_told.specs.Steps.{TellsSteps}
 use Rattle.qp_kernel_turns.specs.Knowing.{MayLook}
 use Rattle.qp_kernel_turns.specs.Counting.{AreCounted}
 use Rattle.qp_kernel_turns.specs.Lanes.{LaneGoes}
@@ -17,6 +18,7 @@ invariant-loop g l =
       order : InOrder g.W.World.acts l.at.sys.now l.kernel.looks (g.W.Ops.lane l.world);
       lane : LaneGoes g.W.World.acts (g.W.Ops.lane l.fn.world) (g.W.Ops.lane l.world);
       counted : AreCounted l.fn.kernel l.kernel l.fn.objects l.objects;
+      tells : TellsSteps l.fn.kernel.steps l.kernel.steps l.fn.gate.steps.list l.gate.steps.list;
       rows : AreApart g.W.World.acts (terms_of l.at) → RowGoes l.at.sys.now (terms_of l.at) l.fn.kernel l.kernel (g.W.Ops.lane l.fn.world) (g.W.Ops.lane l.world);
       quiet : l.fn.kernel.stack.items ≡ [] → l.kernel.steps ≡ l.fn.kernel.steps → (l.kernel.stack.items ≡ []) × PendingStays (g.W.Ops.lane l.fn.world) (g.W.Ops.lane l.world);
     }

@@ -11,6 +11,7 @@ use Rattle.std.proofs.lemmas.Result.{err_from_is_err_and}
 use Rattle.qp_kernel_turns.proofs.Ordered.{seen-none}
 use Rattle.qp_kernel_turns.proofs.Rows.{row-whole}
 use Rattle.qp_kernel_turns.proofs.Rounds.{onward-none, onward-then, row-none}
+use Rattle.qp_told.proofs.ToldLemmas.{tells-none, tells-then}
 use Rattle.qp_kernel_turns.proofs.turning.scan.Goals as goal
 
 pub loop-place-init : goal.loop-place-init
@@ -33,6 +34,7 @@ loop-place-init g c =
       };
       lane = goes-none g.W.World.acts (g.W.Ops.lane c.args.world.now);
       begun = begin-none c.args.kernel.now c.args.objects.now;
+      tells = tells-none c.args.kernel.now.steps c.args.gate.now.steps.list;
       rows = λ u row. subst (λ ps. InRow sys (terms_of c.args.at.now) ps u (g.W.Ops.lane c.args.world.now)) (sym all) row;
     }
 
@@ -62,6 +64,7 @@ returns g c =
       rests = tt;
       lane = c.loop-place.invariant.lane;
       begun = c.loop-place.invariant.begun;
+      tells = c.loop-place.invariant.tells;
       rows = λ u row. subst (λ ps. InRow sys (terms_of c.args.at.now) ps u (lane c.loop-place.world)) all (c.loop-place.invariant.rows u row);
     }
 
@@ -131,5 +134,14 @@ loop-place-preserved g c =
       };
       lane = goes-then g.W.World.acts (lane c.args.world.now) v w so_far.lane c.in_ok-visit.ensures.lane;
       begun = record { steps = omega (arith, steps, steps_so_far); taken = omega (arith, taken, taken_so_far) };
+      tells = tells-then c.args.kernel.now.steps c.loop-place.kernel.steps c.visit.new.kernel.steps c.args.gate.now.steps.list c.loop-place.gate.steps.list c.visit.new.gate.steps.list so_far.tells c.in_ok-visit.ensures.tells;
       rows = λ u row. rows u (subst (λ m. InRow sys terms (row_below sys floor m) u v) same (so_far.rows u row));
     }
+
+pub returns-in_err-visit-clause-tells : goal.returns-in_err-visit-clause-tells
+returns-in_err-visit-clause-tells g c =
+    tells-then c.args.kernel.now.steps c.loop-place.kernel.steps c.visit.new.kernel.steps c.args.gate.now.steps.list c.loop-place.gate.steps.list c.visit.new.gate.steps.list c.loop-place.invariant.tells c.in_err-visit.ensures.tells
+
+pub returns-then-branch-clause-tells : goal.returns-then-branch-clause-tells
+returns-then-branch-clause-tells g c =
+    tells-then c.args.kernel.now.steps c.loop-place.kernel.steps c.visit.new.kernel.steps c.args.gate.now.steps.list c.loop-place.gate.steps.list c.visit.new.gate.steps.list c.loop-place.invariant.tells c.in_ok-visit.ensures.tells

@@ -1,5 +1,6 @@
 use Rattle.qp_model.specs.KernelLane.{above}
 use Rattle.qp_calls.specs.LaneView.{LaneView}
+use Rattle.qp_told.specs.Steps.{TellsSteps}
 use Rattle.qp_kernel_turns.specs.BaseRows.{InRow}
 use Rattle.qp_kernel_turns.specs.Counting.{Begin}
 use Rattle.qp_kernel_turns.specs.Lanes.{LaneGoes}
@@ -15,5 +16,6 @@ invariant-loop-place g l =
       order : PassedInOrder g.W.World.acts l.at.sys.now l.floor l.place (stand_of l.fn.kernel l.fn.objects (g.W.Ops.lane l.fn.world)) (stand_of l.kernel l.objects (g.W.Ops.lane l.world));
       lane : LaneGoes g.W.World.acts (g.W.Ops.lane l.fn.world) (g.W.Ops.lane l.world);
       begun : Begin 0 l.fn.kernel l.kernel l.fn.objects l.objects;
+      tells : TellsSteps l.fn.kernel.steps l.kernel.steps l.fn.gate.steps.list l.gate.steps.list;
       rows : (u : LaneView) → InRow l.at.sys.now (terms_of l.at) (above l.at.sys.now l.floor) u (g.W.Ops.lane l.fn.world) → InRow l.at.sys.now (terms_of l.at) (row_below l.at.sys.now l.floor l.place) u (g.W.Ops.lane l.world);
     }

@@ -16,6 +16,7 @@ use Rattle.qp_kernel_turns.proofs.Resting.{rests-halted, rests-noted, rests-spen
 use Rattle.qp_kernel_turns.proofs.Staying.{all-wait}
 use Rattle.qp_kernel_turns.proofs.Taking.{seen-is-there}
 use Rattle.qp_kernel_turns.proofs.Visits.{empty-row, enters-row, fits-stack, found-row, halted-row, is-served, is-there, may-begin, may-stop, seen-empty, seen-goes, skipped, skipped-row, spent-row, spent-stops, spent-told, step-enters, stop-found}
+use Rattle.qp_told.proofs.ToldLemmas.{tells-none, tells-one}
 use Rattle.qp_kernel_turns.proofs.turning.visit.Goals as goal
 
 pub returns-then-p-floor : goal.returns-then-p-floor
@@ -29,6 +30,7 @@ returns-then-p-floor g c =
       rests = tt;
       lane = goes-none g.W.World.acts (g.W.Ops.lane c.args.world.now);
       begun = begin-none c.args.kernel.now c.args.objects.now;
+      tells = tells-none c.args.kernel.now.steps c.args.gate.now.steps.list;
       rows = λ u row. skipped-row sys c.requires.sound (terms_of c.args.at.now) (stand_of c.args.kernel.now c.args.objects.now (g.W.Ops.lane c.args.world.now)) c.args.floor c.args.place o at c.if-p-floor.true u row;
     }
 
@@ -48,6 +50,7 @@ returns-in_err-ready g c =
       rests = rests-halted sys c.requires.sound (terms_of c.args.at.now) c.args.kernel.now.looks c.args.kernel.now.stack.items c.args.objects.now (lane c.args.world.now) k.knows _ k.at.stack (lane c.ready.new.ops) c.in_err-ready.field-0.0 c.in_err-ready.ensures;
       lane = halts-lane g.W.World.acts (lane c.args.world.now) (lane c.ready.new.ops) c.in_err-ready.field-0.0 c.in_err-ready.ensures;
       begun = begin-none c.args.kernel.now c.args.objects.now;
+      tells = tells-none c.args.kernel.now.steps c.args.gate.now.steps.list;
       rows = λ u row. halted-row sys c.requires.sound (terms_of c.args.at.now) (stand_of c.args.kernel.now c.args.objects.now (lane c.args.world.now)) c.args.floor c.args.place o at c.if-p-floor.false c.requires.knows u (lane c.ready.new.ops) c.in_err-ready.field-0.0 row c.in_err-ready.ensures;
     })
 
@@ -75,6 +78,7 @@ returns-then-from g c =
       rests = tt;
       lane = seen-lane g.W.World.acts o.priority counts (lane c.args.world.now) (lane c.ready.new.ops) (lane c.seen-now.new.self) room c.seen-now.ensures;
       begun = begin-none c.args.kernel.now c.args.objects.now;
+      tells = tells-none c.args.kernel.now.steps c.args.gate.now.steps.list;
       rows = λ u row. empty-row sys c.requires.sound (terms_of c.args.at.now) (stand_of c.args.kernel.now c.args.objects.now (lane c.args.world.now)) c.args.floor c.args.place o at c.if-p-floor.false c.requires.knows (lane c.ready.new.ops) (lane c.seen-now.new.self) counts room c.seen-now.ensures none u row;
     }
 
@@ -117,6 +121,7 @@ returns-then-taken-at g c =
           (spent-told sys c.requires.sound (terms_of c.args.at.now) _ c.args.floor c.args.place o at c.if-p-floor.false c.requires.knows (lane c.ready.new.ops) (lane c.seen-now.new.self) counts room c.seen-now.ensures some c.spent.result (lane c.note.new.self) (lane c.stop.new.self) c.spent.ensures c.note.ensures.grows c.stop.ensures);
       lane = spent-lane g.W.World.acts o.priority counts (lane c.args.world.now) (lane c.ready.new.ops) (lane c.seen-now.new.self) room c.seen-now.ensures c.spent.result (lane c.note.new.self) (lane c.stop.new.self) c.spent.ensures c.note.ensures.grows c.stop.ensures;
       begun = begin-none c.args.kernel.now c.args.objects.now;
+      tells = tells-none c.args.kernel.now.steps c.args.gate.now.steps.list;
       rows = λ u row. spent-row sys c.requires.sound (terms_of c.args.at.now) (stand_of c.args.kernel.now c.args.objects.now (lane c.args.world.now)) c.args.floor c.args.place o at c.if-p-floor.false c.requires.knows (lane c.ready.new.ops) (lane c.seen-now.new.self) counts room c.seen-now.ensures some c.taken.result c.spent.result (lane c.note.new.self) (lane c.stop.new.self) c.taken.ensures c.if-taken-at.true c.spent.ensures c.note.ensures.grows c.stop.ensures u row;
     }
 
@@ -136,6 +141,7 @@ returns-in-Some g c =
           (ap (λ u. u.told) c.in-Some.ensures.0 ∙ (seen-goes o.priority counts (lane c.args.world.now) (lane c.ready.new.ops) (lane c.seen-now.new.self) room c.seen-now.ensures c.requires.knows.knows.lane.spills).told);
       lane = finds-stop g.W.World.acts c.in-Some.field-0 (lane c.args.world.now) (lane c.seen-now.new.self) (lane c.stopped.new.self) (seen-lane g.W.World.acts o.priority counts (lane c.args.world.now) (lane c.ready.new.ops) (lane c.seen-now.new.self) room c.seen-now.ensures) c.in-Some.ensures.0;
       begun = begin-none c.args.kernel.now c.args.objects.now;
+      tells = tells-none c.args.kernel.now.steps c.args.gate.now.steps.list;
       rows = λ u row. found-row sys c.requires.sound (terms_of c.args.at.now) (stand_of c.args.kernel.now c.args.objects.now (lane c.args.world.now)) c.args.floor c.args.place o at c.if-p-floor.false c.requires.knows (lane c.ready.new.ops) (lane c.seen-now.new.self) counts room c.seen-now.ensures some c.in-Some.field-0 (lane c.stopped.new.self) c.in-Some.ensures.0 u row;
     }
 
@@ -183,6 +189,7 @@ returns g c =
       rests = tt;
       lane = took-lane g.W.World.acts o.priority counts (lane c.args.world.now) (lane c.ready.new.ops) (lane c.seen-now.new.self) room c.seen-now.ensures c.in-Taken.e (lane c.stopped.new.self) (lane c.take.new.self) c.in_default.ensures.0 c.in-Taken.ensures;
       begun = record { steps = c.one_more-kernel.ensures; taken = taken-begins o.priority c.in-Taken.e c.args.objects.now c.begin.new.self c.begin.ensures };
+      tells = tells-one c.args.kernel.now.steps c.one_more-kernel.result c.args.gate.now.steps.list c.tells.new.self.steps.list c.one_more-kernel.ensures c.tells.ensures;
       rows = λ u row. enters-row sys c.requires.sound (terms_of c.args.at.now) (stand_of c.args.kernel.now c.args.objects.now (lane c.args.world.now)) c.args.floor c.args.place o at c.if-p-floor.false c.requires.knows (lane c.ready.new.ops) (lane c.seen-now.new.self) counts room c.seen-now.ensures some c.taken.result (lane c.stopped.new.self) (lane c.take.new.self) c.in-Taken.e c.begin.new.self c.taken.ensures c.if-taken-at.false c.in_default.ensures.0 c.in-Taken.ensures c.begin.ensures u row;
     }
 

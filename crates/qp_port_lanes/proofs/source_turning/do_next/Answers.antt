@@ -10,6 +10,7 @@ use Rattle.qp_port_lanes.specs.CursorAt.{mine}
 use Rattle.qp_dispatch.specs.declared.objects.Turn.TheVariants as turn
 use Rattle.qp_port_lanes.proofs.Asking.{cursor-once}
 use Rattle.qp_port_lanes.proofs.Turned.{any-default, breaks-here, breaks-then, few-begun, finds-stop, goes-none, goes-on, goes-then, never, rests-settling, starves, stops-here, turns-then, unspilled}
+use Rattle.qp_port_lanes.proofs.Tellings.{ends-memory, ends-stopped}
 use Rattle.qp_port_lanes.proofs.source_turning.do_next.Goals as goal
 
 pub returns-in-Some-clause-does : goal.returns-in-Some-clause-does
@@ -171,3 +172,37 @@ returns-in-Memory-clause-does g c =
 
 pub returns-in-Done-clause-unset : goal.returns-in-Done-clause-unset
 returns-in-Done-clause-unset g c = let e = c.in_default-stopped.ensures in unset-by (g.O.Ops.lane c.args.ops.now) e.1 e.2 e.3
+
+pub returns-then-source-clause-tells : goal.returns-then-source-clause-tells
+returns-then-source-clause-tells g c = (refl, inr (refl, inl refl))
+
+pub returns-then-at-len-clause-tells : goal.returns-then-at-len-clause-tells
+returns-then-at-len-clause-tells g c = (refl, inr (refl, inl refl))
+
+pub returns-in-Settle-clause-tells : goal.returns-in-Settle-clause-tells
+returns-in-Settle-clause-tells g c = (refl, inr (refl, inl refl))
+
+pub returns-in-Some-clause-tells : goal.returns-in-Some-clause-tells
+returns-in-Some-clause-tells g c = (refl, inr (refl, inl (ap (λ (u : LaneView). u.told) c.in-Some.ensures.0)))
+
+pub returns-in-Done-clause-tells : goal.returns-in-Done-clause-tells
+returns-in-Done-clause-tells g c = c.in-Done.ensures.tells
+
+pub returns-in-Tried-clause-tells : goal.returns-in-Tried-clause-tells
+returns-in-Tried-clause-tells g c = (refl, inl c.in-Tried.ensures.tells)
+
+pub returns-in-Stopped-clause-tells : goal.returns-in-Stopped-clause-tells
+returns-in-Stopped-clause-tells g c =
+    let lane = g.O.Ops.lane in (
+      refl,
+      ends-stopped (c.args.source.now.begun + 1) (lane c.args.ops.now) (lane c.stopped.new.self) (lane c.stimulus-answer.new.ops) c.args.gate.now.steps.list c.stimulus-answer.new.gate.steps.list
+          (ap (λ (u : LaneView). u.told) c.in_default-stopped.ensures.0) c.in-Stopped.ensures.tells,
+    )
+
+pub returns-in-Memory-clause-tells : goal.returns-in-Memory-clause-tells
+returns-in-Memory-clause-tells g c =
+    let lane = g.O.Ops.lane in (
+      refl,
+      ends-memory (c.args.source.now.begun + 1) (lane c.args.ops.now) (lane c.stopped.new.self) (lane c.stimulus-answer.new.ops) c.args.gate.now.steps.list c.stimulus-answer.new.gate.steps.list
+          (ap (λ (u : LaneView). u.told) c.in_default-stopped.ensures.0) c.in-Memory.ensures.tells,
+    )

@@ -1,4 +1,5 @@
 use Rattle.std.proofs.Common.{◌≡◌}
+use Rattle.qp_told.specs.Steps.{TellsSteps}
 use Rattle.qp_port_lanes.specs.SourceTurning.{CursorGoes}
 use Rattle.qp_port_lanes.proofs.source_turning.turn_in.Given as goal
 
@@ -8,4 +9,5 @@ invariant-loop-k g l =
     record {
       goes : CursorGoes l.fn.sys l.fn.source l.source (g.O.Ops.lane l.fn.ops) (g.O.Ops.lane l.ops);
       at : l.source.begun ≡ l._k;
+      tells : TellsSteps l.fn.source.begun l.source.begun l.fn.gate.steps.list l.gate.steps.list;
     }

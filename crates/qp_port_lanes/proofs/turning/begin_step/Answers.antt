@@ -1,4 +1,4 @@
-use Rattle.std.proofs.Common.{◌≡◌, ◌++◌, ◌∷◌, [], ap, arith, false, refl, subst}
+use Rattle.std.proofs.Common.{◌≡◌, ◌+◌, ◌++◌, ◌∙◌, ◌∷◌, [], ap, arith, false, refl, subst}
 use Rattle.std.proofs.lemmas.Result.{err_from_is_err_and}
 use Rattle.qp_model.specs.Told.{for_object, told_took}
 use Rattle.qp_calls.specs.Clauses.{entry_of}
@@ -10,6 +10,7 @@ use Rattle.qp_port_lanes.proofs.Takes.{empty-goes, empty-takes, no-take-halts}
 use Rattle.qp_port_lanes.proofs.Beginning.{begun}
 use Rattle.qp_port_lanes.proofs.Resting.{halts, object-room, resting-room, room-more, takes-none}
 use Rattle.qp_port_lanes.proofs.Never.{never-halts, never-room, never-then, never-took}
+use Rattle.qp_told.proofs.ToldLemmas.{tells-none, tells-one, tells-same}
 use Rattle.qp_port_lanes.proofs.turning.begin_step.Goals as goal
 
 pub returns-in_err-ready-clause-goes : goal.returns-in_err-ready-clause-goes
@@ -115,3 +116,23 @@ returns-in-Taken-clause-unset g c = c.in_ok-ready.ensures.unset
 
 pub returns-in-Empty-clause-unset : goal.returns-in-Empty-clause-unset
 returns-in-Empty-clause-unset g c = c.in_ok-ready.ensures.unset
+
+pub returns-in_err-ready-clause-tells : goal.returns-in_err-ready-clause-tells
+returns-in_err-ready-clause-tells g c = tells-none c.args.home.now.object.taken c.args.gate.now.steps.list
+
+pub returns-in_err-look_only-clause-tells : goal.returns-in_err-look_only-clause-tells
+returns-in_err-look_only-clause-tells g c =
+    tells-same c.args.home.now.object.taken c.look_only.new.home.object.taken c.args.gate.now.steps.list c.args.gate.now.steps.list c.in_err-look_only.ensures.kept refl
+
+pub returns-then-taken-budget-clause-tells : goal.returns-then-taken-budget-clause-tells
+returns-then-taken-budget-clause-tells g c =
+    tells-same c.args.home.now.object.taken c.look_only.new.home.object.taken c.args.gate.now.steps.list c.args.gate.now.steps.list c.in_ok-look_only.ensures.kept refl
+
+pub returns-in-Empty-clause-tells : goal.returns-in-Empty-clause-tells
+returns-in-Empty-clause-tells g c = tells-none c.args.home.now.object.taken c.args.gate.now.steps.list
+
+pub returns-in-Taken-clause-tells : goal.returns-in-Taken-clause-tells
+returns-in-Taken-clause-tells g c =
+    let next : c.begin.new.self.taken ≡ c.args.home.now.object.taken + 1 = ap (λ z. z.taken) c.begin.ensures in
+    tells-one c.args.home.now.object.taken c.begin.new.self.taken c.args.gate.now.steps.list c.tells.new.self.steps.list next
+    (c.tells.ensures ∙ ap (λ n. n ∷ c.args.gate.now.steps.list) (c.from.ensures ∙ c.taken-in-Taken.ensures))

@@ -1,4 +1,4 @@
-use Rattle.std.proofs.Common.{◌+◌, ◌≤◌, ap, arith, false, refl, subst, sym, true}
+use Rattle.std.proofs.Common.{◌+◌, ◌≤◌, ◌∙◌, ap, arith, false, refl, subst, sym, true}
 use Rattle.qp_dispatch.specs.declared.steps.Step.TheVariants as step
 use Rattle.qp_kernel_turns.specs.declared.halting.Halt.TheVariants as halt
 use Rattle.qp_kernel_turns.specs.Halting.{asked_once}
@@ -11,12 +11,12 @@ use Rattle.qp_port_lanes.specs.Turning.{HomeStops, NeverEmpty}
 use Rattle.qp_port_lanes.proofs.Asking.{busy-once}
 use Rattle.qp_port_lanes.proofs.Lanes.{resumed}
 use Rattle.qp_port_lanes.proofs.Never.{never-same, never-then}
-use Rattle.qp_port_lanes.proofs.Stepping.{after-step, may-resume, never-step, step-takes, stops-waiting}
+use Rattle.qp_port_lanes.proofs.Stepping.{after-step, may-resume, never-step, step-takes, stops-waiting, taken-step}
 use Rattle.qp_port_lanes.proofs.Takes.{no-take, no-take-then}
 use Rattle.qp_port_lanes.proofs.turning.finish_step.Goals as goal
 
 pub loop-init : goal.loop-init
-loop-init g c = record { waits = false; busy = c.requires.knows; lane = goes-none false (g.O.Ops.lane c.args.ops.now); never = never-same _ _ refl; same = refl; takes = no-take (g.O.Ops.lane c.args.ops.now).told (g.O.Ops.lane c.args.ops.now).told refl; under_way = refl; asked = let had = c.requires.knows.asked in omega (arith, had) }
+loop-init g c = record { waits = false; busy = c.requires.knows; lane = goes-none false (g.O.Ops.lane c.args.ops.now); never = never-same _ _ refl; same = refl; takes = no-take (g.O.Ops.lane c.args.ops.now).told (g.O.Ops.lane c.args.ops.now).told refl; under_way = refl; asked = let had = c.requires.knows.asked in omega (arith, had); kept = refl }
 
 pub resume-requires : goal.resume-requires
 resume-requires g c = may-resume c.args.sys.now c.requires.sound c.args.budget c.loop.invariant.waits c.loop.home (g.O.Ops.lane c.loop.ops) c.loop.invariant.busy
@@ -38,6 +38,7 @@ returns-in-Some-stopped g c =
       lane = finds-stop false c.in-Some-stopped.field-0 (lane c.args.ops.now) w (lane c.stopped.new.self) goes c.in-Some-stopped.ensures.0;
       same = c.loop.invariant.same;
       takes = (subst (AddsNoTake (lane c.args.ops.now).told) (sym (ap (λ u. u.told) c.in-Some-stopped.ensures.0)) (no-take-then (lane c.args.ops.now).told v.told w.told c.loop.invariant.takes (step-takes sys c.requires.sound c.args.budget c.loop.invariant.waits x v c.loop.invariant.busy c.resume.new.ceiling c.resume.new.self w step.Point c.in-Point.ensures)), c.loop.invariant.under_way);
+      kept = taken-step sys c.requires.sound c.args.budget c.loop.invariant.waits x v c.loop.invariant.busy c.resume.new.ceiling c.resume.new.self w step.Point c.in-Point.ensures ∙ c.loop.invariant.kept;
     }
 
 pub loop-preserved : goal.loop-preserved
@@ -61,6 +62,7 @@ loop-preserved g c =
       takes = subst (λ u. AddsNoTake (lane c.args.ops.now).told u.told) still (no-take-then (lane c.args.ops.now).told v.told w.told c.loop.invariant.takes (step-takes sys c.requires.sound c.args.budget c.loop.invariant.waits x v c.loop.invariant.busy c.resume.new.ceiling c.resume.new.self w step.Point c.in-Point.ensures));
       under_way = c.loop.invariant.under_way;
       asked = both.1;
+      kept = taken-step sys c.requires.sound c.args.budget c.loop.invariant.waits x v c.loop.invariant.busy c.resume.new.ceiling c.resume.new.self w step.Point c.in-Point.ensures ∙ c.loop.invariant.kept;
     }
 
 pub returns-in-Done : goal.returns-in-Done
@@ -76,6 +78,7 @@ returns-in-Done g c =
       lane = goes-then false (lane c.args.ops.now) v w c.loop.invariant.lane (resumed sys x.ceiling c.resume.new.ceiling x.object c.resume.new.self v w step.Done c.in-Done.ensures);
       same = c.loop.invariant.same;
       takes = no-take-then (lane c.args.ops.now).told v.told w.told c.loop.invariant.takes (step-takes sys c.requires.sound c.args.budget c.loop.invariant.waits x v c.loop.invariant.busy c.resume.new.ceiling c.resume.new.self w step.Done c.in-Done.ensures);
+      kept = taken-step sys c.requires.sound c.args.budget c.loop.invariant.waits x v c.loop.invariant.busy c.resume.new.ceiling c.resume.new.self w step.Done c.in-Done.ensures ∙ c.loop.invariant.kept;
     }
 
 pub returns-in-Stopped : goal.returns-in-Stopped
@@ -92,6 +95,7 @@ returns-in-Stopped g c =
       lane = halts-then false (lane c.args.ops.now) v w halt.Stopped c.loop.invariant.lane (resumed sys x.ceiling c.resume.new.ceiling x.object c.resume.new.self v w step.Stopped c.in-Stopped.ensures);
       same = c.loop.invariant.same;
       takes = (no-take-then (lane c.args.ops.now).told v.told w.told c.loop.invariant.takes (step-takes sys c.requires.sound c.args.budget c.loop.invariant.waits x v c.loop.invariant.busy c.resume.new.ceiling c.resume.new.self w step.Stopped c.in-Stopped.ensures), c.loop.invariant.under_way);
+      kept = taken-step sys c.requires.sound c.args.budget c.loop.invariant.waits x v c.loop.invariant.busy c.resume.new.ceiling c.resume.new.self w step.Stopped c.in-Stopped.ensures ∙ c.loop.invariant.kept;
     }
 
 pub returns-in-Memory : goal.returns-in-Memory
@@ -107,4 +111,5 @@ returns-in-Memory g c =
       lane = halts-then false (lane c.args.ops.now) v w halt.Memory c.loop.invariant.lane (resumed c.args.sys.now x.ceiling c.resume.new.ceiling x.object c.resume.new.self v w step.Memory c.in-Memory.ensures);
       same = c.loop.invariant.same;
       takes = (no-take-then (lane c.args.ops.now).told v.told w.told c.loop.invariant.takes (step-takes sys c.requires.sound c.args.budget c.loop.invariant.waits x v c.loop.invariant.busy c.resume.new.ceiling c.resume.new.self w step.Memory c.in-Memory.ensures), c.loop.invariant.under_way);
+      kept = taken-step sys c.requires.sound c.args.budget c.loop.invariant.waits x v c.loop.invariant.busy c.resume.new.ceiling c.resume.new.self w step.Memory c.in-Memory.ensures ∙ c.loop.invariant.kept;
     }

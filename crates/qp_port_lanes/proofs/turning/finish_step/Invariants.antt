@@ -17,4 +17,5 @@ invariant-loop g l =
       takes : AddsNoTake (g.O.Ops.lane l.fn.ops).told (g.O.Ops.lane l.ops).told;
       under_way : l.home.busy ≡ l.fn.home.busy;
       asked : l.home.object.taken + busy.points ≤ (g.O.Ops.lane l.ops).asked;
+      kept : l.home.object.taken ≡ l.fn.home.object.taken;
     }

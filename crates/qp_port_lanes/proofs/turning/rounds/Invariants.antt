@@ -1,5 +1,6 @@
 use Rattle.std.proofs.Common.{◌≡◌, false}
 use Rattle.qp_kernel_turns.specs.Lanes.{LaneGoes}
+use Rattle.qp_told.specs.Steps.{TellsSteps}
 use Rattle.qp_port_lanes.specs.At.{IsHome}
 use Rattle.qp_port_lanes.specs.Turning.{NeverEmpty}
 use Rattle.qp_port_lanes.proofs.turning.rounds.Given as goal
@@ -12,4 +13,5 @@ invariant-loop g l =
       lane : LaneGoes false (g.O.Ops.lane l.fn.ops) (g.O.Ops.lane l.ops);
       never : NeverEmpty (g.O.Ops.lane l.fn.ops) (g.O.Ops.lane l.ops);
       same : l.home.me ≡ l.fn.home.me;
+      tells : TellsSteps l.fn.home.object.taken l.home.object.taken l.fn.gate.steps.list l.gate.steps.list;
     }

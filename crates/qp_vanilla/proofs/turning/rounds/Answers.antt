@@ -7,6 +7,7 @@ use Rattle.qp_kernel_turns.proofs.Counting.{counted-none, counted-on, counted-th
 use Rattle.qp_kernel_turns.proofs.Lanes.{goes-any, goes-none, goes-then, halts-any, halts-then, looked-scanned}
 use Rattle.qp_kernel_turns.proofs.Ordered.{halts-from}
 use Rattle.qp_kernel_turns.proofs.Rounds.{entered-all, held-of, onward-all, onward-none, onward-then, round-found}
+use Rattle.qp_told.proofs.ToldLemmas.{tells-kept, tells-none, tells-step, tells-then}
 use Rattle.qp_vanilla.proofs.Turns.{all-empty, at-base, goes-within, onward-look, rests-again, rests-idle, rests-over}
 use Rattle.qp_vanilla.proofs.turning.rounds.Goals as goal
 
@@ -42,6 +43,7 @@ loop-preserved-in-Continue-branch-2 g c =
       order = c.in_ok-step-in-Some-top.ensures.order g.W.World.acts c.in_ok-happened.ensures.order.order;
       lane = goes-then g.W.World.acts (lane c.args.world.now) (lane c.look.new.world) (lane c.step.new.world) (goes-then g.W.World.acts (lane c.args.world.now) (lane c.loop.world) (lane c.look.new.world) c.loop.invariant.lane c.in_ok-happened.ensures.lane) (goes-any g.W.World.acts (lane c.look.new.world) (lane c.step.new.world) c.in_ok-step-in-Some-top.ensures.lane);
       counted = counted-then 0 (omega arith) c.args.kernel.now c.loop.kernel c.look.new.kernel c.step.new.kernel c.args.objects.now c.loop.objects c.step.new.objects c.loop.invariant.counted c.in_ok-happened.ensures.steps c.in_ok-happened.ensures.goes.counted c.in_ok-step-in-Some-top.ensures.begun stepped.looks;
+      tells = tells-step c.args.kernel.now.steps c.look.new.kernel.steps c.step.new.kernel.steps c.args.gate.now.steps.list c.loop.gate.steps.list (tells-kept c.args.kernel.now.steps c.loop.kernel.steps c.look.new.kernel.steps c.args.gate.now.steps.list c.loop.gate.steps.list c.loop.invariant.tells c.in_ok-happened.ensures.steps) c.in_ok-step-in-Some-top.ensures.begun.steps;
     }
 
 pub returns-in_err-step-in-Some-top-clause-order : goal.returns-in_err-step-in-Some-top-clause-order
@@ -79,6 +81,7 @@ loop-preserved-in-Continue-branch-4 g c =
       order = c.in_ok-step-in-None-top.ensures.order g.W.World.acts seen;
       lane = goes-then g.W.World.acts (lane c.args.world.now) (lane c.scan.new.world) (lane c.step-then-branch.new.world) (looked-scanned g.W.World.acts (lane c.args.world.now) (lane c.loop.world) (lane c.look.new.world) (lane c.scan.new.world) c.loop.invariant.lane c.in_ok-happened.ensures.lane c.in_ok-scan-in-None-top.ensures.lane) (goes-any g.W.World.acts (lane c.scan.new.world) (lane c.step-then-branch.new.world) c.in_ok-step-in-None-top.ensures.lane);
       counted = counted-on c.args.kernel.now c.scan.new.kernel c.step-then-branch.new.kernel c.args.objects.now c.scan.new.objects c.step-then-branch.new.objects (counted-then 1 (omega arith) c.args.kernel.now c.loop.kernel c.look.new.kernel c.scan.new.kernel c.args.objects.now c.loop.objects c.scan.new.objects c.loop.invariant.counted c.in_ok-happened.ensures.steps c.in_ok-happened.ensures.goes.counted (subst (λ x. BeginsFound c.look.new.kernel c.scan.new.kernel c.loop.objects c.scan.new.objects (Ok x)) c.if-branch.true c.in_ok-scan-in-None-top.ensures.begun) enter.looks) c.in_ok-step-in-None-top.ensures.begun c.in_ok-step-in-None-top.ensures.goes.looks;
+      tells = tells-step c.args.kernel.now.steps c.scan.new.kernel.steps c.step-then-branch.new.kernel.steps c.args.gate.now.steps.list c.scan.new.gate.steps.list (tells-then c.args.kernel.now.steps c.look.new.kernel.steps c.scan.new.kernel.steps c.args.gate.now.steps.list c.loop.gate.steps.list c.scan.new.gate.steps.list (tells-kept c.args.kernel.now.steps c.loop.kernel.steps c.look.new.kernel.steps c.args.gate.now.steps.list c.loop.gate.steps.list c.loop.invariant.tells c.in_ok-happened.ensures.steps) c.in_ok-scan-in-None-top.ensures.tells) c.in_ok-step-in-None-top.ensures.begun.steps;
     }
 
 pub returns-in_err-step-in-None-top-clause-order : goal.returns-in_err-step-in-None-top-clause-order
@@ -195,6 +198,7 @@ loop-preserved g c =
       order = c.in_ok-rest-in-None-top.ensures.order.order;
       lane = goes-then g.W.World.acts (lane c.args.world.now) (lane c.scan.new.world) (lane c.rest.new.world) (looked-scanned g.W.World.acts (lane c.args.world.now) (lane c.loop.world) (lane c.look.new.world) (lane c.scan.new.world) c.loop.invariant.lane c.in_ok-happened.ensures.lane c.in_ok-scan-in-None-top.ensures.lane) (c.in_ok-rest-in-None-top.ensures.lane);
       counted = counted-then 0 (omega arith) c.args.kernel.now c.loop.kernel c.look.new.kernel c.scan.new.kernel c.args.objects.now c.loop.objects c.scan.new.objects c.loop.invariant.counted c.in_ok-happened.ensures.steps c.in_ok-happened.ensures.goes.counted (subst (λ x. BeginsFound c.look.new.kernel c.scan.new.kernel c.loop.objects c.scan.new.objects (Ok x)) c.if-branch.false c.in_ok-scan-in-None-top.ensures.begun) pass.looks;
+      tells = tells-then c.args.kernel.now.steps c.look.new.kernel.steps c.scan.new.kernel.steps c.args.gate.now.steps.list c.loop.gate.steps.list c.scan.new.gate.steps.list (tells-kept c.args.kernel.now.steps c.loop.kernel.steps c.look.new.kernel.steps c.args.gate.now.steps.list c.loop.gate.steps.list c.loop.invariant.tells c.in_ok-happened.ensures.steps) c.in_ok-scan-in-None-top.ensures.tells;
     }
 
 pub returns-then-not-happened-clause-lane : goal.returns-then-not-happened-clause-lane
@@ -254,6 +258,7 @@ loop-init g c = record {
   order = c.requires.order;
   lane = goes-none g.W.World.acts (g.W.Ops.lane c.args.world.now);
   counted = counted-none c.args.kernel.now c.args.objects.now c.requires.counted;
+  tells = tells-none c.args.kernel.now.steps c.args.gate.now.steps.list;
 }
 
 pub scan-requires-clause-turn : goal.scan-requires-clause-turn
@@ -269,3 +274,27 @@ returns-in_err-happened-clause-order g c =
     let p = err_from_is_err_and c.from_residual.result c.from_residual.ensures.1 in
     rw (p.1, p.2)
     (halts-from g.W.World.acts c.args.at.now.sys.now c.args.objects.now (lane c.args.world.now) c.loop.objects (lane c.loop.world) (lane c.look.new.world) c.in_err-happened.field-0.0 c.requires.knows.knows.lane.of c.loop.invariant.knows.knows.lane.of c.loop.invariant.onward c.in_err-happened.ensures.order)
+
+pub returns-in_err-happened-clause-tells : goal.returns-in_err-happened-clause-tells
+returns-in_err-happened-clause-tells g c =
+    tells-kept c.args.kernel.now.steps c.loop.kernel.steps c.look.new.kernel.steps c.args.gate.now.steps.list c.loop.gate.steps.list c.loop.invariant.tells c.in_err-happened.ensures.steps
+
+pub returns-in_err-step-in-Some-top-clause-tells : goal.returns-in_err-step-in-Some-top-clause-tells
+returns-in_err-step-in-Some-top-clause-tells g c =
+    tells-step c.args.kernel.now.steps c.look.new.kernel.steps c.step.new.kernel.steps c.args.gate.now.steps.list c.loop.gate.steps.list (tells-kept c.args.kernel.now.steps c.loop.kernel.steps c.look.new.kernel.steps c.args.gate.now.steps.list c.loop.gate.steps.list c.loop.invariant.tells c.in_ok-happened.ensures.steps) c.in_err-step-in-Some-top.ensures.begun.steps
+
+pub returns-in_err-scan-in-None-top-clause-tells : goal.returns-in_err-scan-in-None-top-clause-tells
+returns-in_err-scan-in-None-top-clause-tells g c =
+    tells-then c.args.kernel.now.steps c.look.new.kernel.steps c.scan.new.kernel.steps c.args.gate.now.steps.list c.loop.gate.steps.list c.scan.new.gate.steps.list (tells-kept c.args.kernel.now.steps c.loop.kernel.steps c.look.new.kernel.steps c.args.gate.now.steps.list c.loop.gate.steps.list c.loop.invariant.tells c.in_ok-happened.ensures.steps) c.in_err-scan-in-None-top.ensures.tells
+
+pub returns-in_err-step-in-None-top-clause-tells : goal.returns-in_err-step-in-None-top-clause-tells
+returns-in_err-step-in-None-top-clause-tells g c =
+    tells-step c.args.kernel.now.steps c.scan.new.kernel.steps c.step-then-branch.new.kernel.steps c.args.gate.now.steps.list c.scan.new.gate.steps.list (tells-then c.args.kernel.now.steps c.look.new.kernel.steps c.scan.new.kernel.steps c.args.gate.now.steps.list c.loop.gate.steps.list c.scan.new.gate.steps.list (tells-kept c.args.kernel.now.steps c.loop.kernel.steps c.look.new.kernel.steps c.args.gate.now.steps.list c.loop.gate.steps.list c.loop.invariant.tells c.in_ok-happened.ensures.steps) c.in_ok-scan-in-None-top.ensures.tells) c.in_err-step-in-None-top.ensures.begun.steps
+
+pub returns-in_err-rest-in-None-top-clause-tells : goal.returns-in_err-rest-in-None-top-clause-tells
+returns-in_err-rest-in-None-top-clause-tells g c =
+    tells-then c.args.kernel.now.steps c.look.new.kernel.steps c.scan.new.kernel.steps c.args.gate.now.steps.list c.loop.gate.steps.list c.scan.new.gate.steps.list (tells-kept c.args.kernel.now.steps c.loop.kernel.steps c.look.new.kernel.steps c.args.gate.now.steps.list c.loop.gate.steps.list c.loop.invariant.tells c.in_ok-happened.ensures.steps) c.in_ok-scan-in-None-top.ensures.tells
+
+pub returns-then-not-happened-clause-tells : goal.returns-then-not-happened-clause-tells
+returns-then-not-happened-clause-tells g c =
+    tells-then c.args.kernel.now.steps c.look.new.kernel.steps c.scan.new.kernel.steps c.args.gate.now.steps.list c.loop.gate.steps.list c.scan.new.gate.steps.list (tells-kept c.args.kernel.now.steps c.loop.kernel.steps c.look.new.kernel.steps c.args.gate.now.steps.list c.loop.gate.steps.list c.loop.invariant.tells c.in_ok-happened.ensures.steps) c.in_ok-scan-in-None-top.ensures.tells

@@ -3,6 +3,7 @@ use Rattle.qp_kernel_turns.specs.Counting.{AreCounted}
 use Rattle.qp_kernel_turns.specs.Lanes.{LaneGoes}
 use Rattle.qp_kernel_turns.specs.Ordering.{InOrder}
 use Rattle.qp_kernel_turns.specs.Turning.{GoesOnward, Stood, stand_of, terms_of}
+use Rattle.qp_told.specs.Steps.{TellsSteps}
 use Rattle.qp_vanilla.proofs.turning.rounds.Given as goal
 
 -- a look may stand
@@ -14,4 +15,5 @@ invariant-loop g l =
       order : InOrder g.W.World.acts l.at.sys.now l.kernel.looks (g.W.Ops.lane l.world);
       lane : LaneGoes g.W.World.acts (g.W.Ops.lane l.fn.world) (g.W.Ops.lane l.world);
       counted : AreCounted l.fn.kernel l.kernel l.fn.objects l.objects;
+      tells : TellsSteps l.fn.kernel.steps l.kernel.steps l.fn.gate.steps.list l.gate.steps.list;
     }

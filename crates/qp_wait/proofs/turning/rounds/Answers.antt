@@ -14,10 +14,12 @@ use Rattle.qp_wait.specs.Waiting.{RoundWaits, Waits}
 use Rattle.qp_wait.proofs.FoundEmpty.{idles-few, idles-look}
 use Rattle.qp_wait.proofs.Parts.{pause-halts, pause-rests}
 use Rattle.qp_wait.proofs.Waiting.{waiting-none, waiting-parked, waiting-step, waits-before, waits-behind, waits-within}
+use Rattle.qp_kernel_turns.specs.declared.halting.Halt.TheVariants as halt
+use Rattle.qp_told.proofs.ToldLemmas.{tells-kept, tells-none, tells-then}
 use Rattle.qp_wait.proofs.turning.rounds.Goals as goal
 
 pub loop-init : goal.loop-init
-loop-init g c = record { home = c.requires.knows; lane = goes-none false (bell_view c.args.lane.now); same = refl; waits = waiting-none c.args.lane.now }
+loop-init g c = record { home = c.requires.knows; lane = goes-none false (bell_view c.args.lane.now); same = refl; waits = waiting-none c.args.lane.now; tells = tells-none c.args.home.now.object.taken c.args.gate.now.steps.list }
 
 pub returns-in_err-begin-clause-lane : goal.returns-in_err-begin-clause-lane
 returns-in_err-begin-clause-lane g c =
@@ -43,6 +45,7 @@ loop-preserved-in_ok-finish g c =
       home = c.in_ok-finish.ensures.goes;
       lane = goes-then false x z w (goes-then false x y z c.loop.invariant.lane c.in_ok-begin.ensures.lane) c.in_ok-finish.ensures.lane;
       same = c.in_ok-finish.ensures.same ∙ c.in_ok-begin.ensures.same ∙ c.loop.invariant.same;
+      tells = tells-kept c.args.home.now.object.taken c.begin.new.home.object.taken c.finish.new.home.object.taken c.args.gate.now.steps.list c.begin.new.gate.steps.list (tells-then c.args.home.now.object.taken c.loop.home.object.taken c.begin.new.home.object.taken c.args.gate.now.steps.list c.loop.gate.steps.list c.begin.new.gate.steps.list c.loop.invariant.tells c.in_ok-begin.ensures.tells) c.in_ok-finish.ensures.kept;
       waits = waiting-step c.args.lane.now c.loop.lane c.loop.said c.loop.invariant.waits c.begin.new.lane c.finish.new.lane took c.in_ok-begin.ensures.counts c.in_ok-finish.ensures.takes c.finish.new.said
           c.in_ok-finish.ensures.counts;
     }
@@ -165,6 +168,22 @@ loop-preserved g c =
           (resting-same c.args.sys.now c.requires.sound c.args.budget c.begin.new.home z idles.home (asked_once z) refl refl (λ o. refl) refl refl (omega arith));
       lane = subst (LaneGoes false x) (sym parked.1) (goes-then false x z (asked_once z) (goes-then false x y z c.loop.invariant.lane c.in_ok-begin.ensures.lane) (goes-once false z));
       same = c.in_ok-begin.ensures.same ∙ c.loop.invariant.same;
+      tells = tells-then c.args.home.now.object.taken c.loop.home.object.taken c.begin.new.home.object.taken c.args.gate.now.steps.list c.loop.gate.steps.list c.begin.new.gate.steps.list c.loop.invariant.tells c.in_ok-begin.ensures.tells;
       waits = waiting-parked c.args.lane.now c.loop.lane c.loop.said c.loop.invariant.waits c.begin.new.lane c.pause.new.lane c.loop.home.me empty c.in_ok-begin.ensures.counts
           (subst (λ n. HasParkedAt n c.begin.new.lane c.pause.new.lane) (c.priority-else-not-has_found.ensures ∙ c.in_ok-begin.ensures.same) parked.0);
     }
+
+pub returns-in_err-begin-clause-tells : goal.returns-in_err-begin-clause-tells
+returns-in_err-begin-clause-tells g c = tells-then c.args.home.now.object.taken c.loop.home.object.taken c.begin.new.home.object.taken c.args.gate.now.steps.list c.loop.gate.steps.list c.begin.new.gate.steps.list c.loop.invariant.tells c.in_err-begin.ensures.tells
+
+pub returns-in_err-finish-clause-tells : goal.returns-in_err-finish-clause-tells
+returns-in_err-finish-clause-tells g c = tells-kept c.args.home.now.object.taken c.begin.new.home.object.taken c.finish.new.home.object.taken c.args.gate.now.steps.list c.begin.new.gate.steps.list (tells-then c.args.home.now.object.taken c.loop.home.object.taken c.begin.new.home.object.taken c.args.gate.now.steps.list c.loop.gate.steps.list c.begin.new.gate.steps.list c.loop.invariant.tells c.in_ok-begin.ensures.tells) c.in_err-finish.ensures.kept
+
+pub returns-then-not-has_found-clause-tells : goal.returns-then-not-has_found-clause-tells
+returns-then-not-has_found-clause-tells g c = tells-then c.args.home.now.object.taken c.loop.home.object.taken c.begin.new.home.object.taken c.args.gate.now.steps.list c.loop.gate.steps.list c.begin.new.gate.steps.list c.loop.invariant.tells c.in_ok-begin.ensures.tells
+
+pub returns-in_err-pause-clause-tells : goal.returns-in_err-pause-clause-tells
+returns-in_err-pause-clause-tells g c = tells-then c.args.home.now.object.taken c.loop.home.object.taken c.begin.new.home.object.taken c.args.gate.now.steps.list c.loop.gate.steps.list c.begin.new.gate.steps.list c.loop.invariant.tells c.in_ok-begin.ensures.tells
+
+pub returns-then-not-branch-clause-tells : goal.returns-then-not-branch-clause-tells
+returns-then-not-branch-clause-tells g c = tells-then c.args.home.now.object.taken c.loop.home.object.taken c.begin.new.home.object.taken c.args.gate.now.steps.list c.loop.gate.steps.list c.begin.new.gate.steps.list c.loop.invariant.tells c.in_ok-begin.ensures.tells
