@@ -8,7 +8,11 @@ use std::sync::Wait;
 use std::sync::ledger::Ledger;
 
 impl Ops for SharedLane<'_> {
-    ghost use Rattle.qp_shared.specs.Lane.{lane_view};
+    ghost use Rattle.std.specs.Prelude.{◌<◌, IsTrue};
+    ghost use Rattle.qp_model.specs.WordLaw.{is_object};
+    ghost use Rattle.qp_calls.specs.Clauses.{Counted, Sees, Takes};
+    ghost use Rattle.qp_shared_queues.specs.Now.{EmptyNow, ReadsNow};
+    ghost use Rattle.qp_shared.specs.Lane.{lane_view, seat_view};
     ghost use Rattle.qp_shared.specs.LaneLaws.{keeps-limit, has-causes};
 
     ghost lane = { lane_view };
@@ -76,15 +80,30 @@ impl Ops for SharedLane<'_> {
     }
 
     #[inline(always)]
-    fn take<R: Wait>(&mut self, rt: &R, me: u8) -> Take {
+    fn take<R: Wait>(&mut self, rt: &R, me: u8) -> Take
+        requires room { 0 < (lane_view self.old).spare }
+        requires object { IsTrue (is_object (lane_view self.old).sys me) }
+        requires serves { IsTrue ((lane_view self.old).serves me) }
+        ensures takes { Takes me (lane_view self.old) (lane_view self.new) result }
+        ensures now { EmptyNow me (seat_view self.old) (seat_view self.new) result }
+    {
         qp_shared_queues::take(&mut self.state, rt, me)
     }
 
-    fn seen(&mut self, p: u8) -> Counts {
+    fn seen(&mut self, p: u8) -> Counts
+        requires room { 0 < (lane_view self.old).spare }
+        requires object { IsTrue (is_object (lane_view self.old).sys p) }
+        ensures sees { Sees p (lane_view self.old) (lane_view self.new) result }
+        ensures now { ReadsNow p (seat_view self.old) (seat_view self.new) result }
+    {
         qp_shared_queues::seen(&mut self.state, p)
     }
 
-    fn counts(&mut self, p: u8) -> Counts {
+    fn counts(&mut self, p: u8) -> Counts
+        requires object { IsTrue (is_object (lane_view self.old).sys p) }
+        ensures counted { Counted p (lane_view self.old) (lane_view self.new) result }
+        ensures now { ReadsNow p (seat_view self.old) (seat_view self.new) result }
+    {
         qp_shared_queues::counts(&mut self.state, p)
     }
 

@@ -10,3 +10,4 @@ pub mod LastIn
 pub mod Taking
 pub mod Taken
 pub mod Nils
+pub mod Now

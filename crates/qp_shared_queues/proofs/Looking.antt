@@ -21,13 +21,10 @@ use Rattle.qp_shared_loops.proofs.Following.{sees-none}
 use Rattle.qp_shared_lane.specs.declared.lane.LaneState.{LaneState}
 use Rattle.qp_shared_lane.specs.Lane.{state_view}
 use Rattle.qp_shared_lane.specs.More.{IsPut, Follows, AddsNothing}
+use Rattle.qp_shared_queues.specs.Now.{counts_of}
 use Rattle.qp_shared_queues.proofs.Views.{Alike, same-tokens, grown-still, read-still, worn-still, placed-still, still-alike}
 use Rattle.qp_shared_queues.proofs.Lane.{then_view, ThenHolds, look-holds, look-looks, look-shows}
 use Rattle.qp_shared_queues.proofs.Noting.{neutral-seen, noted-holds, noted-adds, noted-shows}
-
--- the counts that a word shows
-abbrev pub counts_of : ℕ → counts.Counts
-counts_of n = record { f = n % 2097152; l = n / 2097152 % 2097152; m = n / 4398046511104 }
 
 -- A look without a record.
 module _ (l : LaneState) (a n : ℕ) (u : View) (is : u ≡ glanced l.seat.me.0 (queue_at a) n) (told : QueueTold l.sys.now a l.seat.me.0 u n n) where

@@ -4,6 +4,7 @@ ghost use Rattle.std.specs.Prelude.{◌<◌, IsTrue};
 ghost use Rattle.qp_model.specs.WordLaw.{is_object};
 ghost use Rattle.qp_calls.specs.Clauses.{Takes};
 ghost use Rattle.qp_shared_lane.specs.Lane.{state_view};
+ghost use Rattle.qp_shared_queues.specs.Now.{EmptyNow};
 
 use crate::counting::counts_in;
 use crate::posts::stated;
@@ -14,12 +15,14 @@ use qp_shared_loops::takes::{parts, take_entry};
 use std::sync::Wait;
 
 /// Takes the front entry. Where a poster has claimed it and not yet laid it, this waits, and only reads meanwhile.
+/// Where there is none, the counts are what the queue's word showed at a step of this call.
 #[inline(always)]
 pub fn take<R: Wait>(lane: &mut LaneState<'_>, rt: &R, me: u8) -> Take
     requires room { 0 < (state_view lane.old).spare }
     requires object { IsTrue (is_object (state_view lane.old).sys me) }
     requires serves { IsTrue ((state_view lane.old).serves me) }
-    ensures { Takes me (state_view lane.old) (state_view lane.new) result }
+    ensures takes { Takes me (state_view lane.old) (state_view lane.new) result }
+    ensures now { EmptyNow me lane.old.seat.me.0 lane.new.seat.me.0 result }
 {
     let ring = lane.rings.ring_of(me);
     let last = lane.log.nils[usize::from(me)];

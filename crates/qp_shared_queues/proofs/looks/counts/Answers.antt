@@ -21,7 +21,10 @@ invariant_of-lane-clause-holds c = let l = c.args.lane.now in
     let told = subst (λ s. LookTold s c.args.p l.seat.me.0 c.look_at_queue-found.result c.look_at_queue-found.new.seat.me.0) l.key c.look_at_queue-found.ensures.told in
     counted-holds l c.args.p c.look_at_queue-found.result c.look_at_queue-found.new.seat.me.0 told.0 told.1
 
-pub returns : goal.returns
-returns c = let l = c.args.lane.now in
+pub returns-clause-counted : goal.returns-clause-counted
+returns-clause-counted c = let l = c.args.lane.now in
     let told = subst (λ s. LookTold s c.args.p l.seat.me.0 c.look_at_queue-found.result c.look_at_queue-found.new.seat.me.0) l.key c.look_at_queue-found.ensures.told in
     counted-for l c.args.p c.look_at_queue-found.result c.look_at_queue-found.new.seat.me.0 told.0 told.1 c.counts_in.result c.counts_in.ensures
+
+pub returns-clause-now : goal.returns-clause-now
+returns-clause-now c = (c.look_at_queue-found.result, ap (λ (z : View). z.seen) c.look_at_queue-found.ensures.told.0, c.counts_in.ensures)

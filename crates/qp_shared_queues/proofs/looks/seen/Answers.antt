@@ -27,7 +27,10 @@ invariant_of-lane-clause-holds c = let l = c.args.lane.now in
     seen-holds l c.args.p c.see_queue-found.result c.see_queue-found.new.seat.me.0 c.put.new.log c.put.new.numbers.list c.seen-rec.result
     (subst (λ s. SeenTold s c.args.p l.seat.me.0 c.see_queue-found.result c.see_queue-found.new.seat.me.0) l.key c.see_queue-found.ensures.told) c.put.ensures.put c.counts_in-now.result c.counts_in-now.ensures c.seen-rec.ensures
 
-pub returns : goal.returns
-returns c = let l = c.args.lane.now in
+pub returns-clause-sees : goal.returns-clause-sees
+returns-clause-sees c = let l = c.args.lane.now in
     sees-for l c.args.p c.see_queue-found.result c.see_queue-found.new.seat.me.0 c.put.new.log c.put.new.numbers.list c.seen-rec.result
     (subst (λ s. SeenTold s c.args.p l.seat.me.0 c.see_queue-found.result c.see_queue-found.new.seat.me.0) l.key c.see_queue-found.ensures.told) c.put.ensures.put c.counts_in-now.result c.counts_in-now.ensures c.seen-rec.ensures c.put.ensures.spare
+
+pub returns-clause-now : goal.returns-clause-now
+returns-clause-now c = (c.see_queue-found.result, ap (λ (z : View). z.seen) c.see_queue-found.ensures.told.0, c.counts_in-now.ensures)

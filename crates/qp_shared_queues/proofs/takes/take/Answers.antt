@@ -14,6 +14,7 @@ use Rattle.qp_shared_loops.specs.Ends.{TakeEnds}
 use Rattle.qp_shared_queues.proofs.Used.{take-ended}
 use Rattle.qp_shared_queues.proofs.Lane.{then_view, object-key, object-small, serves-there, idle, spare-is, room}
 use Rattle.qp_shared_queues.proofs.Taken.{take-holds, takes-it-for}
+use Rattle.qp_shared_queues.proofs.Now.{empty-reads}
 use Rattle.qp_shared_queues.proofs.Nils.{last-is, again-holds, takes-again, nil-holds, takes-nil}
 use Rattle.qp_shared_queues.proofs.takes.take.Goals as goal
 
@@ -60,8 +61,8 @@ invariant_of-lane-clause-holds g c = let l = c.args.lane.now in
     take-holds l c.args.me c.take_entry-found.result.0 c.in-Some.e c.take_entry-found.new.seat.me.0 c.put.new.log c.put.new.numbers.list c.took-rec.result ends.0 c.put.ensures.put
     (c.took-rec.ensures ∙ (λ i. let k : counts.Counts = c.counts_in-now.ensures i in record { of = c.args.me; body = Took k.f k.l (k.m + 1) ((c.stated.ensures ∙ sym c.parts-pool.ensures) i) }))
 
-pub returns-in-Some : goal.returns-in-Some
-returns-in-Some g c = let l = c.args.lane.now in
+pub returns-in-Some-clause-takes : goal.returns-in-Some-clause-takes
+returns-in-Some-clause-takes g c = let l = c.args.lane.now in
     let ends = subst (λ (z : System × Option token.HeldEntry). TakeEnds z.0 (is_new c.index-last.result.now) c.args.me l.seat.me.0 c.take_entry-found.result.0 z.1 c.take_entry-found.new.seat.me.0) (λ i. (l.key i, c.in-Some.is i)) c.take_entry-found.ensures.ends in
     takes-it-for l c.args.me c.take_entry-found.result.0 c.in-Some.e c.take_entry-found.new.seat.me.0 c.put.new.log c.put.new.numbers.list c.took-rec.result ends.0 c.put.ensures.put
     (c.took-rec.ensures ∙ (λ i. let k : counts.Counts = c.counts_in-now.ensures i in record { of = c.args.me; body = Took k.f k.l (k.m + 1) ((c.stated.ensures ∙ sym c.parts-pool.ensures) i) })) ends.1 l.holds.bare c.put.ensures.spare
@@ -81,8 +82,8 @@ invariant_of-lane-then-tells-clause-holds g c = let l = c.args.lane.now in
     (last-is l.log.nils.items c.args.me c.from.result c.index-last.result.now c.from.ensures (omega (arith, small, c.from.ensures, l.log.seats)) c.index-last.ensures)
     (c.tells.ensures ∙ ap (λ (k : counts.Counts). same_counts (last_nil_in c.args.me NotShown (lane_items l.log.recs.items)) k.f k.l k.m) c.counts_in-now.ensures) c.if-tells.true
 
-pub returns-then-tells : goal.returns-then-tells
-returns-then-tells g c = let l = c.args.lane.now in
+pub returns-then-tells-clause-takes : goal.returns-then-tells-clause-takes
+returns-then-tells-clause-takes g c = let l = c.args.lane.now in
     let ends = subst (λ (z : System × Option token.HeldEntry). TakeEnds z.0 (is_new c.index-last.result.now) c.args.me l.seat.me.0 c.take_entry-found.result.0 z.1 c.take_entry-found.new.seat.me.0) (λ i. (l.key i, c.in-None.is i)) c.take_entry-found.ensures.ends in
     let small = object-small l c.args.me c.requires.object in
     let z = takes-again l c.args.me c.take_entry-found.result.0 c.index-last.result.now c.take_entry-found.new.seat.me.0 c.tells.result ends small
@@ -106,8 +107,8 @@ invariant_of-lane-in-None-clause-holds g c = let l = c.args.lane.now in
     (c.tells.ensures ∙ ap (λ (k : counts.Counts). same_counts (last_nil_in c.args.me NotShown (lane_items l.log.recs.items)) k.f k.l k.m) c.counts_in-now.ensures) c.if-tells.false c.put_nil.new.log c.put_nil.new.numbers.list c.nil-rec.result c.put_nil.ensures.put
     (c.nil-rec.ensures ∙ ap (λ (k : counts.Counts). record { of = c.args.me; body = Nil k.f k.l k.m }) c.counts_in-now.ensures)
 
-pub returns-else-tells : goal.returns-else-tells
-returns-else-tells g c = let l = c.args.lane.now in
+pub returns-else-tells-clause-takes : goal.returns-else-tells-clause-takes
+returns-else-tells-clause-takes g c = let l = c.args.lane.now in
     let ends = subst (λ (z : System × Option token.HeldEntry). TakeEnds z.0 (is_new c.index-last.result.now) c.args.me l.seat.me.0 c.take_entry-found.result.0 z.1 c.take_entry-found.new.seat.me.0) (λ i. (l.key i, c.in-None.is i)) c.take_entry-found.ensures.ends in
     let small = object-small l c.args.me c.requires.object in
     let z = takes-nil l c.args.me c.take_entry-found.result.0 c.index-last.result.now c.take_entry-found.new.seat.me.0 c.tells.result ends small
@@ -115,3 +116,15 @@ returns-else-tells g c = let l = c.args.lane.now in
     (c.tells.ensures ∙ ap (λ (k : counts.Counts). same_counts (last_nil_in c.args.me NotShown (lane_items l.log.recs.items)) k.f k.l k.m) c.counts_in-now.ensures) c.if-tells.false c.put_nil.new.log c.put_nil.new.numbers.list c.nil-rec.result c.put_nil.ensures.put
     (c.nil-rec.ensures ∙ ap (λ (k : counts.Counts). record { of = c.args.me; body = Nil k.f k.l k.m }) c.counts_in-now.ensures) c.put_nil.ensures.spare in
     subst (λ (k : counts.Counts). TakesNone c.args.me k.f k.l k.m (state_view l) (then_view l c.put_nil.new.log c.put_nil.new.numbers.list c.take_entry-found.new.seat.me.0)) (sym c.counts_in-now.ensures) z
+
+pub returns-then-tells-clause-now : goal.returns-then-tells-clause-now
+returns-then-tells-clause-now g c = let l = c.args.lane.now in
+    empty-reads l.words.now.shared.key (is_new c.index-last.result.now) c.args.me c.take_entry-found.result.0 l.seat.me.0 c.take_entry-found.new.seat.me.0
+    (subst (λ (z : Option token.HeldEntry). TakeEnds l.words.now.shared.key (is_new c.index-last.result.now) c.args.me l.seat.me.0 c.take_entry-found.result.0 z c.take_entry-found.new.seat.me.0) c.in-None.is c.take_entry-found.ensures.ends)
+    c.counts_in-now.result c.counts_in-now.ensures
+
+pub returns-else-tells-clause-now : goal.returns-else-tells-clause-now
+returns-else-tells-clause-now g c = let l = c.args.lane.now in
+    empty-reads l.words.now.shared.key (is_new c.index-last.result.now) c.args.me c.take_entry-found.result.0 l.seat.me.0 c.take_entry-found.new.seat.me.0
+    (subst (λ (z : Option token.HeldEntry). TakeEnds l.words.now.shared.key (is_new c.index-last.result.now) c.args.me l.seat.me.0 c.take_entry-found.result.0 z c.take_entry-found.new.seat.me.0) c.in-None.is c.take_entry-found.ensures.ends)
+    c.counts_in-now.result c.counts_in-now.ensures
