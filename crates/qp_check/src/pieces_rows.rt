@@ -63,13 +63,15 @@ impl ObjectPieces {
         ensures { OnOk result ((q : ℕ) → pieces_of self.new q ≡ (if q == p then pieces_of self.old q ++ as_piece piece ∷ [] else pieces_of
             self.old q)) }
     {
-        let mut row = match self.rows.remove(&p) {
-            Some(row) => row,
-            None => Pieces::none(alloc),
-        };
-        row.put(piece)?;
-        self.rows.insert(p, row)?;
-        Ok(())
+        match self.rows.get_mut(&p) {
+            Some(row) => row.put(piece),
+            None => {
+                let mut row = Pieces::none(alloc);
+                row.put(piece)?;
+                self.rows.insert(p, row)?;
+                Ok(())
+            }
+        }
     }
 
     /// Puts a piece at the end of those of an object, if there is one.

@@ -94,13 +94,15 @@ impl<'a> Index<'a> {
         ensures { OnOk result ((k : ℕ) → parts_at self.new k ≡ (if k == look then parts_at self.old k ++ as_placed x.entry ∷ [] else
             parts_at self.old k)) }
     {
-        let mut part = match self.parts.remove(&look) {
-            Some(part) => part,
-            None => Order::none(alloc),
-        };
-        part.put(x)?;
-        self.parts.insert(look, part)?;
-        Ok(())
+        match self.parts.get_mut(&look) {
+            Some(part) => part.put(x),
+            None => {
+                let mut part = Order::none(alloc);
+                part.put(x)?;
+                self.parts.insert(look, part)?;
+                Ok(())
+            }
+        }
     }
 
     /// The same where the record belongs to a look.

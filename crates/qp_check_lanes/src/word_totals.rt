@@ -1,7 +1,6 @@
 //! How many operations each word has had.
 
 ghost use Rattle.std.specs.Prelude.{◌≡◌, ◌+◌, ◌-◌, nat_lt, ◌<◌, ◌^◌, ◌==◌, ℕ, if◌then◌else◌, IfOk, OnOk};
-ghost use Rattle.std.specs.Option.{option_map_or};
 ghost use Rattle.qp_model.specs.declared.words.Word.{Word};
 ghost use Rattle.qp_model.specs.declared.words.Word.TheVariants as word_kind;
 ghost use Rattle.qp_model.specs.History.{same_word};
@@ -25,15 +24,6 @@ impl CountsByNumber {
     {
         CountsByNumber {
             counts: BTreeMap::new(alloc),
-        }
-    }
-
-    fn or_none(alloc: Global, counts: Option<CountsByNumber>) -> Self
-        ensures { (k : ℕ) → count_in result k ≡ option_map_or (λ c. count_in c k) counts 0 }
-    {
-        match counts {
-            Some(counts) => counts,
-            None => CountsByNumber::none(alloc),
         }
     }
 
@@ -128,10 +118,15 @@ impl Totals {
         ensures { OnOk result ((w : Word) → count_at self.new w ≡ count_at self.old w +
             (if same_word (word_kind.Block p b) w then 1 else 0)) }
     {
-        let mut counts = CountsByNumber::or_none(alloc, self.blocks.remove(&p));
-        counts.add(b)?;
-        self.blocks.insert(p, counts)?;
-        Ok(())
+        match self.blocks.get_mut(&p) {
+            Some(counts) => counts.add(b),
+            None => {
+                let mut counts = CountsByNumber::none(alloc);
+                counts.add(b)?;
+                self.blocks.insert(p, counts)?;
+                Ok(())
+            }
+        }
     }
 
     /// One operation more.
