@@ -1,0 +1,11 @@
+use Rattle.std.proofs.Common.{refl}
+use Rattle.qp_packed.specs.Packing.{packed, records_in}
+use Rattle.qp_packed.proofs.packed_lane.PackedLane.new.Goals as goal
+
+pub invariant_of-result : goal.invariant_of-result
+unfolding packed records_in
+invariant_of-result c = record { packed = record { words = c.new.ensures.items; count = refl; fit = tt }; last_is = refl; last_but_one_is = refl }
+
+pub returns : goal.returns
+unfolding records_in
+returns c = refl

@@ -1,0 +1,40 @@
+//! Where reading begins: at the first record, or at one of the last two.
+
+ghost use Rattle.std.specs.Prelude.{◌≡◌, ◌-◌, ◌≤◌, drop, length};
+ghost use Rattle.qp_packed.specs.Packing.{place_of};
+ghost use Rattle.qp_packed.specs.Lanes.{records_of};
+
+use crate::cursor::{Cursor, words_from};
+use crate::packed_lane::PackedLane;
+
+impl PackedLane {
+    /// The records, one after another.
+    pub fn cursor(&self) -> Cursor<'_>
+        ensures { result ≡ records_of self.now }
+    {
+        Cursor::over(&self.words, self.count)
+    }
+
+    /// The last record alone.
+    pub fn last(&self) -> Cursor<'_>
+        ensures { result ≡ drop (length (records_of self.now) - 1) (records_of self.now) }
+    {
+        self.tail(self.last, 1)
+    }
+
+    /// The last two records.
+    pub fn last_two(&self) -> Cursor<'_>
+        ensures { result ≡ drop (length (records_of self.now) - 2) (records_of self.now) }
+    {
+        self.tail(self.last_but_one, 2)
+    }
+
+    /// So many of the last records, of which the first begins here.
+    fn tail(&self, at: usize, most: usize) -> Cursor<'_>
+        requires { at ≡ place_of (length (records_of self.now) - most) (records_of self.now) }
+        ensures { result ≡ drop (length (records_of self.now) - most) (records_of self.now) }
+    {
+        let before = self.count.saturating_sub(most);
+        Cursor::over(words_from(&self.words, at), self.count - before)
+    }
+}
