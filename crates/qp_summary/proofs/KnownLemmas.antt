@@ -64,18 +64,22 @@ own-count w f o c (i ∷ is) =
     by true more = sum_by-cons (λ (t : Told). cond (f t.body) 1 0) (told w o c i.body) (records_of w o (ceiling_after c i.body) is) ∙ ap (λ n. one_if (f i.body) + n) more
     by false more = more ∙ (let none : count_by (λ (x : Item). (x.of == o) && f x.body) is ≡ 0 + count_by (λ (x : Item). (x.of == o) && f x.body) is = omega arith in none)
 
-module _ (sys : System) (j : Journal) (other : j.kernel ≢ port) (o : ℕ) where
+-- but under `port` an object works in lane 0
+pub home-first : (sys : System) (j : Journal) (o : ℕ) → j.kernel ≢ port → home_of sys j o ≡ 0
+unfolding home_of
+home-first sys j o other =
+    let no : (j.kernel == port) ≡ false = grind (arith, nat_tests, other) in
+    rw no refl
+
+module _ (sys : System) (j : Journal) (o : ℕ) where
   abbrev pub its : List Told
   its = by_object (facts_of sys j) j o
 
-  home-count : (f : Body → Bool) → count_by (λ (t : Told). f t.body) its ≡ count_by (λ (i : Item). (i.of == o) && f i.body) (lane_items (lane_at j 0))
-  unfolding by_object home_of facts_of
-  home-count f =
-      let no : (j.kernel == port) ≡ false = grind (arith, nat_tests, other) in
-      let home : home_of sys j o ≡ 0 = rw no refl in
-      ap (λ n. count_by (λ (t : Told). f t.body) (records_of (facts_of sys j) o 0 (lane_items (lane_at j n)))) home ∙ own-count (facts_of sys j) f o 0 (lane_items (lane_at j 0))
+  home-count : (f : Body → Bool) → count_by (λ (t : Told). f t.body) its ≡ count_by (λ (i : Item). (i.of == o) && f i.body) (lane_items (lane_at j (home_of sys j o)))
+  unfolding by_object facts_of
+  home-count f = own-count (facts_of sys j) f o 0 (lane_items (lane_at j (home_of sys j o)))
 
-  module _ (taken done : ℕ) (took : taken ≡ count_by (took_of o) (lane_items (lane_at j 0))) (dones : done ≡ count_by (done_of o) (lane_items (lane_at j 0))) where
+  module _ (taken done : ℕ) (took : taken ≡ count_by (took_of o) (lane_items (lane_at j (home_of sys j o)))) (dones : done ≡ count_by (done_of o) (lane_items (lane_at j (home_of sys j o)))) where
     pub its-taken : taken ≡ count_events_taken its
     its-taken = took ∙ sym (home-count is_took)
 

@@ -1,12 +1,11 @@
 //! The lines of objects of which the run tells where they rest.
 
-ghost use Rattle.std.specs.Prelude.{◌≡◌, ◌≢◌, IfOk, IfSome, List, Some, string_bytes};
+ghost use Rattle.std.specs.Prelude.{◌≡◌, IfOk, IfSome, List, Some, string_bytes};
 ghost use Rattle.std.specs.List.{AllByRecursion};
 ghost use Rattle.std.specs.Option.{option_copied};
 ghost use Rattle.qp_model.specs.Course.{chart_at};
 ghost use Rattle.qp_model.specs.History.{lane_items};
-ghost use Rattle.qp_model.specs.Home.{by_object, lane_at as lane_of};
-ghost use Rattle.qp_model.specs.Kernels.{port};
+ghost use Rattle.qp_model.specs.Home.{by_object, home_of, lane_at as lane_of};
 ghost use Rattle.qp_model.specs.Lawful.{facts_of};
 ghost use Rattle.qp_model.specs.OutputSummary.{AreObjectLines, IsObjectLine, IsStateText, all_done};
 ghost use Rattle.qp_model.specs.Told.{Told};
@@ -19,7 +18,7 @@ use crate::lines::Lines;
 use crate::objects::{line_of, standing_text};
 use qp_chart::Chart;
 use qp_check_course::chart_at;
-use qp_check_lanes::lane_parts::lane_at;
+use qp_check_lanes::lane_parts::{home_lane, lane_at};
 use qp_kernel_end::{Rest, rest_at};
 use qp_model::kernels::PORT;
 use qp_model::{Journal, ObjectDef, System};
@@ -44,7 +43,7 @@ fn known_text(
     }
 }
 
-/// The line of an object that works in lane 0.
+/// The line of an object, by the turns of the lane in which it works.
 fn known_line(
     alloc: Global,
     sys: &System,
@@ -53,8 +52,7 @@ fn known_line(
     rests: &[Rest],
     d: &ObjectDef,
 ) -> Result<Option<String>, AllocError>
-    requires kernel { j.now.kernel ≢ port }
-    requires turns { AreTurns turns.now (lane_items (lane_of j.now 0)) }
+    requires turns { AreTurns turns.now (lane_items (lane_of j.now (home_of sys.now j.now d.now.priority))) }
     requires rests { AllByRecursion (IsRestOf sys.now d.now (by_object (facts_of sys.now j.now) j.now d.now.priority)) rests.now }
     ensures { IfOk result (λ line. IfSome line (λ line. IsObjectLine sys.now j.now d.now (string_bytes line))) }
 {
@@ -79,6 +77,26 @@ fn known_line(
     }
 }
 
+/// The same, by the turns of lane 0, unless the object works in a lane of its own.
+fn line_at_home(
+    alloc: Global,
+    sys: &System,
+    j: &Journal,
+    first: &TurnCounts,
+    rests: &[Rest],
+    d: &ObjectDef,
+) -> Result<Option<String>, AllocError>
+    requires first { AreTurns first.now (lane_items (lane_of j.now 0)) }
+    requires rests { AllByRecursion (IsRestOf sys.now d.now (by_object (facts_of sys.now j.now) j.now d.now.priority)) rests.now }
+    ensures { IfOk result (λ line. IfSome line (λ line. IsObjectLine sys.now j.now d.now (string_bytes line))) }
+{
+    if j.kernel != PORT {
+        return known_line(alloc, sys, j, first, rests, d);
+    }
+    let turns = TurnCounts::of(alloc, lane_at(j, home_lane(sys, j, d.priority)))?;
+    known_line(alloc, sys, j, &turns, rests, d)
+}
+
 /// The lines of all objects in ascending priority, where none needs to be read.
 pub(crate) fn known_lines(
     alloc: Global,
@@ -89,13 +107,10 @@ pub(crate) fn known_lines(
     requires rests { AreRestsIn sys.now j.now rests.now }
     ensures { IfOk result (λ lines. IfSome lines (λ lines. AreObjectLines sys.now j.now sys.now.objects lines)) }
 {
-    if j.kernel == PORT {
-        return Ok(None);
-    }
-    let turns = TurnCounts::of(alloc, lane_at(j, 0))?;
+    let first = TurnCounts::of(alloc, lane_at(j, 0))?;
     let mut lines = Lines::none(alloc);
     for d in &sys.objects.items {
-        match known_line(alloc, sys, j, &turns, rests, d)? {
+        match line_at_home(alloc, sys, j, &first, rests, d)? {
             Some(line) => lines.push(line)?,
             None => return Ok(None),
         }
