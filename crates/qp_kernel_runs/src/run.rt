@@ -90,17 +90,10 @@ fn run<R: Wait>(
 {
     match objects.start(world, sys) {
         Step::Done => {
+            let mut told = Told::new(&NoGate);
             if cooperative {
                 let mut vanilla = Vanilla::new();
-                let turn = vanilla_turn(
-                    rt,
-                    world,
-                    sys,
-                    objects,
-                    &mut vanilla,
-                    budget,
-                    &mut Told::new(&NoGate),
-                );
+                let turn = vanilla_turn(rt, world, sys, objects, &mut vanilla, budget, &mut told);
                 end_of_turn(alloc, sys, objects, vanilla.under_way(), turn)
             } else {
                 let mut kernel = Kernel::new();
@@ -110,14 +103,7 @@ fn run<R: Wait>(
                     cooperative: false,
                     threaded: false,
                 };
-                let turn = kernel_turn(
-                    rt,
-                    world,
-                    &at,
-                    objects,
-                    &mut kernel,
-                    &mut Told::new(&NoGate),
-                );
+                let turn = kernel_turn(rt, world, &at, objects, &mut kernel, &mut told);
                 end_of_turn(alloc, sys, objects, kernel.stack.as_slice(), turn)
             }
         }

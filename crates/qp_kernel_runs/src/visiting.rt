@@ -44,16 +44,8 @@ pub(crate) fn visit<L: Ledger>(
 {
     let home = plain.go(source);
     let former = plain.by(0);
-    let answer = stimulus(
-        plain,
-        sys,
-        s,
-        place,
-        look,
-        steps,
-        0,
-        &mut Told::new(&NoGate),
-    );
+    let mut told = Told::new(&NoGate);
+    let answer = stimulus(plain, sys, s, place, look, steps, 0, &mut told);
     let now = done.then(plain);
     plain.by(former);
     plain.go(home);

@@ -1,5 +1,5 @@
 -- A question in vain leaves all as it was, but for the count of questions.
-use Rattle.std.proofs.Common.{◌≡◌, ℕ, suc, ◌+◌, ◌≤◌, true, List, [], ◌∷◌, ◌++◌, refl, sym, ◌∙◌, arith, append-nil}
+use Rattle.std.proofs.Common.{◌≡◌, ℕ, suc, ◌+◌, ◌≤◌, true, List, [], ◌∷◌, ◌++◌, refl, sym, ◌∙◌, arith, append-nil, Option, Some, None}
 use Rattle.qp_model.specs.declared.systems.System.{System}
 use Rattle.qp_calls.specs.Deferring.{StandAll}
 use Rattle.qp_calls.specs.LaneView.{LaneView}
@@ -10,7 +10,8 @@ use Rattle.qp_dispatch.specs.declared.lasting.Lasting.{Lasting}
 use Rattle.qp_dispatch.specs.declared.steps.Position.{Position}
 use Rattle.qp_dispatch.specs.declared.steps.Position.TheVariants as standing
 use Rattle.qp_dispatch.specs.Objects.{home_of}
-use Rattle.qp_dispatch.specs.Parts.{held_by}
+use Rattle.qp_dispatch.specs.Parts.{IsPublishing, held_by}
+use Rattle.qp_dispatch.specs.declared.part.Under.{Under}
 use Rattle.qp_dispatch.specs.Resume.{IsUnderWay, event_in, left_of}
 use Rattle.qp_dispatch.specs.Runs.{Setting}
 use Rattle.qp_kernel_turns.specs.Halting.{asked_once}
@@ -49,6 +50,10 @@ cursor-once sys x v at = record {
 stand-once : (es : List HeldEntry) (v : LaneView) → StandAll es v → StandAll es (asked_once v)
 stand-once es v h = record { named = h.named; counts = h.counts }
 
+publishing-once : (u : Option Under) (v : LaneView) → IsPublishing u v → IsPublishing u (asked_once v)
+publishing-once None v h = h
+publishing-once (Some u) v h = h
+
 under-way-once : (home : Setting) (k : Lasting) (st : Position) (v : LaneView) → IsUnderWay home k st v → IsUnderWay home k st (asked_once v)
 under-way-once home k standing.Between v h = h
 under-way-once home k (standing.Taken e) v h = record { stand = stand-once (k.list.entries.items ++ e ∷ []) v h.stand; few = h.few }
@@ -57,7 +62,7 @@ under-way-once home k (standing.Within g) v h = record {
   is = h.is;
   may = h.may;
   able = h.able;
-  publishing = h.publishing;
+  publishing = publishing-once g.left.under v h.publishing;
   stand = stand-once (held_by k g.left.under ++ h.hand ∷ []) v h.stand;
   few = h.few;
 }

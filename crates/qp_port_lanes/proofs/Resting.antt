@@ -147,7 +147,7 @@ module _ (sys : System) (sound : IsSound sys) (budget : ℕ) (x : Home) (v : Lan
     asked = let had = h.asked in omega (arith, had, more);
   }
 
-  room-asked : (w : LaneView) → Roomier (asked_once v) w → v.asked ≤ w.asked
+  pub room-asked : (w : LaneView) → Roomier (asked_once v) w → v.asked ≤ w.asked
   room-asked w room = let one = ap (λ u. u.asked) room.same in omega (arith, one)
 
   -- no record came

@@ -205,7 +205,7 @@ module _ (sys : System) (sound : IsSound sys) (x : Home) (v : LaneView) (made : 
       by end early [] none (Some c) last =
           let whole : b.g ++ b.begins.0 ≡ b.g = ap (λ h. b.g ++ h) none ∙ append-nil b.g in
           let own : Own = record { l = 0; m = 0 } in
-          full_home_ends sys d chart budget end own false (map (for_object d.priority) b.g) [] c (length b.mid.told) its early
+          full_home_ends sys d chart budget end own false (map (for_object d.priority) b.g) [] 0 c (length b.mid.told) its early
           (home_starts sys d chart budget own b.g c its
           (subst (λ h. Starts sys (actor d chart) (first_config d) (tell h) (Some c)) whole (subst (λ z. Starts sys (actor d chart) (first_config d) (tell (b.g ++ b.begins.0)) z) last begins)))
           (ap length (grown b.g b.mid b.grows)) b.few

@@ -1,5 +1,6 @@
 -- Codes that a lane hands in and finds.
-use Rattle.std.proofs.Common.{◌≡◌, ℕ, zero, suc, ◌<◌, ◌≤◌, ◌==◌, List, ◌∷◌, length, true, IsTrue, Option, Some, None, refl, sym, ap, subst, ◌∙◌, arith}
+use Rattle.std.proofs.Common.{◌≡◌, ℕ, zero, suc, ◌<◌, ◌≤◌, ◌==◌, List, ◌∷◌, length, true, false, IsTrue, Option, Some, None, refl, sym, ap, subst, ◌∙◌, arith}
+use Rattle.std.proofs.lemmas.Bool.Decides.{nat_tests}
 use Rattle.std.specs.Option.{unwrap_or}
 use Rattle.std.specs.List.{list_all}
 use Rattle.qp_calls.specs.LaneView.{LaneView, codes_in}
@@ -27,7 +28,7 @@ module _ (l : LaneState) (code : ℕ) (may : MayStop code (state_view l)) where
 
 code-more : (code : ℕ) (xs : List ℕ) → 0 < code → codes_in (code ∷ xs) ≡ code ∷ codes_in xs
 code-more zero xs some = absurd (omega (arith, some))
-code-more (suc n) xs some = refl
+code-more (suc n) xs some = let is : (suc n == 0) ≡ false = grind (arith, nat_tests) in rw is refl
 
 module _ (l : LaneState) (z : SideView) where
   abbrev s : SideView

@@ -150,7 +150,7 @@ pub stop-quiet : (code : ℕ) (v w : LaneView) → Stops code v w → Quietly v 
 stop-quiet code v w stops = still-quiet v w (ap (λ u. u.sys) stops) (ap (λ u. u.told) stops)
 
 pub stopped-quiet : (v w : LaneView) (r : Option ℕ) → Stopped v w r → Quietly v w
-stopped-quiet v w None h = same-quiet v w h.0
+stopped-quiet v w None h = still-quiet v w (ap (λ u. u.sys) h.0) (ap (λ u. u.told) h.0)
 stopped-quiet v w (Some code) h = still-quiet v w (ap (λ u. u.sys) h.0) (ap (λ u. u.told) h.0)
 
 -- The two calls that post.

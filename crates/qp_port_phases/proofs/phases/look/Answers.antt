@@ -17,7 +17,7 @@ returns-then-not-any_left-clause-idle g c said =
       below = below-rises view (view c.stopped.new.self) (view c.are_empty.new.lane) c.are_empty.ensures.rises c.meet_all.new.others met;
       empty = c.are_empty.ensures.empty c.if-are_empty.true;
       none = sym c.any_left.ensures ∙ c.if-not-any_left.true;
-      unstopped = unstopped-still _ _ _ c.in-None.ensures.stopped c.are_empty.ensures.codes;
+      unstopped = unstopped-still (view c.meet_all.new.first) (view c.stopped.new.self) (view c.are_empty.new.lane) c.in-None.ensures.stopped c.are_empty.ensures.codes;
     }
 
 pub returns-in-Some-eq7-clause-memory : goal.returns-in-Some-eq7-clause-memory

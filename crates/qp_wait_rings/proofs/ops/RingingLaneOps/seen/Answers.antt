@@ -4,4 +4,4 @@ use Rattle.qp_wait_rings.proofs.Quiet.{seen-quiet}
 use Rattle.qp_wait_rings.proofs.ops.RingingLaneOps.seen.Goals as goal
 
 pub invariant_of-self-clause-rung : goal.invariant_of-self-clause-rung
-invariant_of-self-clause-rung c = let l = c.args.self.now in rung-still l.opened l.refused l.cords.items (lane_view l.lane) (lane_view c.seen-now.new.self) l.rung (seen-quiet c.args.p (lane_view l.lane) (lane_view c.seen-now.new.self) c.seen-now.result c.seen-now.ensures)
+invariant_of-self-clause-rung c = let l = c.args.self.now in rung-still l.opened l.refused l.cords.items (lane_view l.lane) (lane_view c.seen-now.new.self) l.rung (seen-quiet c.args.p (lane_view l.lane) (lane_view c.seen-now.new.self) c.seen-now.result c.seen-now.ensures.sees)
