@@ -1,4 +1,5 @@
 pub mod Jobs
+pub mod Beside
 pub mod Numbers
 pub mod Alone
 pub mod Workers

@@ -9,6 +9,7 @@ ghost use Rattle.qp_port_lanes.specs.Answers.{Feeds, turn_by};
 ghost use Rattle.qp_port.specs.declared.job.Job.TheVariants as job;
 ghost use Rattle.qp_port.specs.Jobs.{IsOver, IsSameJob, JobBegins, JobPasses, JobRests, JobStands, JobStartsAlone, JobTurns, is_left_in, stands_at_settle};
 
+use crate::beside::{Beside, again};
 use crate::turns::Turns;
 use qp_base::Tells;
 use qp_calls::Ops;
@@ -103,7 +104,7 @@ pub(crate) fn end_turn<O: Ops, T: Turns<O>>(turns: &T, ops: &mut O, job: &Job<'_
     ensures still { O.lane ops.new ≡ O.lane ops.old }
 {
     match job {
-        Job::Source(_) => turns.source_over(ops, turn),
+        Job::Source(_) => turns.beside(ops, Beside::Over(again(turn))),
         Job::Nothing | Job::Home(_) => {}
     }
 }

@@ -1,6 +1,7 @@
 //! A run in which each object and each source has a lane of its own, over any lanes that may meet.
 #![tactic(auto)]
 
+mod beside;
 mod crossing;
 mod job;
 pub mod laws;
@@ -11,6 +12,7 @@ mod starting;
 mod turns;
 mod worker;
 
+pub use beside::Beside;
 pub use crossing::jobs_cross_threads;
 pub use job::Job;
 pub use making::Terms;

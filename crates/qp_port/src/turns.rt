@@ -7,7 +7,9 @@ ghost use Rattle.qp_kernel_turns.specs.Lanes.{LaneTurns};
 ghost use Rattle.qp_told.specs.Steps.{TellsSteps};
 ghost use Rattle.qp_port_lanes.specs.At.{IsHome};
 ghost use Rattle.qp_port_lanes.specs.Turning.{HomeTurns};
+ghost use Rattle.qp_port.specs.Beside.{Does};
 
+use crate::beside::Beside;
 use qp_base::Tells;
 use qp_calls::Ops;
 use qp_dispatch::Turn;
@@ -43,15 +45,9 @@ pub trait Turns<O: Ops> {
         ensures same { home.new.me ≡ home.old.me }
         ensures tells { TellsSteps home.old.object.taken home.new.object.taken gate.old.steps.list gate.new.steps.list };
 
-    /// So many sources take a turn next, and no lane runs. The lane stands as it stood.
-    fn on_round(&self, ops: &mut O, sources: u32)
-        ensures called { called sources ops.old ops.new }
-        ensures still { O.lane ops.new ≡ O.lane ops.old };
-
-    /// A source has taken part in a round, and this is its turn's answer, or that of the turn in which it had stopped before. The
-    /// lane stands as it stood.
-    fn source_over(&self, ops: &mut O, turn: &Turn)
-        ensures over { over turn.now ops.old ops.new }
+    /// What the lane does where it is told so. It stands as it stood.
+    fn beside(&self, ops: &mut O, what: Beside)
+        ensures does { Does called over what ops.old ops.new }
         ensures still { O.lane ops.new ≡ O.lane ops.old };
 }
 
@@ -77,13 +73,10 @@ impl<O: Ops> Turns<O> for PortTurns {
         object_turn(rt, ops, sys, home, lane, budget, gate)
     }
 
-    fn on_round(&self, ops: &mut O, sources: u32) {
+    fn beside(&self, ops: &mut O, what: Beside) {
         let _ = ops;
-        let _ = sources;
-    }
-
-    fn source_over(&self, ops: &mut O, turn: &Turn) {
-        let _ = ops;
-        let _ = turn;
+        match what {
+            Beside::Round(_) | Beside::Over(_) => {}
+        }
     }
 }

@@ -9,6 +9,7 @@ ghost use Rattle.qp_port.specs.Alone.{none-alone};
 ghost use Rattle.qp_port.specs.Numbers.{counts-none, none-more, uncounted};
 ghost use Rattle.qp_port.specs.Workers.{IsSameWorker, MayBegin, MayTurn, same-itself, same-still, same-table};
 
+use crate::beside::Beside;
 use crate::job::{Job, end_turn, pass_job, run_job, start_job};
 use crate::starting::Starts;
 use crate::turns::Turns;
@@ -137,7 +138,7 @@ impl<O: Meets + Send, G: Tells + Sync, T: Turns<O> + Sync> PhaseLane for PortWor
     }
 
     fn on_round(&mut self, sources: u32) {
-        self.turns.on_round(&mut self.lane, sources);
+        self.turns.beside(&mut self.lane, Beside::Round(sources));
     }
 
     fn pass_settle(&mut self) -> Passed {

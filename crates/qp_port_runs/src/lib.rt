@@ -8,6 +8,6 @@ mod sealing;
 
 pub use port::run_port;
 pub use qk::run_qk;
-pub use qp_port::{PortRun, Terms, Turns, run_lanes_of};
+pub use qp_port::{Beside, PortRun, Terms, Turns, run_lanes_of};
 pub use qp_shared::{Sealed, Shared, SharedLane};
 pub use sealing::{Threaded, seal};

@@ -8,7 +8,6 @@ use Rattle.std.proofs.option.Option.TheSendSync as option
 use Rattle.qp_wait_rings.proofs.CrossingLemmas.{cord-send, ringing-send}
 use Rattle.qp_wait.specs.contracts.farewells.Farewells as farewells
 use Rattle.qp_wait.specs.contracts.closings.Closings as closings
-use Rattle.qp_wait.specs.contracts.openings.Openings as openings
 use Rattle.qp_wait.specs.contracts.perch.Perch as perch
 use Rattle.qp_wait.specs.contracts.lane.BellLane as its
 
@@ -17,9 +16,6 @@ farewells-send = let a = cord-send in search (crosses, sendable) depth 60
 
 closings-send : (ν : NamedLft) → IsSend (closings.the_field ν).row
 closings-send ν = search (crosses, sendable, table.the_sync, seat.the_send) depth 60
-
-openings-send : (ν : NamedLft) → IsSend (openings.the_field ν).row
-openings-send ν = search (crosses, sendable, table.the_sync, seat.the_send) depth 60
 
 perch-send : IsSend perch.the_field.row
 perch-send = search (crosses, sendable, sync, table.the_sync, table.the_send, seat.the_send) depth 60
@@ -30,5 +26,4 @@ bell-lane-send ν =
     let b = farewells-send in
     let c = closings-send ν in
     let d = perch-send in
-    let e = openings-send ν in
     search (crosses, sendable, option.the_send) depth 60

@@ -41,9 +41,9 @@ last_takes l = l.closings.seat.me.0.last_takes
 pub record OpensFor (n : ℕ) (old new : BellLane) : Type 0 where
   pub ringing : new.ringing ≡ old.ringing
   pub farewells : new.farewells ≡ old.farewells
-  pub closings : new.closings ≡ old.closings
   pub perch : new.perch ≡ old.perch
-  pub added : new.openings.seat.me.0 ≡ with_added n old.openings.seat.me.0
+  pub ended : new.closings.ended ≡ old.closings.ended
+  pub added : new.closings.seat.me.0 ≡ with_added n old.closings.seat.me.0
 
 -- one was taken off, and a farewell was said exactly where it was the last
 pub record IsAway (old new : BellLane) : Type 0 where

@@ -8,7 +8,6 @@ use crate::closings::Closings;
 use crate::farewells::Farewells;
 use crate::hanging::{Rope, Waking, add_cords, hang, perch_of};
 use crate::lane::BellLane;
-use crate::openings::Openings;
 use atomic_table::Seat;
 use qp_base::Memory;
 use qp_model::System;
@@ -98,7 +97,6 @@ impl Bells {
         let perch = perch_of(alloc, self.wakers.as_slice(), root.ropes.as_mut_slice(), me);
         let seat = seat_of(&self.count, &mut root.seat);
         let closing = seat_of(&self.count, &mut root.seat);
-        let opening = seat_of(&self.count, &mut root.seat);
         let ringing = RingingLane::new(lane, &self.count, seat, posts);
         Ok(BellLane {
             ringing,
@@ -107,10 +105,6 @@ impl Bells {
                 count: &self.count,
                 seat: closing,
                 ended: 0,
-            },
-            openings: Openings {
-                count: &self.count,
-                seat: opening,
             },
             perch,
         })

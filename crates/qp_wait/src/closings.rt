@@ -1,12 +1,13 @@
-//! What a lane takes off the count beside its refused claims.
+//! What a lane adds to the count beside its claims, and takes off it beside its refused ones.
 
 ghost use Rattle.std.specs.Prelude.{◌≡◌, ◌+◌, ◌<◌, ◌%◌, ◌^◌};
-ghost use Rattle.qp_wait_bells.specs.Tallies.{one_where};
+ghost use Rattle.qp_wait_bells.specs.Tallies.{one_where, with_added};
 
 use atomic_table::Seat;
-use qp_wait_bells::{Tallies, Tally, find, take_one};
+use qp_wait_bells::{Tallies, Tally, add, find, take_one};
 
-/// The steps that the turns of a lane finished, and its ends: each took one off the count, modulo 2^64.
+/// The steps that the turns of a lane finished, and its ends: each took one off the count, modulo 2^64. The seat also adds the sources of
+/// which the lane tells that they take a turn next.
 #[derive(Drop)]
 pub struct Closings<'a> {
     pub count: &'a Tallies,
@@ -14,11 +15,18 @@ pub struct Closings<'a> {
     pub ended: u64,
     ghost own: { seat.table_id ≡ count.now.shared.table_id },
     ghost some: { 0 < count.now.shared.table_id.words },
-    ghost added: { seat.me.0.added ≡ 0 },
     ghost taken: { seat.me.0.taken % 2 ^ 64 ≡ ended },
 }
 
 impl Closings<'_> {
+    /// Adds so many to the count.
+    pub fn open(&mut self, n: u32)
+        ensures ended { self.new.ended ≡ self.old.ended }
+        ensures added { self.new.seat.me.0 ≡ with_added n self.old.seat.me.0 }
+    {
+        add(self.count, &mut self.seat, u64::from(n));
+    }
+
     /// Takes one off. Whether that left nothing on the count.
     pub fn take_off(&mut self) -> bool
         ensures ended { self.new.ended ≡ (self.old.ended + 1) % 2 ^ 64 }

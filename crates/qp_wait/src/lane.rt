@@ -12,7 +12,6 @@ ghost use Rattle.qp_wait.specs.Parked.{HasParked, HasParked-prop, HasPerch, is_p
 
 use crate::closings::Closings;
 use crate::farewells::Farewells;
-use crate::openings::Openings;
 use crate::perch::Perch;
 use qp_base::Memory;
 use qp_model::Rec;
@@ -26,7 +25,6 @@ pub struct BellLane<'a> {
     pub ringing: RingingLane<'a>,
     pub farewells: Farewells,
     pub closings: Closings<'a>,
-    pub openings: Openings<'a>,
     pub perch: Option<Perch>,
     ghost parked: { HasParked farewells.cords.items perch (ringing_view ringing) } by { HasParked-prop farewells.cords.items perch (ringing_view ringing) },
 }
@@ -44,7 +42,7 @@ impl<'a> BellLane<'a> {
     /// What the lane added to the count for its claims: one for each.
     pub fn opened(&self) -> u64
         ensures claims { result ≡ count_by is_claim (bell_view self.now).told }
-        ensures seats { result ≡ self.now.ringing.seat.me.0.added + self.now.closings.seat.me.0.added }
+        ensures seats { result ≡ self.now.ringing.seat.me.0.added }
     {
         self.ringing.opened
     }
@@ -89,7 +87,7 @@ impl<'a> BellLane<'a> {
     pub fn phase(&mut self, n: u32)
         ensures { OpensFor n self.old self.new }
     {
-        self.openings.add(n);
+        self.closings.open(n);
     }
 
     /// Its source is at its end: one is taken off the count. Where that leaves nothing there, every parker is noted.
@@ -167,7 +165,6 @@ impl<'a> BellLane<'a> {
             ringing,
             farewells: _,
             closings: _,
-            openings: _,
             perch: _,
         } = self;
         ringing.done()

@@ -1,6 +1,7 @@
 //! Turns of the waiting port.
 
-ghost use Rattle.qp_wait.specs.Handed.{OpensFor};
+ghost use Rattle.std.specs.Prelude.{◌≡◌};
+ghost use Rattle.qp_wait.specs.Handed.{OpensFor, bell_view};
 ghost use Rattle.qp_wait_runs.specs.Ending.{IsOffCount};
 
 use qp_base::Tells;
@@ -8,10 +9,21 @@ use qp_dispatch::Turn;
 use qp_model::System;
 use qp_port_lanes::{Home, is_idle, object_turn};
 use qp_port_phases::Rounds;
-use qp_port_runs::Turns;
+use qp_port_runs::{Beside, Turns};
 use qp_told::Told;
 use qp_wait::{BellLane, wait_turn};
 use std::sync::Wait;
+
+/// A source has taken part in a round: it is off the count, and where its turn has stopped, every parker is noted.
+fn source_over(ops: &mut BellLane<'_>, turn: &Turn)
+    ensures over { IsOffCount turn.now ops.old ops.new }
+    ensures still { bell_view ops.new ≡ bell_view ops.old }
+{
+    ops.away();
+    if !is_idle(turn) {
+        ops.farewell();
+    }
+}
 
 /// Turns of the waiting port: an object's parks where its queue is found empty. Where a lane has no thread of its own nobody could wake
 /// it there, so objects take turns of the port then. The sources that take a turn next are on the count; each is off it behind its
@@ -42,14 +54,10 @@ impl<'a> Turns<BellLane<'a>> for WaitTurns<'_> {
         wait_turn(rt, ops, sys, home, lane, budget, gate)
     }
 
-    fn on_round(&self, ops: &mut BellLane<'a>, sources: u32) {
-        ops.phase(sources);
-    }
-
-    fn source_over(&self, ops: &mut BellLane<'a>, turn: &Turn) {
-        ops.away();
-        if !is_idle(turn) {
-            ops.farewell();
+    fn beside(&self, ops: &mut BellLane<'a>, what: Beside) {
+        match what {
+            Beside::Round(sources) => ops.phase(sources),
+            Beside::Over(turn) => source_over(ops, &turn),
         }
     }
 }

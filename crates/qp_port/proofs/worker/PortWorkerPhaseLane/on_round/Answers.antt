@@ -8,8 +8,8 @@ returns-clause-kept g c =
     let x = c.args.self.now in
     let v : LaneView = g.O.Ops.lane x.lane in
     record {
-      ready = subst (λ (u : LaneView). MayTurn x.sys.now x.budget x.turn x.job u) (sym c.on_round.ensures.still) c.requires.ready;
-      same = subst (λ (u : LaneView). IsSameWorker x.sys.now x.sys.now x.budget x.budget x.job x.job v u) (sym c.on_round.ensures.still) (same-itself x.sys.now x.budget x.job v);
+      ready = subst (λ (u : LaneView). MayTurn x.sys.now x.budget x.turn x.job u) (sym c.beside.ensures.still) c.requires.ready;
+      same = subst (λ (u : LaneView). IsSameWorker x.sys.now x.sys.now x.budget x.budget x.job x.job v u) (sym c.beside.ensures.still) (same-itself x.sys.now x.budget x.job v);
       waits_still = refl;
       remains_still = refl;
       numbers_still = refl;

@@ -1,7 +1,7 @@
 use Rattle.std.proofs.Common.{◌≡◌, false, sym}
 use Rattle.qp_port_lanes.specs.Answers.{is_idle}
 use Rattle.qp_wait_runs.proofs.Ending.{off-with-note}
-use Rattle.qp_wait_runs.proofs.turns.WaitTurnsTurnsBellLane.source_over.Goals as goal
+use Rattle.qp_wait_runs.proofs.turns.source_over.Goals as goal
 
 pub returns-then-not-is_idle-clause-over : goal.returns-then-not-is_idle-clause-over
 returns-then-not-is_idle-clause-over c =
