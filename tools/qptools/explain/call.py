@@ -27,10 +27,6 @@ class Call:
         """Whether a run has threads, so that it may go otherwise when it is made once more."""
         return self.options.get("--kernel") in THREADED
 
-    def parks(self) -> bool:
-        """Whether threads of objects park in a run, each of which then needs a thread of its own."""
-        return self.options.get("--kernel") == "wait"
-
     def to_journal(self) -> list[str]:
         """The words of the same run with its journal as text for output, in the form that its kernel has."""
         kept = [word for name in ("--kernel", "--budget") if name in self.options for word in (name, self.options[name])]

@@ -43,9 +43,6 @@ INDENT = "    "
 _ANOTHER = "with threads each run is another; one more that ended so has this:"
 _OTHERWISE = "with threads each run is another, and one more ended otherwise: write the journal to a file, and look at it with view/qpview"
 
-#: What else may be behind want of memory where threads of objects park.
-_NO_THREAD = "or the system made no thread for an object: let it make more (ulimit -u), or run under port, where two objects may share one"
-
 
 def explanation(words: list[str], note: str, output: bytes | None = None) -> list[str]:
     """The lines that explain a note; `output` is the journal as text that a run printed, where it is at hand."""
@@ -100,7 +97,7 @@ def _explain(refusal: Refusal, made: Call, words: list[str], output: bytes | Non
         case "broken":
             return _verdict(refusal.place, made.files[:3])
         case "memory":
-            return ["memory was refused: give the machine more, or the run fewer stimuli or a lower --budget", *([_NO_THREAD] if made.parks() else [])]
+            return ["memory was refused: give the machine more, or the run fewer stimuli or a lower --budget"]
         case "read fault":
             return _unread(made.files)
         case "write fault":
