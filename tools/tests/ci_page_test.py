@@ -17,7 +17,7 @@ try:
 except ModuleNotFoundError:
     yaml = None
 
-PAGE = (TOP / "docs" / "TESTING.md").read_text().partition("\n## 6 In a CI\n")[2]
+PAGE = (TOP / "docs" / "TESTING.md").read_text().partition("\n## 7 In a CI\n")[2]
 
 
 def block(kind: str) -> str:

@@ -1,9 +1,12 @@
 """The search of every order: its numbers on the examples, and one small system for each rule."""
 
+import contextlib
+import io
 import tempfile
 import unittest
 from pathlib import Path
 
+from qptools.explore.command import main
 from qptools.explore.machine import PORT, QK, Machine
 from qptools.explore.search import Bounded, Explored, explore, journal_of
 from qptools.program import TOP, call, is_built
@@ -164,3 +167,45 @@ class Judged(unittest.TestCase):
 
 if __name__ == "__main__":
     unittest.main()
+
+
+@unittest.skipUnless(is_built(), "no program answers")
+class Command(unittest.TestCase):
+    """The words of `qp explore`, its lines and its status."""
+
+    def told(self, *words: str) -> tuple[int, str, str]:
+        out, notes = io.StringIO(), io.StringIO()
+        with contextlib.redirect_stdout(out), contextlib.redirect_stderr(notes):
+            status = main(list(words))
+        return status, out.getvalue(), notes.getvalue()
+
+    def test_all_of_them(self) -> None:
+        pump = EXAMPLES / "pump"
+        told = self.told("--until", "none", str(pump / "pump.toml"), str(pump / "stimuli.txt"))
+        self.assertEqual(told, (0, "explored 50 states by 76 moves, all of them\nends: 2\n  end 0  pump still  valve shut  guard idle\n"
+                                   "  end 0  pump running  valve shut  guard idle\n", ""))
+
+    def test_an_end(self) -> None:
+        pump = EXAMPLES / "pump"
+        files = str(pump / "pump.toml"), str(pump / "stimuli.txt")
+        self.assertEqual(self.told("--end", "2", *files), (0, (pump / "wrong.txt").read_text(), ""))
+        self.assertEqual(self.told("--end", "3", *files), (10, "", "qp: no end 3\n"))
+
+    def test_an_assertion(self) -> None:
+        dry = EXAMPLES / "dry"
+        status, out, note = self.told("--out", "journal", str(dry / "dry.toml"), str(dry / "stimuli.txt"))
+        self.assertEqual((status, out.endswith("end 3\n"), note), (3, True, "qp: assertion 2 in lane 2\n"))
+
+    def test_a_refusal(self) -> None:
+        busy = EXAMPLES / "busy"
+        for until, status, note in (("refusal", 9, "qp: met refusal\n"), ("assertion", 0, "")):
+            self.assertEqual(self.told("--until", until, str(busy / "system.toml"), str(busy / "stimuli.txt"))[::2], (status, note))
+
+    def test_too_many(self) -> None:
+        pump = EXAMPLES / "pump"
+        self.assertEqual(self.told("--most", "49", str(pump / "pump.toml"), str(pump / "stimuli.txt"))[::2], (10, "qp: more than 49 states\n"))
+
+    def test_bad_words(self) -> None:
+        for words in (("--kernel", "sim", "a", "b"), ("--most", "0", "a", "b"), ("--end", "0", "a", "b"), ("a",)):
+            self.assertEqual(self.told(*words)[0], 1)
+        self.assertEqual(self.told("none.toml", "none.txt")[0], 2)

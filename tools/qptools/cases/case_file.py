@@ -12,6 +12,8 @@ from qpviewer.positions import Lines, read_lines
 #: The kernels with one thread, in which a run is the only one of its files, and those with threads, in which two may differ.
 ONE_THREAD, THREADED = ("sim", "qv"), ("qk", "port", "wait")
 KERNELS = ONE_THREAD + THREADED
+#: The kernels whose orders can be gone through.
+SEARCHED = ("qk", "port")
 
 
 def _is_text(value: Any) -> bool:
@@ -29,6 +31,15 @@ def _is_number(value: Any) -> bool:
 def _are_kernels(value: Any) -> bool:
     names = [value] if isinstance(value, str) else value
     return isinstance(names, list) and bool(names) and all(name in KERNELS for name in names)
+
+
+def _are_searched(value: Any) -> bool:
+    names = [value] if isinstance(value, str) else value
+    return isinstance(names, list) and bool(names) and all(name in SEARCHED for name in names)
+
+
+def _are_texts(value: Any) -> bool:
+    return isinstance(value, list) and all(map(_is_text, value))
 
 
 def _are_tables(value: Any) -> bool:
@@ -52,6 +63,8 @@ _CASE: _Keys = {
     "end": (lambda value: _is_number(value) and value in (0, 3, 4), "0, 3 or 4"),
     "refused": (_is_count, "a number"), "blocks_back": (lambda value: isinstance(value, bool), "true or false"),
     "object": (_are_tables, "tables, as object.NAME"), "summary": (_is_text, "the name of a file"),
+    "explore": (_are_searched, '"qk", "port" or both'), "most": (lambda value: _is_number(value) and 1 <= value <= 10_000_000, "a number, 1 to 10000000"),
+    "never": (_are_texts, "a list of tests"), "ends": (_are_texts, "a list of tests"), "reaches": (_are_texts, "a list of tests"),
 }
 _OBJECT: _Keys = {
     "state": (_is_text, "a text"), "took": (_is_count, "a number"), "vars": (_are_variables, "a table of whole numbers"),
@@ -98,7 +111,8 @@ class Expected:
 @dataclass(frozen=True)
 class Case:
     """A system under stimuli with a budget, and what has to come of it under some kernels: the run's end, how many calls are refused,
-    whether all blocks come back, the whole summary, and of each object what is named. Under the other kernels any end will do."""
+    whether all blocks come back, the whole summary, and of each object what is named. Under the other kernels any end will do. Every order is gone
+    through under the kernels that `explore` names, of up to `most` states, with the tests of what never holds, of each quiet end and of what is reached."""
 
     source: CaseText
     number: int
@@ -113,6 +127,11 @@ class Case:
     summary: str | None = None
     summary_file: Path | None = None
     objects: dict[str, Expected] = field(default_factory=dict)
+    explore: tuple[str, ...] = ()
+    most: int = 100_000
+    never: tuple[str, ...] = ()
+    ends: tuple[str, ...] = ()
+    reaches: tuple[str, ...] = ()
 
     def place(self, key: str = "") -> str:
         """`FILE:LINE` of one of the case's keys, or of the case itself."""
@@ -171,7 +190,20 @@ def _case(source: CaseText, number: int, table: dict[str, Any]) -> Case:
         table.get("budget", 100_000), table.get("end", 0), table.get("refused"), table.get("blocks_back"),
         *_summary(source, at, name, folder, table),
         {key: Expected(of.get("state"), of.get("took"), of.get("vars", {}), of.get("said")) for key, of in objects.items()},
+        *_properties(source, at, name, table),
     )
+
+
+def _properties(source: CaseText, at: str, name: str, table: dict[str, Any]) -> tuple[tuple[str, ...], int, tuple[str, ...], tuple[str, ...], tuple[str, ...]]:
+    """What is asked of every order. No assertion may come where a case doesn't say what never holds."""
+    kernels = table.get("explore", [])
+    for key in ("most", "never", "ends", "reaches"):
+        if key in table and not kernels:
+            raise CaseFault(f"{source.place(f'{at}.{key}')}: {name}: {key} is asked of every order, and explore is missing")
+    never, ends, reaches = (tuple(table.get(key, [])) for key in ("never", "ends", "reaches"))
+    if "never" not in table:
+        never = ("assertion",)
+    return tuple([kernels] if isinstance(kernels, str) else kernels), table.get("most", 100_000), never, ends, reaches
 
 
 def _summary(source: CaseText, at: str, name: str, folder: Path, table: dict[str, Any]) -> tuple[str | None, Path | None]:

@@ -22,6 +22,7 @@ from ..program import PROGRAM, call, is_built
 from .case_file import KERNELS, THREADED, Case, CaseFault, read_cases
 from .ends import NotRun, keep, outcomes, run_outcomes
 from .ends_text import ends_text, orders_text, runs_text
+from .every_order import try_orders
 from .junit import junit_of
 from .orders import lines_of
 from .outcome import RUNS
@@ -176,7 +177,7 @@ def _run_folders(values: Namespace) -> int:
             print(fault, file=sys.stderr)
     if values.case and not faults:
         cases = _named(cases, values.case)
-    tried = [] if faults else [_told(try_case(case, kernel)) for case in cases for kernel in KERNELS]
+    tried = [] if faults else [_told(one) for case in cases for one in _tried(case)]
     failed = sum(1 for one in tried if one.failures)
     if not faults:
         print(f"{len(tried) - failed} passed, {failed} failed")
@@ -193,6 +194,14 @@ def _named(cases: list[Case], names: list[str]) -> list[Case]:
             near = get_close_matches(name, known, 1)
             raise BadWords(f"no case is called {name!r}" + (f"; did you mean {near[0]!r}?" if near else ""))
     return [case for case in cases if case.name in names]
+
+
+def _tried(case: Case) -> Iterator[Tried]:
+    """A case under each kernel, and by every order where it asks for that."""
+    for kernel in KERNELS:
+        yield try_case(case, kernel)
+    for kernel in case.explore:
+        yield try_orders(case, kernel)
 
 
 def _told(tried: Tried) -> Tried:

@@ -41,12 +41,12 @@ def _suite(root: Element, path: Path, tried: list[Tried]) -> None:
         names = {"name": _shown(one.name), "classname": _shown(str(path.parent))}
         test = SubElement(suite, "testcase", {**names, "time": f"{one.seconds:.3f}"})
         if one.failures:
-            _told(test, "failure" if one.story else "error", one.failures[0].words, one.failures_text())
+            _told(test, "error" if one.is_error else "failure", one.failures[0].words, one.failures_text())
 
 
 def _faulty(tried: list[Tried]) -> tuple[int, int]:
     """How many failed, and how many had no run."""
-    errors = sum(1 for one in tried if one.story is None)
+    errors = sum(1 for one in tried if one.is_error)
     return sum(1 for one in tried if one.failures) - errors, errors
 
 

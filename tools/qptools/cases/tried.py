@@ -21,23 +21,30 @@ class Failure(NamedTuple):
 
 @dataclass(frozen=True)
 class Tried:
-    """What came of a case under a kernel: what fails, the story of the run, which is missing where there was none, and how long it took."""
+    """What came of a case under a kernel: what fails, the story of the run, which is missing where there was none, how long it took, and whether
+    every order was gone through in the place of a run."""
 
     case: Case
     kernel: str
     failures: list[Failure]
     story: Story | None
     seconds: float
+    every_order: bool = False
 
     @property
     def name(self) -> str:
         """How the case under this kernel is called."""
-        return f"{self.case.name}, {self.kernel}"
+        return f"{self.case.name}, {'every order under ' if self.every_order else ''}{self.kernel}"
+
+    @property
+    def is_error(self) -> bool:
+        """Whether there was no run."""
+        return self.story is None and not self.every_order
 
     def text(self) -> str:
         """A line for the case, and what fails below it."""
         head = "FAIL" if self.failures else "pass"
-        judged = "" if self.kernel in self.case.kernels else ", judged alone"
+        judged = "" if self.every_order or self.kernel in self.case.kernels else ", judged alone"
         return f"{head}  {self.case.source.path.parent}: {self.name}{judged}\n{self.failures_text()}"
 
     def failures_text(self) -> str:

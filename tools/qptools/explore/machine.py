@@ -15,7 +15,13 @@ from .spot import ASSERTED, BEGIN, START, Draft, Entry, Kernel, Lane, Source, Sp
 from .stimuli import stimulus_of
 
 QK, PORT = "qk", "port"
+#: More moves than it takes to come to an end.
+MOST_MOVES = 100_000
 _START = Entry(0, 0, 0, ())
+
+
+class Endless(Exception):
+    """A run doesn't come to an end."""
 
 
 class Moved(NamedTuple):
@@ -103,6 +109,19 @@ class Machine:
         """Whether a run may end here with 0."""
         done = all(source.place == len(lines) for source, lines in zip(spot.sources, self.stimuli))
         return done and self.is_calm(spot) and not self.is_stopped(spot)
+
+    def go_to_end(self, draft: Draft) -> None:
+        """Goes on until nothing is left to be done, or a lane has asserted. Raises `Endless` where neither comes."""
+        before = 1 if self.is_qk else len(draft.lanes)
+        lanes, sources = range(before), range(before, before + len(draft.sources))
+        for _ in range(MOST_MOVES):
+            rests = self.is_calm(draft)
+            order = [*sources, *lanes] if rests else [*lanes, *sources]
+            actor = next((actor for actor in (self.actor(number, draft) for number in order) if actor.may_move()), None)
+            if self.is_stopped(draft) or actor is None:
+                return
+            actor.move()
+        raise Endless
 
     def finish(self, draft: Draft) -> None:
         """Behind an assertion each other lane goes on to a place at which it may stop: behind its step or its stimulus; lane 0 of `qk`, to a look."""

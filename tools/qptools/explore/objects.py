@@ -161,13 +161,19 @@ class Running(Actor):
             case "publish" if lane.stage.word == "members" and not lane.stage.left:
                 self.lower_ceiling()
                 self.unpublish()
+            case "publish" if lane.stage.word == "unpublish" and lane.stage.entry and self._keeps(lane.stage.entry, deferred):
+                self._do(action)
             case _:
                 return False
         return True
 
     def _keeps_another(self, entry: Entry) -> bool:
         """Whether the object keeps another reference of a deferred entry's block, which nobody else can drop."""
-        places = (self._at.hand, *self.draft.deferred[self._place][1:], *self.draft.queues[self._place])
+        return self._keeps(entry, self.draft.deferred[self._place][1:])
+
+    def _keeps(self, entry: Entry, deferred: tuple[Entry, ...]) -> bool:
+        """Whether its step, these deferred entries or its queue refer to an entry's block."""
+        places = (self._at.hand, *deferred, *self.draft.queues[self._place])
         return any(other is not None and other.block == entry.block for other in places)
 
     def _flush(self) -> None:

@@ -1,6 +1,6 @@
 """The search: every state that some order reaches, each once, and what they come to."""
 
-from collections.abc import Iterator
+from collections.abc import Callable, Iterator
 from dataclasses import dataclass, field
 from typing import NamedTuple
 
@@ -63,10 +63,14 @@ class Explored:
         return lanes[::-1]
 
 
-def explore(machine: Machine, most: int) -> Explored:
-    """Everything that orders may come to. Raises `Bounded` where there are more states than `most`."""
-    found = Explored()
+def explore(machine: Machine, most: int, look: Callable[[int, tuple[Told, ...], Spot], None] | None = None,
+            found: Explored | None = None) -> Explored:
+    """Everything that orders may come to. Raises `Bounded` where there are more states than `most`. `look` is told of each move: the place of the
+    state behind it, what the move told, and the state. `found` takes what is found, also where the search is broken off."""
+    found = Explored() if found is None else found
     for place, told, spot in _walk(machine, most, found):
+        if look:
+            look(place, told, spot)
         for fact in told:
             found.told.setdefault(fact, place)
         if machine.is_end(spot):
@@ -98,7 +102,7 @@ def _walk(machine: Machine, most: int, found: Explored) -> Iterator[tuple[int, t
 
 
 def journal_of(machine: Machine, found: Explored, place: int, budget: int = 100_000) -> str:
-    """The journal of the path to a state at rest, or to one in which a lane has asserted."""
+    """The journal of the path to a state. Where the run may not end there it goes on to an end. Raises `Endless` where that doesn't come."""
     is_qk = machine.kernel == QK
     kernel = QK_NUMBER if is_qk else PORT_NUMBER
     book = Book(machine.system, machine.first_source + len(machine.stimuli))
@@ -107,6 +111,7 @@ def journal_of(machine: Machine, found: Explored, place: int, budget: int = 100_
         actor = machine.actor(lane if is_qk else lane - 1, draft)
         assert actor.may_move()
         actor.move()
+    machine.go_to_end(draft)
     if not machine.is_stopped(draft):
         if is_qk:
             book.finish_row([owner.priority for owner in reversed(machine.system.objects[:draft.kernel.row + 1])])
