@@ -107,6 +107,7 @@ pub record FindsNoRoom (base : Bool) (old new : LaneView) : Type 0 where
 pub record HasNone (acts base : Bool) (old new : LaneView) : Type 0 where
   pub untouched : IsUntouched old new
   pub happened : new.happened ≡ old.happened
+  pub asked : acts ≡ false → new.asked ≡ old.asked
   pub none : acts ≡ true → has_no_stim old → acts_next old.sys old.plan (order_of old) base ≡ None
 
 -- no lane of the world has handed in a code or found one

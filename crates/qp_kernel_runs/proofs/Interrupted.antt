@@ -102,7 +102,7 @@ acts-once : (v : LaneView) (base : Bool) (source place : ℕ) (s : Stim) → Act
 acts-once v base source place s a = record { some = a.some; few = a.few; counted = a.counted; left = a.left; its = a.its; next = a.next }
 
 pub none-once : (base : Bool) (v w : LaneView) → HasNone true base (asked_once v) w → HasNone true base v w
-none-once base v w h = record { untouched = untouched-once v w h.untouched; happened = h.happened; none = h.none }
+none-once base v w h = record { untouched = untouched-once v w h.untouched; happened = h.happened; asked = λ apart. absurd (cc); none = h.none }
 
 pub happens-once : (look : ℕ) (base : Bool) (v w : LaneView) → Happens look base (asked_once v) w → Happens look base v w
 happens-once look base v w h = record {
@@ -258,6 +258,7 @@ module _ (w : SimWorld) (sys : System) (made : (world_view w.plain).sys ≡ sys)
   nothing-acts is u e = subst (HasNone true base v) (sym e) (record {
     untouched = record { kept = kept-same v; answered = refl; hands = refl };
     happened = refl;
+    asked = λ apart. absurd (cc);
     none = λ acts none. chosen-acts None is none;
   })
 

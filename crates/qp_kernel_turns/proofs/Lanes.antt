@@ -1,5 +1,5 @@
 -- The kernel's lane through calls and parts of a turn.
-use Rattle.std.proofs.Common.{◌≡◌, ℕ, suc, ◌<◌, Bool, true, false, List, [], ◌∷◌, ◌++◌, map, length, refl, sym, ◌∙◌, ap, subst, inl, inr, Option, Some, None, arith, append_assoc, append-nil}
+use Rattle.std.proofs.Common.{◌≡◌, ℕ, suc, ◌≤◌, ◌<◌, Bool, true, false, List, [], ◌∷◌, ◌++◌, map, length, refl, sym, ◌∙◌, ap, subst, inl, inr, Option, Some, None, arith, append_assoc, append-nil}
 use Rattle.qp_chart.specs.declared.checked.Chart.{Chart}
 use Rattle.qp_model.specs.declared.systems.System.{System}
 use Rattle.qp_model.specs.Course.{chart_at}
@@ -43,6 +43,7 @@ keeps-then acts u v w one two = record {
     advances = advances-then u v w one.same.advances two.same.advances;
   };
   still = λ apart. two.still apart ∙ one.still apart;
+  asks = λ apart. let a = one.asks apart in let b = two.asks apart in omega (arith, a, b);
   told = (one.told.0 ++ two.told.0, two.told.1 ∙ ap (λ l. l ++ two.told.0) one.told.1 ∙ append_assoc u.told one.told.0 two.told.0);
   log = (one.log.0 ++ two.log.0, two.log.1 ∙ ap (λ l. l ++ two.log.0) one.log.1 ∙ append_assoc u.log one.log.0 two.log.0);
 }
@@ -64,7 +65,7 @@ halts-then acts u v w h one two = record { keeps = keeps-then acts u v w one.kee
 
 -- what nothing happened in is no matter of the world
 pub keeps-any : (acts : Bool) (v w : LaneView) → KeepsLane false v w → KeepsLane acts v w
-keeps-any acts v w k = record { same = k.same; still = λ apart. k.still refl; told = k.told; log = k.log }
+keeps-any acts v w k = record { same = k.same; still = λ apart. k.still refl; asks = λ apart. k.asks refl; told = k.told; log = k.log }
 
 pub goes-any : (acts : Bool) (v w : LaneView) → LaneGoes false v w → LaneGoes acts v w
 goes-any acts v w g = record { keeps = keeps-any acts v w g.keeps; stops = g.stops; answered = g.answered }
@@ -87,6 +88,7 @@ keeps-gains acts o r ts v m w g is = record {
     advances = subst (Advances v) (sym is) (advances-gains ts (works_for o v) m g);
   };
   still = λ apart. ap (λ u. u.happened) is ∙ g.happened;
+  asks = λ apart. let same : w.asked ≡ v.asked = ap (λ u. u.asked) is ∙ g.asked in omega (arith, same);
   told = (ts, ap (λ u. u.told) is ∙ g.told);
   log = (map (placed_by v.lane) ts, ap (λ u. u.log) is ∙ g.log);
 }
@@ -96,6 +98,7 @@ gains-goes acts ts v w g = record {
   keeps = record {
     same = record { sys = g.sys; lane = g.lane; world = g.world; plan = g.plan; happened = refl; serves = g.serves; advances = advances-gains ts v w g };
     still = λ apart. g.happened;
+    asks = λ apart. let same = g.asked in omega (arith, same);
     told = (ts, g.told);
     log = (map (placed_by v.lane) ts, g.log);
   };
@@ -112,6 +115,7 @@ goes-once acts v = record {
   keeps = record {
     same = record { sys = refl; lane = refl; world = refl; plan = refl; happened = refl; serves = λ o. refl; advances = advances-none v };
     still = λ apart. refl;
+    asks = λ apart. omega arith;
     told = ([], sym (append-nil v.told));
     log = ([], sym (append-nil v.log));
   };
@@ -124,16 +128,17 @@ pub asked-goes : (acts : Bool) (ts : List ToldItem) (v w : LaneView) → Gains t
 asked-goes acts ts v w g = goes-then acts v (asked_once v) w (goes-once acts v) (gains-goes acts ts (asked_once v) w g)
 
 -- the codes that a lane handed in and found, and its questions, are no part of what is kept
-pub keeps-codes : (acts : Bool) (v m : LaneView) (stops answered : List ℕ) (asked : ℕ) → KeepsLane acts v m → KeepsLane acts v (record m { stops = stops; answered = answered; asked = asked })
-keeps-codes acts v m stops answered asked k = record {
+pub keeps-codes : (acts : Bool) (v m : LaneView) (stops answered : List ℕ) (asked : ℕ) → m.asked ≤ asked → KeepsLane acts v m → KeepsLane acts v (record m { stops = stops; answered = answered; asked = asked })
+keeps-codes acts v m stops answered asked more k = record {
   same = record { sys = k.same.sys; lane = k.same.lane; world = k.same.world; plan = k.same.plan; happened = refl; serves = k.same.serves; advances = k.same.advances };
   still = k.still;
+  asks = λ apart. let a = k.asks apart in omega (arith, a, more);
   told = k.told;
   log = k.log;
 }
 
 pub keeps-stops : (acts : Bool) (code : ℕ) (v m w : LaneView) → KeepsLane acts v m → Stops code m w → KeepsLane acts v w
-keeps-stops acts code v m w k stops = subst (KeepsLane acts v) (sym stops) (keeps-codes acts v m (code ∷ m.stops) m.answered m.asked k)
+keeps-stops acts code v m w k stops = subst (KeepsLane acts v) (sym stops) (keeps-codes acts v m (code ∷ m.stops) m.answered m.asked (omega arith) k)
 
 -- the lane hands in the code of its last record
 pub stops-code : (acts : Bool) (code : ℕ) (v m w : LaneView) → LaneGoes acts v m → 0 < code → last_code m.told ≡ code → Stops code m w → LaneHalts acts v w halt.Stopped
@@ -157,7 +162,7 @@ stops-memory acts v m w goes stops = record {
 -- it finds the stop word set
 pub finds-stop : (acts : Bool) (code : ℕ) (v m w : LaneView) → LaneGoes acts v m → w ≡ record m { answered = code ∷ m.answered; asked = suc m.asked } → LaneHalts acts v w halt.Stopped
 finds-stop acts code v m w goes is = record {
-  keeps = subst (KeepsLane acts v) (sym is) (keeps-codes acts v m m.stops (code ∷ m.answered) (suc m.asked) goes.keeps);
+  keeps = subst (KeepsLane acts v) (sym is) (keeps-codes acts v m m.stops (code ∷ m.answered) (suc m.asked) (omega arith) goes.keeps);
   handed = inr (record {
     found = rw (is, goes.answered) (omega arith);
     stops = ap (λ u. u.stops) is ∙ goes.stops;
@@ -176,10 +181,11 @@ halts-lane acts v w halt.Stopped (inr h) =
     (ap last_code h.spills.told ∙ spill-code v.told (length v.told)) h.stops
 
 -- a look in which nothing happened
-pub kept-still : (acts : Bool) (v w : LaneView) → IsLaneKept v w → w.happened ≡ v.happened → KeepsLane acts v w
-kept-still acts v w k still = record {
+pub kept-still : (acts : Bool) (v w : LaneView) → IsLaneKept v w → w.happened ≡ v.happened → (acts ≡ false → w.asked ≡ v.asked) → KeepsLane acts v w
+kept-still acts v w k still asked = record {
   same = record { sys = k.sys; lane = k.lane; world = k.world; plan = k.plan; happened = refl; serves = k.serves; advances = advances-still v w k.told k.rise };
   still = λ apart. still;
+  asks = λ apart. let same = asked apart in omega (arith, same);
   told = ([], k.told ∙ sym (append-nil v.told));
   log = k.log;
 }
@@ -189,6 +195,7 @@ pub kept-acts : (acts : Bool) (v w : LaneView) → acts ≡ true → IsLaneKept 
 kept-acts acts v w acting k = record {
   same = record { sys = k.sys; lane = k.lane; world = k.world; plan = k.plan; happened = refl; serves = k.serves; advances = advances-still v w k.told k.rise };
   still = λ apart. let wrong : true ≡ false = sym acting ∙ apart in absurd (cc);
+  asks = λ apart. let wrong : true ≡ false = sym acting ∙ apart in absurd (cc);
   told = ([], k.told ∙ sym (append-nil v.told));
   log = k.log;
 }
@@ -197,7 +204,7 @@ pub happened-goes : (acts base : Bool) (n : ℕ) (v w : LaneView) → acts ≡ t
 happened-goes acts base n v w acting h = record { keeps = kept-acts acts v w acting h.untouched.kept; stops = h.untouched.kept.stops; answered = h.untouched.answered }
 
 pub nothing-goes : (acts base : Bool) (v w : LaneView) → HasNone acts base v w → LaneGoes acts v w
-nothing-goes acts base v w h = record { keeps = kept-still acts v w h.untouched.kept h.happened; stops = h.untouched.kept.stops; answered = h.untouched.answered }
+nothing-goes acts base v w h = record { keeps = kept-still acts v w h.untouched.kept h.happened h.asked; stops = h.untouched.kept.stops; answered = h.untouched.answered }
 
 pub stopped-halts : (acts base : Bool) (n : ℕ) (u v w : LaneView) → acts ≡ true → LaneGoes acts u v → IsStopped n base v w → LaneHalts acts u w halt.Stopped
 stopped-halts acts base n u v w acting goes h = record {
@@ -224,6 +231,14 @@ module _ (acts : Bool) (p : ℕ) (c : Counts) (v v1 v2 : LaneView) (room : Roomi
 
   pub took-lane : (e : HeldEntry) (v3 v4 : LaneView) → v3 ≡ asked_once v2 → TakesIt p e v3 v4 → LaneGoes acts v v4
   took-lane e v3 v4 still takes = goes-then acts v v3 v4 (subst (LaneGoes acts v) (sym still) (goes-then acts v v2 (asked_once v2) seen-lane (goes-once acts v2))) (gains-goes acts _ v3 v4 takes.adds.grows)
+
+  -- with two questions
+  pub took-asks : (e : HeldEntry) (v3 v4 : LaneView) → v3 ≡ asked_once v2 → TakesIt p e v3 v4 → v4.asked ≡ suc (suc v.asked)
+  took-asks e v3 v4 still takes =
+      let first : v2.asked ≡ suc v.asked = (room-then (seen_told p c.f c.l c.m ∷ []) (asked_once v) v1 v2 room sees.0.grows).asked in
+      let second : v3.asked ≡ suc v2.asked = ap (λ u. u.asked) still in
+      let same = takes.adds.grows.asked in
+      omega (arith, first, second, same)
 
 -- The step of an object, and starts.
 

@@ -18,6 +18,7 @@ pub mod Ordered
 pub mod Closing
 pub mod Lanes
 pub mod Counting
+pub mod Asking
 pub mod Stepping
 pub mod Starts
 pub mod AllStarts

@@ -1,7 +1,8 @@
 -- The count of steps that have begun, which the gate is told.
-use Rattle.std.specs.Prelude.{◌≡◌, ℕ, ◌+◌, ◌≤◌, true, List, [], ◌∷◌, Some, None, Ok, Bool}
+use Rattle.std.specs.Prelude.{◌≡◌, ℕ, ◌+◌, ◌≤◌, true, false, List, [], ◌∷◌, Some, None, Ok, Bool}
 use Rattle.std.specs.declared.option.Option.{Option}
 use Rattle.std.specs.declared.result.Result.{Result}
+use Rattle.qp_calls.specs.LaneView.{LaneView}
 use Rattle.qp_dispatch.specs.declared.objects.Turn.{Turn}
 use Rattle.qp_dispatch.specs.declared.objects.Turn.TheVariants as turn
 use Rattle.qp_kernel.specs.declared.kernel.Kernel.{Kernel}
@@ -34,3 +35,8 @@ pub record AreCounted (k later : Kernel) (xs ys : Objects) : Type 0 where
 abbrev pub TurnsCounted : Kernel → Kernel → Objects → Objects → Turn → Type 0
 TurnsCounted k later xs ys turn.Idle = AreCounted k later xs ys
 TurnsCounted k later xs ys _ = Unit {0}
+
+-- The lane asked for the stop word once for each look that the kernel began, and twice for each step: before it looked at the queue, and before it
+-- took the entry. Nothing is said of a world whose sources act in looks.
+abbrev pub Asks : Bool → Kernel → Kernel → LaneView → LaneView → Type 0
+Asks acts k later v w = acts ≡ false → later.looks + (later.steps + later.steps) + v.asked ≤ w.asked + (k.looks + (k.steps + k.steps))

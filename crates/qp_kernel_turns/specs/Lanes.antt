@@ -1,6 +1,6 @@
 -- The kernel's lane through the parts of a turn: it stays the same one, its records come one behind another, and a code is handed in only where the
 -- run stops.
-use Rattle.std.specs.Prelude.{◌≡◌, ℕ, ◌<◌, ◌⊎◌, Bool, false, List, ◌∷◌, ◌++◌, length, Ok, Err}
+use Rattle.std.specs.Prelude.{◌≤◌, ◌≡◌, ℕ, ◌<◌, ◌⊎◌, Bool, false, List, ◌∷◌, ◌++◌, length, Ok, Err}
 use Rattle.std.specs.declared.result.Result.{Result}
 use Rattle.qp_calls.specs.LaneView.{Advances, Happening, LaneView}
 use Rattle.qp_calls.specs.Notes.{last_code}
@@ -35,6 +35,7 @@ where_happened hs v = record v { happened = hs }
 pub record KeepsLane (acts : Bool) (v w : LaneView) : Type 0 where
   pub same : SameLane (where_happened w.happened v) w
   pub still : acts ≡ false → w.happened ≡ v.happened
+  pub asks : acts ≡ false → v.asked ≤ w.asked
   pub told : IsFront v.told w.told
   pub log : IsFront v.log w.log
 

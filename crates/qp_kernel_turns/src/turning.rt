@@ -7,7 +7,7 @@ ghost use Rattle.qp_stim.specs.Rules.{StimuliFit};
 ghost use Rattle.qp_kernel.specs.Turning.{kernel_in};
 ghost use Rattle.qp_told.specs.Steps.{TellsSteps};
 ghost use Rattle.qp_kernel_turns.specs.AtRest.{HaltsAtRest, StopsAtRest};
-ghost use Rattle.qp_kernel_turns.specs.Counting.{AreCounted, Begin, BeginsFound, TurnsCounted};
+ghost use Rattle.qp_kernel_turns.specs.Counting.{AreCounted, Asks, Begin, BeginsFound, TurnsCounted};
 ghost use Rattle.qp_kernel_turns.specs.Knowing.{IsScanning, MayLook};
 ghost use Rattle.qp_kernel_turns.specs.Lanes.{LaneTo, LaneTurns};
 ghost use Rattle.qp_kernel_turns.specs.Ordering.{AreSeenEmpty, InOrder, LooksInOrder, RoundsInOrder, StepsInOrder, TurnsInOrder, VisitsInOrder};
@@ -89,6 +89,7 @@ pub fn look<R: Wait, W: World, L: Ledger>(
     ensures rests { IfErr result (HaltsAtRest at.now.sys.now (stand_of kernel.new objects.now (W.lane world.new))) }
     ensures lane { LaneTo W.acts (W.lane world.old) (W.lane world.new) result }
     ensures steps { kernel.new.steps ≡ kernel.old.steps }
+    ensures asks { Asks W.acts kernel.old kernel.new (W.lane world.old) (W.lane world.new) }
     ensures rows { LooksRow W.acts at.now.sys.now (terms_of at.now) (W.lane world.old) (W.lane world.new) result }
 {
     ready(world)?;
@@ -151,6 +152,7 @@ fn visit<R: Wait, W: World, G: Tells>(
         (W.lane world.old)
         (W.lane world.new) result }
     ensures tells { TellsSteps kernel.old.steps kernel.new.steps gate.old.steps.list gate.new.steps.list }
+    ensures asks { Asks W.acts kernel.old kernel.new (W.lane world.old) (W.lane world.new) }
 {
     let sys = at.sys;
     let object = &sys.objects.items[place];
@@ -217,6 +219,7 @@ pub fn scan<R: Wait, W: World, G: Tells>(
     ensures begun { BeginsFound kernel.old kernel.new objects.old objects.new result }
     ensures rows { VisitsRow at.now.sys.now (terms_of at.now) (above at.now.sys.now floor) [] (W.lane world.old) (W.lane world.new) result }
     ensures tells { TellsSteps kernel.old.steps kernel.new.steps gate.old.steps.list gate.new.steps.list }
+    ensures asks { Asks W.acts kernel.old kernel.new (W.lane world.old) (W.lane world.new) }
 {
     let many = count(at.sys);
     for place in (0..many).rev() {
@@ -243,6 +246,7 @@ pub fn step<O: Ops>(
     ensures rests { IfErr result (HaltsAtRest at.now.sys.now (stand_of kernel.new objects.new (O.lane world.new))) }
     ensures lane { LaneTo false (O.lane world.old) (O.lane world.new) result }
     ensures begun { Begin 0 kernel.old kernel.new objects.old objects.new }
+    ensures looks { kernel.new.looks ≡ kernel.old.looks }
     ensures rows { StepsRow at.now.sys.now (terms_of at.now) (O.lane world.old) (O.lane world.new) result }
 {
     let Some(p) = top(kernel) else {
@@ -293,6 +297,7 @@ fn rounds<R: Wait, W: World, G: Tells, L: Ledger>(
     ensures pending { IfOk result (λ u. StepsOver at.now.sys.now kernel.old kernel.new (W.lane world.old)) }
     ensures rows { RoundsRows W.acts at.now.sys.now (terms_of at.now) kernel.old (W.lane world.old) (W.lane world.new) result }
     ensures tells { TellsSteps kernel.old.steps kernel.new.steps gate.old.steps.list gate.new.steps.list }
+    ensures asks { Asks W.acts kernel.old kernel.new (W.lane world.old) (W.lane world.new) }
 {
     let mut steps = Steps::<L>::open(blank);
     for _ in rt.forever() {
@@ -343,6 +348,7 @@ pub fn kernel_turn<R: Wait, W: World, G: Tells>(
     ensures pending { TurnsOver at.now.sys.now kernel.old kernel.new (W.lane world.old) result }
     ensures rows { TurnsRows W.acts at.now.sys.now (terms_of at.now) kernel.old (W.lane world.old) (W.lane world.new) result }
     ensures tells { TellsSteps kernel.old.steps kernel.new.steps gate.old.steps.list gate.new.steps.list }
+    ensures asks { Asks W.acts kernel.old kernel.new (W.lane world.old) (W.lane world.new) }
 {
     match rounds::<R, W, G, Brand>(rt, world, at, objects, kernel, gate, Blank::new(1)) {
         Ok(()) => Turn::Idle,

@@ -24,6 +24,7 @@ counts-goes p v w c looks = record {
   keeps = record {
     same = record { sys = looks.0.sys; lane = looks.0.lane; world = looks.0.world; plan = looks.0.plan; happened = refl; serves = looks.0.serves; advances = advances-looks _ _ _ v w looks.0 };
     still = λ apart. looks.0.happened;
+    asks = λ apart. let same = looks.0.asked in omega (arith, same);
     told = ([], looks.0.told ∙ sym (append-nil v.told));
     log = ([], looks.0.log ∙ sym (append-nil v.log));
   };

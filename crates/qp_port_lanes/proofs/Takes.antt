@@ -65,6 +65,7 @@ empty-goes me f l m v w t = by (same_counts (last_nil me NotShown v.told) f l m)
       keeps = record {
         same = record { sys = looks.sys; lane = looks.lane; world = looks.world; plan = looks.plan; happened = refl; serves = looks.serves; advances = advances-looks (word.Queue me) (f + l + m) (Counts f l m) v w looks };
         still = λ apart. looks.happened;
+        asks = λ apart. let same = looks.asked in omega (arith, same);
         told = ([], looks.told ∙ sym (append-nil v.told));
         log = ([], looks.log ∙ sym (append-nil v.log));
       };

@@ -6,6 +6,7 @@ use Rattle.qp_kernel_turns.specs.TurnRows.{VisitsRow}
 use Rattle.qp_kernel_turns.specs.Ordering.{LooksInOrder, VisitsInOrder}
 use Rattle.qp_kernel_turns.specs.Turning.{LooksTo, VisitsTo, stand_of, terms_of}
 use Rattle.std.proofs.lemmas.Result.{err_from_is_err_and}
+use Rattle.qp_kernel_turns.proofs.Asking.{asks-kept, asks-none, asks-row, asks-then}
 use Rattle.qp_kernel_turns.proofs.Counting.{counted-none, counted-on, counted-then, less-looks, never-still, none-top, steps-none, steps-same, still-before, still-step}
 use Rattle.qp_kernel_turns.proofs.Pending.{steps-over}
 use Rattle.qp_kernel_turns.proofs.Tops.{empty-is}
@@ -57,6 +58,7 @@ returns-then-not-happened g c =
       lane = looked-scanned g.W.World.acts (lane c.args.world.now) (lane c.loop.world) (lane c.look.new.world) (lane c.scan.new.world) c.loop.invariant.lane c.in_ok-happened.ensures.lane c.in_ok-found.ensures.lane;
       counted = counted-then 0 (omega arith) c.args.kernel.now c.loop.kernel c.look.new.kernel c.scan.new.kernel c.args.objects.now c.loop.objects c.scan.new.objects c.loop.invariant.counted c.in_ok-happened.ensures.steps c.in_ok-happened.ensures.goes.counted (subst (λ x. BeginsFound c.look.new.kernel c.scan.new.kernel c.loop.objects c.scan.new.objects (Ok x)) c.if-found.false c.in_ok-found.ensures.begun) pass.looks;
       tells = tells-then c.args.kernel.now.steps c.look.new.kernel.steps c.scan.new.kernel.steps c.args.gate.now.steps.list c.loop.gate.steps.list c.scan.new.gate.steps.list (tells-kept c.args.kernel.now.steps c.loop.kernel.steps c.look.new.kernel.steps c.args.gate.now.steps.list c.loop.gate.steps.list c.loop.invariant.tells c.in_ok-happened.ensures.steps) c.in_ok-found.ensures.tells;
+      asks = asks-row g.W.World.acts c.args.kernel.now c.loop.kernel c.look.new.kernel c.scan.new.kernel (lane c.args.world.now) (lane c.loop.world) (lane c.look.new.world) (lane c.scan.new.world) c.loop.invariant.asks c.in_ok-happened.ensures.asks c.in_ok-found.ensures.asks;
       pending = steps-end;
       rows = λ apart. row-over sys terms c.args.kernel.now c.loop.kernel (lane c.args.world.now) a.lane (c.loop.invariant.rows apart) c.scan.new.kernel d (subst (λ x. VisitsRow sys terms (above sys c.floor-low.result) [] b.lane d.lane (Ok x)) c.if-found.false c.in_ok-found.ensures.rows a.lane (subst (λ f. InRow sys terms (above sys f) a.lane b.lane) (sym c.floor-low.ensures) c.in_ok-happened.ensures.goes.row)) (steps-same c.loop.kernel c.look.new.kernel c.scan.new.kernel c.loop.objects c.scan.new.objects c.in_ok-happened.ensures.steps (subst (λ x. BeginsFound c.look.new.kernel c.scan.new.kernel c.loop.objects c.scan.new.objects (Ok x)) c.if-found.false c.in_ok-found.ensures.begun)) pass.knows steps-end;
     }
@@ -80,6 +82,7 @@ loop-preserved g c =
       lane = looked-scanned g.W.World.acts (lane c.args.world.now) (lane c.loop.world) (lane c.look.new.world) (lane c.scan.new.world) c.loop.invariant.lane c.in_ok-happened.ensures.lane c.in_ok-found.ensures.lane;
       counted = counted-then 0 (omega arith) c.args.kernel.now c.loop.kernel c.look.new.kernel c.scan.new.kernel c.args.objects.now c.loop.objects c.scan.new.objects c.loop.invariant.counted c.in_ok-happened.ensures.steps c.in_ok-happened.ensures.goes.counted (subst (λ x. BeginsFound c.look.new.kernel c.scan.new.kernel c.loop.objects c.scan.new.objects (Ok x)) c.if-found.false c.in_ok-found.ensures.begun) pass.looks;
       tells = tells-then c.args.kernel.now.steps c.look.new.kernel.steps c.scan.new.kernel.steps c.args.gate.now.steps.list c.loop.gate.steps.list c.scan.new.gate.steps.list (tells-kept c.args.kernel.now.steps c.loop.kernel.steps c.look.new.kernel.steps c.args.gate.now.steps.list c.loop.gate.steps.list c.loop.invariant.tells c.in_ok-happened.ensures.steps) c.in_ok-found.ensures.tells;
+      asks = asks-row g.W.World.acts c.args.kernel.now c.loop.kernel c.look.new.kernel c.scan.new.kernel (lane c.args.world.now) (lane c.loop.world) (lane c.look.new.world) (lane c.scan.new.world) c.loop.invariant.asks c.in_ok-happened.ensures.asks c.in_ok-found.ensures.asks;
       rows = λ apart.
           row-again sys terms c.args.kernel.now c.loop.kernel (lane c.args.world.now) a.lane (c.loop.invariant.rows apart) c.scan.new.kernel d (subst (λ x. VisitsRow sys terms (above sys c.floor-low.result) [] b.lane d.lane (Ok x)) c.if-found.false c.in_ok-found.ensures.rows a.lane (subst (λ f. InRow sys terms (above sys f) a.lane b.lane) (sym c.floor-low.ensures) c.in_ok-happened.ensures.goes.row)) (steps-same c.loop.kernel c.look.new.kernel c.scan.new.kernel c.loop.objects c.scan.new.objects c.in_ok-happened.ensures.steps (subst (λ x. BeginsFound c.look.new.kernel c.scan.new.kernel c.loop.objects c.scan.new.objects (Ok x)) c.if-found.false c.in_ok-found.ensures.begun)) pass.knows g.W.World.acts apart (c.in_ok-happened.ensures.rows c.if-not-happened.false) c.requires.plain
           (came-is sys terms c.args.objects.now (lane c.args.world.now) a b d c.loop.invariant.onward true look pass);
@@ -139,6 +142,7 @@ loop-preserved-in-Continue-branch-3 g c =
       lane = goes-then g.W.World.acts (lane c.args.world.now) (lane c.scan.new.world) (lane c.step.new.world) (looked-scanned g.W.World.acts (lane c.args.world.now) (lane c.loop.world) (lane c.look.new.world) (lane c.scan.new.world) c.loop.invariant.lane c.in_ok-happened.ensures.lane c.in_ok-found.ensures.lane) (goes-any g.W.World.acts (lane c.scan.new.world) (lane c.step.new.world) c.in_ok-step.ensures.lane);
       counted = counted-on c.args.kernel.now c.scan.new.kernel c.step.new.kernel c.args.objects.now c.scan.new.objects c.step.new.objects (counted-then 1 (omega arith) c.args.kernel.now c.loop.kernel c.look.new.kernel c.scan.new.kernel c.args.objects.now c.loop.objects c.scan.new.objects c.loop.invariant.counted c.in_ok-happened.ensures.steps c.in_ok-happened.ensures.goes.counted (subst (λ x. BeginsFound c.look.new.kernel c.scan.new.kernel c.loop.objects c.scan.new.objects (Ok x)) c.if-found.true c.in_ok-found.ensures.begun) enter.looks) c.in_ok-step.ensures.begun c.in_ok-step.ensures.goes.looks;
       tells = tells-step c.args.kernel.now.steps c.scan.new.kernel.steps c.step.new.kernel.steps c.args.gate.now.steps.list c.scan.new.gate.steps.list (tells-then c.args.kernel.now.steps c.look.new.kernel.steps c.scan.new.kernel.steps c.args.gate.now.steps.list c.loop.gate.steps.list c.scan.new.gate.steps.list (tells-kept c.args.kernel.now.steps c.loop.kernel.steps c.look.new.kernel.steps c.args.gate.now.steps.list c.loop.gate.steps.list c.loop.invariant.tells c.in_ok-happened.ensures.steps) c.in_ok-found.ensures.tells) c.in_ok-step.ensures.begun.steps;
+      asks = asks-then g.W.World.acts c.args.kernel.now c.scan.new.kernel c.step.new.kernel (lane c.args.world.now) (lane c.scan.new.world) (lane c.step.new.world) (asks-row g.W.World.acts c.args.kernel.now c.loop.kernel c.look.new.kernel c.scan.new.kernel (lane c.args.world.now) (lane c.loop.world) (lane c.look.new.world) (lane c.scan.new.world) c.loop.invariant.asks c.in_ok-happened.ensures.asks c.in_ok-found.ensures.asks) (asks-kept g.W.World.acts c.scan.new.kernel c.step.new.kernel (lane c.scan.new.world) (lane c.step.new.world) c.in_ok-step.ensures.looks (steps-none c.scan.new.kernel c.step.new.kernel c.scan.new.objects c.step.new.objects c.in_ok-step.ensures.begun) (λ apart. c.in_ok-step.ensures.lane.keeps.asks refl));
       rows = λ apart. row-found sys terms c.args.kernel.now c.loop.kernel (lane c.args.world.now) a.lane (c.loop.invariant.rows apart) c.step.new.kernel d.lane z.lane (subst (λ x. VisitsRow sys terms (above sys c.floor-low.result) [] b.lane d.lane (Ok x)) c.if-found.true c.in_ok-found.ensures.rows a.lane (subst (λ f. InRow sys terms (above sys f) a.lane b.lane) (sym c.floor-low.ensures) c.in_ok-happened.ensures.goes.row)) c.in_ok-step.ensures.goes.row;
       quiet = λ base same. absurd (never-still c.args.kernel.now c.loop.kernel c.look.new.kernel c.scan.new.kernel c.step.new.kernel c.args.objects.now c.loop.objects c.scan.new.objects c.step.new.objects c.loop.invariant.counted c.in_ok-happened.ensures.steps (subst (λ x. BeginsFound c.look.new.kernel c.scan.new.kernel c.loop.objects c.scan.new.objects (Ok x)) c.if-found.true c.in_ok-found.ensures.begun) c.in_ok-step.ensures.begun same);
     }
@@ -162,6 +166,7 @@ loop-preserved-in-Continue-branch-4 g c =
       lane = goes-then g.W.World.acts (lane c.args.world.now) (lane c.scan.new.world) (lane c.step-in-Some-top.new.world) (looked-scanned g.W.World.acts (lane c.args.world.now) (lane c.loop.world) (lane c.look.new.world) (lane c.scan.new.world) c.loop.invariant.lane c.in_ok-happened.ensures.lane c.in_ok-found.ensures.lane) (goes-any g.W.World.acts (lane c.scan.new.world) (lane c.step-in-Some-top.new.world) c.in_ok-step-in-Some-top.ensures.lane);
       counted = counted-on c.args.kernel.now c.scan.new.kernel c.step-in-Some-top.new.kernel c.args.objects.now c.scan.new.objects c.step-in-Some-top.new.objects (counted-then 0 (omega arith) c.args.kernel.now c.loop.kernel c.look.new.kernel c.scan.new.kernel c.args.objects.now c.loop.objects c.scan.new.objects c.loop.invariant.counted c.in_ok-happened.ensures.steps c.in_ok-happened.ensures.goes.counted (subst (λ x. BeginsFound c.look.new.kernel c.scan.new.kernel c.loop.objects c.scan.new.objects (Ok x)) c.if-found.false c.in_ok-found.ensures.begun) pass.looks) c.in_ok-step-in-Some-top.ensures.begun c.in_ok-step-in-Some-top.ensures.goes.looks;
       tells = tells-step c.args.kernel.now.steps c.scan.new.kernel.steps c.step-in-Some-top.new.kernel.steps c.args.gate.now.steps.list c.scan.new.gate.steps.list (tells-then c.args.kernel.now.steps c.look.new.kernel.steps c.scan.new.kernel.steps c.args.gate.now.steps.list c.loop.gate.steps.list c.scan.new.gate.steps.list (tells-kept c.args.kernel.now.steps c.loop.kernel.steps c.look.new.kernel.steps c.args.gate.now.steps.list c.loop.gate.steps.list c.loop.invariant.tells c.in_ok-happened.ensures.steps) c.in_ok-found.ensures.tells) c.in_ok-step-in-Some-top.ensures.begun.steps;
+      asks = asks-then g.W.World.acts c.args.kernel.now c.scan.new.kernel c.step-in-Some-top.new.kernel (lane c.args.world.now) (lane c.scan.new.world) (lane c.step-in-Some-top.new.world) (asks-row g.W.World.acts c.args.kernel.now c.loop.kernel c.look.new.kernel c.scan.new.kernel (lane c.args.world.now) (lane c.loop.world) (lane c.look.new.world) (lane c.scan.new.world) c.loop.invariant.asks c.in_ok-happened.ensures.asks c.in_ok-found.ensures.asks) (asks-kept g.W.World.acts c.scan.new.kernel c.step-in-Some-top.new.kernel (lane c.scan.new.world) (lane c.step-in-Some-top.new.world) c.in_ok-step-in-Some-top.ensures.looks (steps-none c.scan.new.kernel c.step-in-Some-top.new.kernel c.scan.new.objects c.step-in-Some-top.new.objects c.in_ok-step-in-Some-top.ensures.begun) (λ apart. c.in_ok-step-in-Some-top.ensures.lane.keeps.asks refl));
       rows = λ apart.
           row-steps sys terms c.args.kernel.now c.loop.kernel (lane c.args.world.now) a.lane (c.loop.invariant.rows apart) c.scan.new.kernel d (subst (λ x. VisitsRow sys terms (above sys c.floor-low.result) [] b.lane d.lane (Ok x)) c.if-found.false c.in_ok-found.ensures.rows a.lane (subst (λ f. InRow sys terms (above sys f) a.lane b.lane) (sym c.floor-low.ensures) c.in_ok-happened.ensures.goes.row)) (steps-same c.loop.kernel c.look.new.kernel c.scan.new.kernel c.loop.objects c.scan.new.objects c.in_ok-happened.ensures.steps (subst (λ x. BeginsFound c.look.new.kernel c.scan.new.kernel c.loop.objects c.scan.new.objects (Ok x)) c.if-found.false c.in_ok-found.ensures.begun)) pass.knows c.in-Some-top.field-0 c.step-in-Some-top.new.kernel z.lane c.in-Some-top.ensures
           (steps-none c.scan.new.kernel c.step-in-Some-top.new.kernel c.scan.new.objects c.step-in-Some-top.new.objects c.in_ok-step-in-Some-top.ensures.begun) c.in_ok-step-in-Some-top.ensures.goes.row;
@@ -212,6 +217,7 @@ loop-init g c = record {
   lane = goes-none g.W.World.acts (g.W.Ops.lane c.args.world.now);
   counted = counted-none c.args.kernel.now c.args.objects.now c.requires.counted;
   tells = tells-none c.args.kernel.now.steps c.args.gate.now.steps.list;
+  asks = asks-none g.W.World.acts c.args.kernel.now (g.W.Ops.lane c.args.world.now);
   rows = λ apart. row-begins c.args.at.now.sys.now (terms_of c.args.at.now) c.args.kernel.now (g.W.Ops.lane c.args.world.now);
   quiet = λ base same. (base, λ p h. h);
 }
@@ -278,3 +284,23 @@ returns-in_err-step-clause-tells g c = tells-step c.args.kernel.now.steps c.scan
 
 pub returns-in_err-step-in-Some-top-clause-tells : goal.returns-in_err-step-in-Some-top-clause-tells
 returns-in_err-step-in-Some-top-clause-tells g c = tells-step c.args.kernel.now.steps c.scan.new.kernel.steps c.step-in-Some-top.new.kernel.steps c.args.gate.now.steps.list c.scan.new.gate.steps.list (tells-then c.args.kernel.now.steps c.look.new.kernel.steps c.scan.new.kernel.steps c.args.gate.now.steps.list c.loop.gate.steps.list c.scan.new.gate.steps.list (tells-kept c.args.kernel.now.steps c.loop.kernel.steps c.look.new.kernel.steps c.args.gate.now.steps.list c.loop.gate.steps.list c.loop.invariant.tells c.in_ok-happened.ensures.steps) c.in_ok-found.ensures.tells) c.in_err-step-in-Some-top.ensures.begun.steps
+
+pub returns-in_err-happened-clause-asks : goal.returns-in_err-happened-clause-asks
+returns-in_err-happened-clause-asks g c =
+    let lane = g.W.Ops.lane in
+    asks-then g.W.World.acts c.args.kernel.now c.loop.kernel c.look.new.kernel (lane c.args.world.now) (lane c.loop.world) (lane c.look.new.world) c.loop.invariant.asks c.in_err-happened.ensures.asks
+
+pub returns-in_err-found-clause-asks : goal.returns-in_err-found-clause-asks
+returns-in_err-found-clause-asks g c =
+    let lane = g.W.Ops.lane in
+    asks-row g.W.World.acts c.args.kernel.now c.loop.kernel c.look.new.kernel c.scan.new.kernel (lane c.args.world.now) (lane c.loop.world) (lane c.look.new.world) (lane c.scan.new.world) c.loop.invariant.asks c.in_ok-happened.ensures.asks c.in_err-found.ensures.asks
+
+pub returns-in_err-step-clause-asks : goal.returns-in_err-step-clause-asks
+returns-in_err-step-clause-asks g c =
+    let lane = g.W.Ops.lane in
+    asks-then g.W.World.acts c.args.kernel.now c.scan.new.kernel c.step.new.kernel (lane c.args.world.now) (lane c.scan.new.world) (lane c.step.new.world) (asks-row g.W.World.acts c.args.kernel.now c.loop.kernel c.look.new.kernel c.scan.new.kernel (lane c.args.world.now) (lane c.loop.world) (lane c.look.new.world) (lane c.scan.new.world) c.loop.invariant.asks c.in_ok-happened.ensures.asks c.in_ok-found.ensures.asks) (asks-kept g.W.World.acts c.scan.new.kernel c.step.new.kernel (lane c.scan.new.world) (lane c.step.new.world) c.in_err-step.ensures.looks (steps-none c.scan.new.kernel c.step.new.kernel c.scan.new.objects c.step.new.objects c.in_err-step.ensures.begun) (λ apart. c.in_err-step.ensures.lane.keeps.asks refl))
+
+pub returns-in_err-step-in-Some-top-clause-asks : goal.returns-in_err-step-in-Some-top-clause-asks
+returns-in_err-step-in-Some-top-clause-asks g c =
+    let lane = g.W.Ops.lane in
+    asks-then g.W.World.acts c.args.kernel.now c.scan.new.kernel c.step-in-Some-top.new.kernel (lane c.args.world.now) (lane c.scan.new.world) (lane c.step-in-Some-top.new.world) (asks-row g.W.World.acts c.args.kernel.now c.loop.kernel c.look.new.kernel c.scan.new.kernel (lane c.args.world.now) (lane c.loop.world) (lane c.look.new.world) (lane c.scan.new.world) c.loop.invariant.asks c.in_ok-happened.ensures.asks c.in_ok-found.ensures.asks) (asks-kept g.W.World.acts c.scan.new.kernel c.step-in-Some-top.new.kernel (lane c.scan.new.world) (lane c.step-in-Some-top.new.world) c.in_err-step-in-Some-top.ensures.looks (steps-none c.scan.new.kernel c.step-in-Some-top.new.kernel c.scan.new.objects c.step-in-Some-top.new.objects c.in_err-step-in-Some-top.ensures.begun) (λ apart. c.in_err-step-in-Some-top.ensures.lane.keeps.asks refl))

@@ -1,6 +1,6 @@
 use Rattle.qp_told.specs.Steps.{TellsSteps}
 use Rattle.qp_kernel_turns.specs.Knowing.{MayLook}
-use Rattle.qp_kernel_turns.specs.Counting.{AreCounted}
+use Rattle.qp_kernel_turns.specs.Counting.{AreCounted, Asks}
 use Rattle.qp_kernel_turns.specs.Lanes.{LaneGoes}
 use Rattle.qp_kernel_turns.specs.Ordering.{InOrder}
 use Rattle.qp_kernel_turns.specs.Pending.{PendingStays}
@@ -19,6 +19,7 @@ invariant-loop g l =
       lane : LaneGoes g.W.World.acts (g.W.Ops.lane l.fn.world) (g.W.Ops.lane l.world);
       counted : AreCounted l.fn.kernel l.kernel l.fn.objects l.objects;
       tells : TellsSteps l.fn.kernel.steps l.kernel.steps l.fn.gate.steps.list l.gate.steps.list;
+      asks : Asks g.W.World.acts l.fn.kernel l.kernel (g.W.Ops.lane l.fn.world) (g.W.Ops.lane l.world);
       rows : AreApart g.W.World.acts (terms_of l.at) → RowGoes l.at.sys.now (terms_of l.at) l.fn.kernel l.kernel (g.W.Ops.lane l.fn.world) (g.W.Ops.lane l.world);
       quiet : l.fn.kernel.stack.items ≡ [] → l.kernel.steps ≡ l.fn.kernel.steps → (l.kernel.stack.items ≡ []) × PendingStays (g.W.Ops.lane l.fn.world) (g.W.Ops.lane l.world);
     }

@@ -5,6 +5,7 @@ use Rattle.qp_kernel_turns.specs.Ordering.{AreSeenEmpty, PassedInOrder, VisitsIn
 use Rattle.qp_kernel_turns.specs.Turning.{Passed, Stood, VisitsTo, row_below, stand_of, terms_of}
 use Rattle.qp_kernel_turns.specs.Counting.{BeginsFound}
 use Rattle.qp_kernel_turns.specs.TurnRows.{VisitsRow}
+use Rattle.qp_kernel_turns.proofs.Asking.{asks-none, asks-then}
 use Rattle.qp_kernel_turns.proofs.Counting.{begin-none}
 use Rattle.qp_kernel_turns.proofs.Lanes.{goes-none, goes-then, halts-then}
 use Rattle.std.proofs.lemmas.Result.{err_from_is_err_and}
@@ -35,6 +36,7 @@ loop-place-init g c =
       lane = goes-none g.W.World.acts (g.W.Ops.lane c.args.world.now);
       begun = begin-none c.args.kernel.now c.args.objects.now;
       tells = tells-none c.args.kernel.now.steps c.args.gate.now.steps.list;
+      asks = asks-none g.W.World.acts c.args.kernel.now (g.W.Ops.lane c.args.world.now);
       rows = λ u row. subst (λ ps. InRow sys (terms_of c.args.at.now) ps u (g.W.Ops.lane c.args.world.now)) (sym all) row;
     }
 
@@ -65,6 +67,7 @@ returns g c =
       lane = c.loop-place.invariant.lane;
       begun = c.loop-place.invariant.begun;
       tells = c.loop-place.invariant.tells;
+      asks = c.loop-place.invariant.asks;
       rows = λ u row. subst (λ ps. InRow sys (terms_of c.args.at.now) ps u (lane c.loop-place.world)) all (c.loop-place.invariant.rows u row);
     }
 
@@ -135,6 +138,7 @@ loop-place-preserved g c =
       lane = goes-then g.W.World.acts (lane c.args.world.now) v w so_far.lane c.in_ok-visit.ensures.lane;
       begun = record { steps = omega (arith, steps, steps_so_far); taken = omega (arith, taken, taken_so_far) };
       tells = tells-then c.args.kernel.now.steps c.loop-place.kernel.steps c.visit.new.kernel.steps c.args.gate.now.steps.list c.loop-place.gate.steps.list c.visit.new.gate.steps.list so_far.tells c.in_ok-visit.ensures.tells;
+      asks = asks-then g.W.World.acts c.args.kernel.now c.loop-place.kernel c.visit.new.kernel (lane c.args.world.now) v w so_far.asks c.in_ok-visit.ensures.asks;
       rows = λ u row. rows u (subst (λ m. InRow sys terms (row_below sys floor m) u v) same (so_far.rows u row));
     }
 
@@ -145,3 +149,13 @@ returns-in_err-visit-clause-tells g c =
 pub returns-then-branch-clause-tells : goal.returns-then-branch-clause-tells
 returns-then-branch-clause-tells g c =
     tells-then c.args.kernel.now.steps c.loop-place.kernel.steps c.visit.new.kernel.steps c.args.gate.now.steps.list c.loop-place.gate.steps.list c.visit.new.gate.steps.list c.loop-place.invariant.tells c.in_ok-visit.ensures.tells
+
+pub returns-in_err-visit-clause-asks : goal.returns-in_err-visit-clause-asks
+returns-in_err-visit-clause-asks g c =
+    let lane = g.W.Ops.lane in
+    asks-then g.W.World.acts c.args.kernel.now c.loop-place.kernel c.visit.new.kernel (lane c.args.world.now) (lane c.loop-place.world) (lane c.visit.new.world) c.loop-place.invariant.asks c.in_err-visit.ensures.asks
+
+pub returns-then-branch-clause-asks : goal.returns-then-branch-clause-asks
+returns-then-branch-clause-asks g c =
+    let lane = g.W.Ops.lane in
+    asks-then g.W.World.acts c.args.kernel.now c.loop-place.kernel c.visit.new.kernel (lane c.args.world.now) (lane c.loop-place.world) (lane c.visit.new.world) c.loop-place.invariant.asks c.in_ok-visit.ensures.asks

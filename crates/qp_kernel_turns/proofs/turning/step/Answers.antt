@@ -44,6 +44,7 @@ returns-in-Point g c =
       rests = tt;
       lane = resumed-lane sys c.args.objects.now.ceiling c.resume-answer.new.ceiling c.in-Some.p c.args.objects.now c.resume-answer.new.self v w step.Point c.in-Point.ensures;
       begun = record { steps = omega arith; taken = taken-resumes sys c.args.objects.now.ceiling c.resume-answer.new.ceiling c.in-Some.p c.args.objects.now c.resume-answer.new.self v w step.Point c.in-Point.ensures };
+      looks = refl;
       rows = tt;
     }
 
@@ -70,6 +71,7 @@ returns-in-Done g c =
       rests = tt;
       lane = resumed-lane sys c.args.objects.now.ceiling c.resume-answer.new.ceiling c.in-Some.p c.args.objects.now c.resume-answer.new.self v w step.Done c.in-Done.ensures;
       begun = record { steps = omega arith; taken = taken-resumes sys c.args.objects.now.ceiling c.resume-answer.new.ceiling c.in-Some.p c.args.objects.now c.resume-answer.new.self v w step.Done c.in-Done.ensures };
+      looks = refl;
       rows = tt;
     }
 
@@ -92,6 +94,7 @@ returns-in-Stopped g c =
           a.1.records (subst (λ l. has l r.p ≡ true) (sym r.top) (has-last r.outer r.p)) put.put.slots a.1.told a.1.apart;
       lane = resumed-lane sys c.args.objects.now.ceiling c.resume-answer.new.ceiling c.in-Some.p c.args.objects.now c.resume-answer.new.self v w step.Stopped c.in-Stopped.ensures;
       begun = record { steps = omega arith; taken = taken-resumes sys c.args.objects.now.ceiling c.resume-answer.new.ceiling c.in-Some.p c.args.objects.now c.resume-answer.new.self v w step.Stopped c.in-Stopped.ensures };
+      looks = refl;
       rows = a.2;
     }
 
@@ -107,6 +110,7 @@ returns-in-Memory g c =
       rests = tt;
       lane = resumed-lane sys c.args.objects.now.ceiling c.resume-answer.new.ceiling c.in-Some.p c.args.objects.now c.resume-answer.new.self v w step.Memory c.in-Memory.ensures;
       begun = record { steps = omega arith; taken = taken-resumes sys c.args.objects.now.ceiling c.resume-answer.new.ceiling c.in-Some.p c.args.objects.now c.resume-answer.new.self v w step.Memory c.in-Memory.ensures };
+      looks = refl;
       rows = tt;
     }
 
@@ -120,5 +124,6 @@ returns-in_default g c =
       rests = tt;
       lane = stops-memory false v v (lane c.stop.new.self) (goes-none false v) c.stop.ensures;
       begun = begin-none c.args.kernel.now c.args.objects.now;
+      looks = refl;
       rows = tt;
     }

@@ -8,9 +8,10 @@ use Rattle.qp_model.specs.Told.{plain}
 use Rattle.qp_model.specs.WordLaw.{is_object}
 use Rattle.qp_calls.proofs.Noting.{may-note}
 use Rattle.qp_kernel_turns.specs.Turning.{stand_of, terms_of}
+use Rattle.qp_kernel_turns.proofs.Asking.{asks-kept, asks-none}
 use Rattle.qp_kernel_turns.proofs.Counting.{begin-none, taken-begins}
 use Rattle.qp_kernel_turns.proofs.Halted.{halts-turn}
-use Rattle.qp_kernel_turns.proofs.Lanes.{finds-stop, goes-none, halts-lane, seen-lane, spent-lane, took-lane}
+use Rattle.qp_kernel_turns.proofs.Lanes.{finds-stop, goes-none, halts-lane, seen-lane, spent-lane, took-asks, took-lane}
 use Rattle.qp_kernel_turns.proofs.Ordered.{halts-in_order, passed-in_order, seen-skip, spent-in_order, stopped-seen, took-in_order}
 use Rattle.qp_kernel_turns.proofs.Resting.{rests-halted, rests-noted, rests-spent}
 use Rattle.qp_kernel_turns.proofs.Staying.{all-wait}
@@ -31,6 +32,7 @@ returns-then-p-floor g c =
       lane = goes-none g.W.World.acts (g.W.Ops.lane c.args.world.now);
       begun = begin-none c.args.kernel.now c.args.objects.now;
       tells = tells-none c.args.kernel.now.steps c.args.gate.now.steps.list;
+      asks = asks-none g.W.World.acts c.args.kernel.now (g.W.Ops.lane c.args.world.now);
       rows = λ u row. skipped-row sys c.requires.sound (terms_of c.args.at.now) (stand_of c.args.kernel.now c.args.objects.now (g.W.Ops.lane c.args.world.now)) c.args.floor c.args.place o at c.if-p-floor.true u row;
     }
 
@@ -51,6 +53,7 @@ returns-in_err-ready g c =
       lane = halts-lane g.W.World.acts (lane c.args.world.now) (lane c.ready.new.ops) c.in_err-ready.field-0.0 c.in_err-ready.ensures;
       begun = begin-none c.args.kernel.now c.args.objects.now;
       tells = tells-none c.args.kernel.now.steps c.args.gate.now.steps.list;
+      asks = asks-kept g.W.World.acts c.args.kernel.now c.args.kernel.now (g.W.Ops.lane c.args.world.now) (g.W.Ops.lane c.ready.new.ops) refl refl (halts-lane g.W.World.acts (lane c.args.world.now) (lane c.ready.new.ops) c.in_err-ready.field-0.0 c.in_err-ready.ensures).keeps.asks;
       rows = λ u row. halted-row sys c.requires.sound (terms_of c.args.at.now) (stand_of c.args.kernel.now c.args.objects.now (lane c.args.world.now)) c.args.floor c.args.place o at c.if-p-floor.false c.requires.knows u (lane c.ready.new.ops) c.in_err-ready.field-0.0 row c.in_err-ready.ensures;
     })
 
@@ -79,6 +82,7 @@ returns-then-from g c =
       lane = seen-lane g.W.World.acts o.priority counts (lane c.args.world.now) (lane c.ready.new.ops) (lane c.seen-now.new.self) room c.seen-now.ensures;
       begun = begin-none c.args.kernel.now c.args.objects.now;
       tells = tells-none c.args.kernel.now.steps c.args.gate.now.steps.list;
+      asks = asks-kept g.W.World.acts c.args.kernel.now c.args.kernel.now (g.W.Ops.lane c.args.world.now) (g.W.Ops.lane c.seen-now.new.self) refl refl (seen-lane g.W.World.acts o.priority counts (lane c.args.world.now) (lane c.ready.new.ops) (lane c.seen-now.new.self) room c.seen-now.ensures).keeps.asks;
       rows = λ u row. empty-row sys c.requires.sound (terms_of c.args.at.now) (stand_of c.args.kernel.now c.args.objects.now (lane c.args.world.now)) c.args.floor c.args.place o at c.if-p-floor.false c.requires.knows (lane c.ready.new.ops) (lane c.seen-now.new.self) counts room c.seen-now.ensures none u row;
     }
 
@@ -122,6 +126,7 @@ returns-then-taken-at g c =
       lane = spent-lane g.W.World.acts o.priority counts (lane c.args.world.now) (lane c.ready.new.ops) (lane c.seen-now.new.self) room c.seen-now.ensures c.spent.result (lane c.note.new.self) (lane c.stop.new.self) c.spent.ensures c.note.ensures.grows c.stop.ensures;
       begun = begin-none c.args.kernel.now c.args.objects.now;
       tells = tells-none c.args.kernel.now.steps c.args.gate.now.steps.list;
+      asks = asks-kept g.W.World.acts c.args.kernel.now c.args.kernel.now (g.W.Ops.lane c.args.world.now) (g.W.Ops.lane c.stop.new.self) refl refl (spent-lane g.W.World.acts o.priority counts (lane c.args.world.now) (lane c.ready.new.ops) (lane c.seen-now.new.self) room c.seen-now.ensures c.spent.result (lane c.note.new.self) (lane c.stop.new.self) c.spent.ensures c.note.ensures.grows c.stop.ensures).keeps.asks;
       rows = λ u row. spent-row sys c.requires.sound (terms_of c.args.at.now) (stand_of c.args.kernel.now c.args.objects.now (lane c.args.world.now)) c.args.floor c.args.place o at c.if-p-floor.false c.requires.knows (lane c.ready.new.ops) (lane c.seen-now.new.self) counts room c.seen-now.ensures some c.taken.result c.spent.result (lane c.note.new.self) (lane c.stop.new.self) c.taken.ensures c.if-taken-at.true c.spent.ensures c.note.ensures.grows c.stop.ensures u row;
     }
 
@@ -142,6 +147,7 @@ returns-in-Some g c =
       lane = finds-stop g.W.World.acts c.in-Some.field-0 (lane c.args.world.now) (lane c.seen-now.new.self) (lane c.stopped.new.self) (seen-lane g.W.World.acts o.priority counts (lane c.args.world.now) (lane c.ready.new.ops) (lane c.seen-now.new.self) room c.seen-now.ensures) c.in-Some.ensures.0;
       begun = begin-none c.args.kernel.now c.args.objects.now;
       tells = tells-none c.args.kernel.now.steps c.args.gate.now.steps.list;
+      asks = asks-kept g.W.World.acts c.args.kernel.now c.args.kernel.now (g.W.Ops.lane c.args.world.now) (g.W.Ops.lane c.stopped.new.self) refl refl (finds-stop g.W.World.acts c.in-Some.field-0 (lane c.args.world.now) (lane c.seen-now.new.self) (lane c.stopped.new.self) (seen-lane g.W.World.acts o.priority counts (lane c.args.world.now) (lane c.ready.new.ops) (lane c.seen-now.new.self) room c.seen-now.ensures) c.in-Some.ensures.0).keeps.asks;
       rows = λ u row. found-row sys c.requires.sound (terms_of c.args.at.now) (stand_of c.args.kernel.now c.args.objects.now (lane c.args.world.now)) c.args.floor c.args.place o at c.if-p-floor.false c.requires.knows (lane c.ready.new.ops) (lane c.seen-now.new.self) counts room c.seen-now.ensures some c.in-Some.field-0 (lane c.stopped.new.self) c.in-Some.ensures.0 u row;
     }
 
@@ -190,6 +196,7 @@ returns g c =
       lane = took-lane g.W.World.acts o.priority counts (lane c.args.world.now) (lane c.ready.new.ops) (lane c.seen-now.new.self) room c.seen-now.ensures c.in-Taken.e (lane c.stopped.new.self) (lane c.take.new.self) c.in_default.ensures.0 c.in-Taken.ensures;
       begun = record { steps = c.one_more-kernel.ensures; taken = taken-begins o.priority c.in-Taken.e c.args.objects.now c.begin.new.self c.begin.ensures };
       tells = tells-one c.args.kernel.now.steps c.one_more-kernel.result c.args.gate.now.steps.list c.tells.new.self.steps.list c.one_more-kernel.ensures c.tells.ensures;
+      asks = λ apart. let more = took-asks g.W.World.acts o.priority counts (lane c.args.world.now) (lane c.ready.new.ops) (lane c.seen-now.new.self) room c.seen-now.ensures c.in-Taken.e (lane c.stopped.new.self) (lane c.take.new.self) c.in_default.ensures.0 c.in-Taken.ensures in let one = c.one_more-kernel.ensures in omega (arith, more, one);
       rows = λ u row. enters-row sys c.requires.sound (terms_of c.args.at.now) (stand_of c.args.kernel.now c.args.objects.now (lane c.args.world.now)) c.args.floor c.args.place o at c.if-p-floor.false c.requires.knows (lane c.ready.new.ops) (lane c.seen-now.new.self) counts room c.seen-now.ensures some c.taken.result (lane c.stopped.new.self) (lane c.take.new.self) c.in-Taken.e c.begin.new.self c.taken.ensures c.if-taken-at.false c.in_default.ensures.0 c.in-Taken.ensures c.begin.ensures u row;
     }
 
