@@ -27,6 +27,7 @@ pub finishes-one : (was is : Bool) (x y z : BellLane) → KeepsCounts x y → Cl
 finishes-one was is x y z keeps c = record {
   perch = c.counts.perch ∙ keeps.perch;
   ended = c.counts.ended ∙ ap (λ n. (n + 1) % 2 ^ 64) keeps.ended;
+  added = c.counts.added ∙ keeps.added;
   looks = c.counts.looks ∙ keeps.looks;
   last = c.counts.last;
   lasts = c.counts.lasts ∙ ap (λ n. n + one_where c.counts.last) keeps.lasts;
@@ -41,6 +42,7 @@ finishes-one was is x y z keeps c = record {
 pub rests-same : (x w : BellLane) → w.closings ≡ x.closings → w.farewells ≡ x.farewells → LaneRests false x w
 rests-same x w closings farewells = record {
   ended = ap (λ c. c.ended) closings;
+  added = ap (λ c. c.seat.me.0.added) closings;
   looks = let same = ap (λ c. c.seat.me.0.empty_looks) closings in omega (arith, same);
   lasts = ap (λ c. c.seat.me.0.last_takes) closings;
   said = ap (λ f. f.said) farewells;
@@ -59,7 +61,7 @@ module _ (x w : BellLane) (keeps : KeepsPerch x w) where
 
 pub looked : (over : Bool) (x y : BellLane) → LooksAtCount over x y → HasNotParked over x y
 looked over x y looks = record {
-  rests = record { ended = looks.ended; looks = looks.looks; lasts = looks.lasts; said = ap (λ f. f.said) looks.farewells };
+  rests = record { ended = looks.ended; added = looks.added; looks = looks.looks; lasts = looks.lasts; said = ap (λ f. f.said) looks.farewells };
   lane = ap ringing_view looks.ringing;
   parks = ap parks_of looks.perch;
 }
@@ -67,6 +69,7 @@ looked over x y looks = record {
 pub rests-then : (x y w : BellLane) → LaneRests false x y → LaneRests false y w → LaneRests false x w
 rests-then x y w one two = record {
   ended = two.ended ∙ one.ended;
+  added = two.added ∙ one.added;
   looks = let first = one.looks in let second = two.looks in omega (arith, first, second);
   lasts = two.lasts ∙ one.lasts;
   said = two.said ∙ one.said;

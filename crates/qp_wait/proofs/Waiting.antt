@@ -25,6 +25,7 @@ waiting-none x = record {
   ts = [];
   told = sym (append-nil (bell_view x).told);
   ended = omega arith;
+  added = refl;
   looks = refl;
   left = 0;
   lasts = omega arith;
@@ -66,6 +67,7 @@ module _ (x y : BellLane) (said : Bool) (h : IsWaiting said x y) where
           let one = closes.ended in
           let all = steps-all 1 (bell_view w).told both in
           omega (arith, first, same, one, all);
+      added = closes.added ∙ keeps.added ∙ h.added;
       looks = closes.looks ∙ keeps.looks ∙ h.looks;
       left = h.left + one_where closes.last;
       lasts =
@@ -101,6 +103,7 @@ module _ (x y : BellLane) (said : Bool) (h : IsWaiting said x y) where
           let same = keeps.ended in
           let more = cut.keeps.ended in
           omega (arith, first, same, more);
+      added = cut.keeps.added ∙ keeps.added ∙ h.added;
       looks =
           let first = h.looks in
           let same = keeps.looks in
@@ -132,6 +135,7 @@ module _ (x y : BellLane) (said : Bool) (h : IsWaiting said x y) where
             let first = h.ended in
             let same = keeps.ended in
             omega (arith, first, same, all);
+        added = keeps.added ∙ h.added;
         looks =
             let first = h.looks in
             let same = keeps.looks in
@@ -167,6 +171,7 @@ module _ (x y : BellLane) (said : Bool) (h : IsWaiting said x y) where
               let same = keeps.ended in
               let still = p.rests.ended in
               omega (arith, first, same, still, all);
+          added = p.rests.added ∙ keeps.added ∙ h.added;
           looks =
               let first = h.looks in
               let same = keeps.looks in
@@ -200,6 +205,7 @@ module _ (x y : BellLane) (said : Bool) (h : IsWaiting said x y) where
               let same = keeps.ended in
               let still = rests.ended in
               omega (arith, first, same, still, all);
+          added = rests.added ∙ keeps.added ∙ h.added;
           looks =
               let first = h.looks in
               let same = keeps.looks in
@@ -229,6 +235,7 @@ waits-said busy x y w h says = record {
   finished = h.finished;
   steps = h.steps;
   ended = ap (λ c. c.ended % 2 ^ 64) says.closings ∙ h.ended;
+  added = ap (λ c. c.seat.me.0.added) says.closings ∙ h.added;
   looks = ap (λ c. c.seat.me.0.empty_looks) says.closings ∙ h.looks;
   left = h.left;
   lasts = ap (λ c. c.seat.me.0.last_takes) says.closings ∙ h.lasts;

@@ -29,6 +29,10 @@ given_in a (c ∷ cs) = if c.object == a then (parker_view c.pass).given else gi
 abbrev pub notes_to : ℕ → BellLane → ℕ
 notes_to a l = given_in a l.ringing.cords.items + given_in a l.farewells.cords.items
 
+-- all that it added to the count beside its claims
+abbrev pub openings : BellLane → ℕ
+openings l = l.closings.seat.me.0.added
+
 -- how many of its looks at the count found nothing there
 abbrev pub empty_looks : BellLane → ℕ
 empty_looks l = l.closings.seat.me.0.empty_looks
@@ -50,6 +54,7 @@ pub record IsAway (old new : BellLane) : Type 0 where
   pub ringing : new.ringing ≡ old.ringing
   pub perch : new.perch ≡ old.perch
   pub ended : new.closings.ended ≡ (old.closings.ended + 1) % 2 ^ 64
+  pub added : openings new ≡ openings old
   pub looks : empty_looks new ≡ empty_looks old
   pub last : last_takes new ≤ last_takes old + 1
   pub said : (new.farewells.said + last_takes old) % 2 ^ 64 ≡ (old.farewells.said + last_takes new) % 2 ^ 64
@@ -67,6 +72,7 @@ pub record ClosesOne (last : Bool) (old new : BellLane) : Type 0 where
   pub farewells : new.farewells ≡ old.farewells
   pub perch : new.perch ≡ old.perch
   pub ended : new.closings.ended ≡ (old.closings.ended + 1) % 2 ^ 64
+  pub added : openings new ≡ openings old
   pub looks : empty_looks new ≡ empty_looks old
   pub lasts : last_takes new ≡ last_takes old + one_where last
 
@@ -76,6 +82,7 @@ pub record LooksAtCount (empty : Bool) (old new : BellLane) : Type 0 where
   pub farewells : new.farewells ≡ old.farewells
   pub perch : new.perch ≡ old.perch
   pub ended : new.closings.ended ≡ old.closings.ended
+  pub added : openings new ≡ openings old
   pub looks : empty_looks new ≡ empty_looks old + one_where empty
   pub lasts : last_takes new ≡ last_takes old
 

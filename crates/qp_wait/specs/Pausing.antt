@@ -11,7 +11,7 @@ use Rattle.qp_kernel_turns.specs.declared.halting.Halt.{Halt}
 use Rattle.qp_kernel_turns.specs.declared.halting.Halt.TheVariants as halt
 use Rattle.qp_wait_bells.specs.Tallies.{one_where}
 use Rattle.qp_wait.specs.declared.lane.BellLane.{BellLane}
-use Rattle.qp_wait.specs.Lane.{bell_view, empty_looks, last_takes}
+use Rattle.qp_wait.specs.Lane.{bell_view, empty_looks, last_takes, openings}
 use Rattle.qp_wait.specs.Parked.{is_park_place, parks_of}
 
 -- a look that found the queue of object `me` empty stands among the records
@@ -21,6 +21,7 @@ HasLook me told = (n : ℕ) × (is_park_place me told n ≡ true)
 -- nothing was taken off the count, and no farewell was said; `over` tells whether a look found nothing on it
 pub record LaneRests (over : Bool) (old new : BellLane) : Type 0 where
   pub ended : new.closings.ended ≡ old.closings.ended
+  pub added : openings new ≡ openings old
   pub looks : empty_looks new ≡ empty_looks old + one_where over
   pub lasts : last_takes new ≡ last_takes old
   pub said : new.farewells.said ≡ old.farewells.said

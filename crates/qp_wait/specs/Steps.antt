@@ -4,11 +4,12 @@ use Rattle.std.specs.declared.result.Result.{Result}
 use Rattle.qp_kernel_turns.specs.declared.halting.Halt.{Halt}
 use Rattle.qp_wait_bells.specs.Tallies.{one_where}
 use Rattle.qp_wait.specs.declared.lane.BellLane.{BellLane}
-use Rattle.qp_wait.specs.Lane.{empty_looks, last_takes}
+use Rattle.qp_wait.specs.Lane.{empty_looks, last_takes, openings}
 
 -- it took nothing off beside refused claims, didn't look at the count, said no farewell, and didn't park
 pub record KeepsCounts (old new : BellLane) : Type 0 where
   pub ended : new.closings.ended ≡ old.closings.ended
+  pub added : openings new ≡ openings old
   pub looks : empty_looks new ≡ empty_looks old
   pub lasts : last_takes new ≡ last_takes old
   pub said : new.farewells.said ≡ old.farewells.said
@@ -19,6 +20,7 @@ pub record KeepsCounts (old new : BellLane) : Type 0 where
 pub record FinishesOne (was is : Bool) (old new : BellLane) : Type 0 where
   pub perch : new.perch ≡ old.perch
   pub ended : new.closings.ended ≡ (old.closings.ended + 1) % 2 ^ 64
+  pub added : openings new ≡ openings old
   pub looks : empty_looks new ≡ empty_looks old
   pub last : Bool
   pub lasts : last_takes new ≡ last_takes old + one_where last

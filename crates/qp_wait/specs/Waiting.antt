@@ -11,7 +11,7 @@ use Rattle.qp_kernel_turns.specs.declared.halting.Halt.{Halt}
 use Rattle.qp_port_lanes.specs.Takes.{is_took}
 use Rattle.qp_wait_bells.specs.Tallies.{one_where}
 use Rattle.qp_wait.specs.declared.lane.BellLane.{BellLane}
-use Rattle.qp_wait.specs.Lane.{bell_view, empty_looks, last_takes}
+use Rattle.qp_wait.specs.Lane.{bell_view, empty_looks, last_takes, openings}
 use Rattle.qp_wait.specs.Parked.{parks_of}
 
 abbrev pub is_nil_at : List ToldItem → ℕ → Bool
@@ -30,6 +30,7 @@ pub record IsWaiting (said : Bool) (old new : BellLane) : Type 0 where
   pub ts : List ToldItem
   pub told : (bell_view new).told ≡ (bell_view old).told ++ ts
   pub ended : new.closings.ended % 2 ^ 64 ≡ (old.closings.ended + steps_in ts) % 2 ^ 64
+  pub added : openings new ≡ openings old
   pub looks : empty_looks new ≡ empty_looks old
   pub left : ℕ
   pub lasts : last_takes new ≡ last_takes old + left
@@ -48,6 +49,7 @@ pub record Waits (over busy : Bool) (more : ℕ) (old new : BellLane) : Type 0 w
   pub finished : ℕ
   pub steps : finished + one_where busy ≡ steps_in ts
   pub ended : new.closings.ended % 2 ^ 64 ≡ (old.closings.ended + finished) % 2 ^ 64
+  pub added : openings new ≡ openings old
   pub looks : empty_looks new ≡ empty_looks old + one_where over
   pub left : ℕ
   pub lasts : last_takes new ≡ last_takes old + left

@@ -30,6 +30,7 @@ impl Closings<'_> {
     /// Takes one off. Whether that left nothing on the count.
     pub fn take_off(&mut self) -> bool
         ensures ended { self.new.ended ≡ (self.old.ended + 1) % 2 ^ 64 }
+        ensures added { self.new.seat.me.0.added ≡ self.old.seat.me.0.added }
         ensures last { self.new.seat.me.0.last_takes ≡ self.old.seat.me.0.last_takes + one_where result }
         ensures looks { self.new.seat.me.0.empty_looks ≡ self.old.seat.me.0.empty_looks }
     {
@@ -41,6 +42,7 @@ impl Closings<'_> {
     /// Whether nothing is on the count.
     pub fn is_zero(&mut self) -> bool
         ensures ended { self.new.ended ≡ self.old.ended }
+        ensures added { self.new.seat.me.0.added ≡ self.old.seat.me.0.added }
         ensures last { self.new.seat.me.0.last_takes ≡ self.old.seat.me.0.last_takes }
         ensures looks { self.new.seat.me.0.empty_looks ≡ self.old.seat.me.0.empty_looks + one_where result }
     {
