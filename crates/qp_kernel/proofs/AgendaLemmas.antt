@@ -19,25 +19,25 @@ use Rattle.qp_model.specs.Acts.{Actor, Config, names_of}
 use Rattle.qp_model.specs.Able.{task_able, chart_able}
 use Rattle.qp_model.specs.Step.{whole_step}
 use Rattle.qp_model.proofs.AbleLemmas.{step-able}
-use Rattle.qp_kernel.specs.Stages.{is_done, closes}
+use Rattle.qp_kernel.specs.Stages.{is_done_task, closes}
 use Rattle.qp_model.proofs.FitsLemmas.{all-append}
 
 -- none of them is `done`
 abbrev pub NoneDone : List Task → Type 0
-NoneDone ts = list_all (λ t. not (is_done t)) ts ≡ true
+NoneDone ts = list_all (λ t. not (is_done_task t)) ts ≡ true
 
 none-append : (xs ys : List Task) → NoneDone xs → NoneDone ys → NoneDone (xs ++ ys)
-none-append xs ys a b = all-append (λ t. not (is_done t)) xs ys a b
+none-append xs ys a b = all-append (λ t. not (is_done_task t)) xs ys a b
 
 pub closes-done : (ts : List Task) → NoneDone ts → closes (ts ++ Done ∷ []) ≡ true
 closes-done [] h = refl
-closes-done (t ∷ []) h = by (is_done t) h
+closes-done (t ∷ []) h = by (is_done_task t) h
   where
     by : (b : Bool) → (not b && true) ≡ true → (not b && true) ≡ true
     by b h = h
-closes-done (t ∷ u ∷ ts) h = by (is_done t) h (λ k. closes-done (u ∷ ts) k)
+closes-done (t ∷ u ∷ ts) h = by (is_done_task t) h (λ k. closes-done (u ∷ ts) k)
   where
-    by : (b : Bool) → (not b && list_all (λ t. not (is_done t)) (u ∷ ts)) ≡ true → (NoneDone (u ∷ ts) → closes ((u ∷ ts) ++ Done ∷ []) ≡ true) → (not b && closes ((u ∷ ts) ++ Done ∷ [])) ≡ true
+    by : (b : Bool) → (not b && list_all (λ t. not (is_done_task t)) (u ∷ ts)) ≡ true → (NoneDone (u ∷ ts) → closes ((u ∷ ts) ++ Done ∷ []) ≡ true) → (not b && closes ((u ∷ ts) ++ Done ∷ [])) ≡ true
     by true h go = absurd (cc)
     by false h go = go h
 

@@ -19,7 +19,7 @@ use Rattle.qp_model.specs.Ends.{is_turn_mark, is_end, is_assert}
 use Rattle.qp_model.specs.OneOrder.{stim_of}
 use Rattle.qp_model.proofs.FitsLemmas.{is_calm, is_deferral, Usual, Ending, Answers, fits-usual, assertion_of}
 use Rattle.qp_model.proofs.KernelRowLemmas.{IsOwnRole}
-use Rattle.qp_kernel.specs.Stages.{is_done, closes}
+use Rattle.qp_kernel.specs.Stages.{is_done_task, closes}
 use Rattle.qp_model.proofs.PublicationLemmas.{tell-append, with_points-append}
 
 -- a record of the inside of a step
@@ -124,7 +124,7 @@ module _ (sys : System) (a : Actor) (at : Moment) where
           )
 
   -- a task but the last
-  task-form : (c : Config) (later : Later) (failed : Type 0) (t : Task) (ps : List Piece) → is_done t ≡ false → DoesTask sys a at c later failed t ps → InnerThen later ps ⊎ FailsIn failed ps
+  task-form : (c : Config) (later : Later) (failed : Type 0) (t : Task) (ps : List Piece) → is_done_task t ≡ false → DoesTask sys a at c later failed t ps → InnerThen later ps ⊎ FailsIn failed ps
   unfolding DoesTask DoesDeed role_of
   task-form c later failed (Do p) ps other h = by (deed_of (names_of a c at.event) p) h
     where
@@ -168,12 +168,12 @@ module _ (sys : System) (a : Actor) (at : Moment) where
   does-form [] c ps mid closing h = absurd (cc)
   does-form (t ∷ []) c ps mid closing h = by t closing h
     where
-      by : (t : Task) → is_done t ≡ true → DoesTask sys a at c (λ d rest. (rest ≡ []) × (mid ≡ Some d)) (mid ≡ None) t ps → Form ps mid
+      by : (t : Task) → is_done_task t ≡ true → DoesTask sys a at c (λ d rest. (rest ≡ []) × (mid ≡ Some d)) (mid ≡ None) t ps → Form ps mid
       by Done closing h = record { front = []; inner = tt; last = plain item.Done; whole = h.1 ∙ ap (λ x. Tell (plain item.Done) ∷ x) h.2.0; which = inl (refl, (c, h.2.1)) }
       by _ closing h = absurd (cc)
   does-form (t ∷ u ∷ ts) c ps mid closing h =
-      let parts = and_parts (not (is_done t)) (closes (u ∷ ts)) closing in
-      by (task-form c (λ d rest. Does sys a at (u ∷ ts) d rest mid) (mid ≡ None) t ps (not-true (is_done t) parts.0) h) (λ d rest k. does-form (u ∷ ts) d rest mid parts.1 k)
+      let parts = and_parts (not (is_done_task t)) (closes (u ∷ ts)) closing in
+      by (task-form c (λ d rest. Does sys a at (u ∷ ts) d rest mid) (mid ≡ None) t ps (not-true (is_done_task t) parts.0) h) (λ d rest k. does-form (u ∷ ts) d rest mid parts.1 k)
     where
       by : InnerThen (λ d rest. Does sys a at (u ∷ ts) d rest mid) ps ⊎ FailsIn (mid ≡ None) ps → ((d : Config) (rest : List Piece) → Does sys a at (u ∷ ts) d rest mid → Form rest mid) → Form ps mid
       by (inl k) go = form-behind k.0 k.3 ps mid k.1 k.4 (go k.2 k.3 k.5)

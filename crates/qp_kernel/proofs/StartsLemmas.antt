@@ -12,13 +12,14 @@ use Rattle.qp_model.proofs.KernelRowLemmas.{IsOwnRole}
 use Rattle.qp_model_order.specs.SourceRun.{untold, untold_all}
 use Rattle.qp_kernel.specs.Turning.{spill_told}
 use Rattle.qp_kernel.proofs.ToldPieces.{AreOwn}
-use Rattle.qp_kernel.specs.Starts.{AreStarts, IsStartAlone, behind, dones, is_done, up_to}
+use Rattle.qp_kernel.specs.Starts.{AreStarts, IsStartAlone, behind, dones, up_to}
+use Rattle.qp_model.specs.OutputSummary.{is_done_record}
 
 -- a lane is its starts and what stands behind them
 pub parts : (n : ℕ) (is : List Item) → up_to n is ++ behind n is ≡ is
 parts zero is = refl
 parts (suc n) [] = refl
-parts (suc n) (i ∷ is) = by (is_done i.body) (parts n is) (parts (suc n) is)
+parts (suc n) (i ∷ is) = by (is_done_record i.body) (parts n is) (parts (suc n) is)
   where
     by : (b : Bool) → up_to n is ++ behind n is ≡ is → up_to (suc n) is ++ behind (suc n) is ≡ is → (i ∷ cond b (up_to n is) (up_to (suc n) is)) ++ cond b (behind n is) (behind (suc n) is) ≡ i ∷ is
     by true one more = ap (λ js. i ∷ js) one
@@ -29,7 +30,7 @@ pub starts-split : (n : ℕ) (xs ys : List Item) → behind n xs ≡ [] → done
 starts-split zero [] ys b d = (refl, refl)
 starts-split zero (x ∷ xs) ys b d = absurd (cc)
 starts-split (suc n) [] ys b d = absurd (omega (arith, d))
-starts-split (suc n) (x ∷ xs) ys b d = by (is_done x.body) b d (λ k e. starts-split n xs ys k e) (λ k e. starts-split (suc n) xs ys k e)
+starts-split (suc n) (x ∷ xs) ys b d = by (is_done_record x.body) b d (λ k e. starts-split n xs ys k e) (λ k e. starts-split (suc n) xs ys k e)
   where
     by : (c : Bool) → cond c (behind n xs) (behind (suc n) xs) ≡ [] → cond c (suc (dones xs)) (dones xs) ≡ suc n
         → (behind n xs ≡ [] → dones xs ≡ n → (up_to n (xs ++ ys) ≡ xs) × (behind n (xs ++ ys) ≡ ys))
@@ -44,7 +45,7 @@ behind-more zero m r [] ys e b d = let same : r ≡ m = omega (arith, e) in ap (
 behind-more zero m r (x ∷ xs) ys e b d = absurd (cc)
 behind-more (suc n) m r [] ys e b d = absurd (omega (arith, d))
 behind-more (suc n) m zero (x ∷ xs) ys e b d = absurd (omega (arith, e))
-behind-more (suc n) m (suc r) (x ∷ xs) ys e b d = by (is_done x.body) b d (λ k f. behind-more n m r xs ys (omega (arith, e)) k f) (λ k f. behind-more (suc n) m (suc r) xs ys e k f)
+behind-more (suc n) m (suc r) (x ∷ xs) ys e b d = by (is_done_record x.body) b d (λ k f. behind-more n m r xs ys (omega (arith, e)) k f) (λ k f. behind-more (suc n) m (suc r) xs ys e k f)
   where
     by : (c : Bool) → cond c (behind n xs) (behind (suc n) xs) ≡ [] → cond c (suc (dones xs)) (dones xs) ≡ suc n → (behind n xs ≡ [] → dones xs ≡ n → behind r (xs ++ ys) ≡ behind m ys)
         → (behind (suc n) xs ≡ [] → dones xs ≡ suc n → behind (suc r) (xs ++ ys) ≡ behind m ys) → cond c (behind r (xs ++ ys)) (behind (suc r) (xs ++ ys)) ≡ behind m ys
@@ -56,7 +57,7 @@ plus-none n = omega arith
 
 dones-append : (xs ys : List Item) → dones (xs ++ ys) ≡ dones xs + dones ys
 dones-append [] ys = plus-none (dones ys)
-dones-append (x ∷ xs) ys = by (is_done x.body) (dones-append xs ys)
+dones-append (x ∷ xs) ys = by (is_done_record x.body) (dones-append xs ys)
   where
     by : (c : Bool) → dones (xs ++ ys) ≡ dones xs + dones ys → cond c (suc (dones (xs ++ ys))) (dones (xs ++ ys)) ≡ cond c (suc (dones xs)) (dones xs) + dones ys
     by true e = omega (arith, e)
@@ -77,7 +78,7 @@ alone-then n m r xs ys e one two w = ap (marks w) (behind-more n m r xs ys e one
 pub starts-alone : (n : ℕ) (is : List Item) → AreStarts n is → IsStartAlone n is
 starts-alone n is h w = ap (marks w) h.0
 
-own-undone : (b : Body) → IsOwnRole (role_of b) → is_done b ≡ false
+own-undone : (b : Body) → IsOwnRole (role_of b) → is_done_record b ≡ false
 unfolding role_of
 own-undone body.Done h = absurd h
 own-undone _ h = refl

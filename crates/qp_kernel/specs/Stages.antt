@@ -18,15 +18,15 @@ pub data Stage : Type 0 where
   Begun : (ev : Event) (e : Entry) (left : Remainder) (c : Config) → Stage
   Paused : (ev : Event) (e : Entry) (left : Remainder) (c : Config) → Stage
 
-abbrev pub is_done : Task → Bool
-is_done Done = true
-is_done _ = false
+abbrev pub is_done_task : Task → Bool
+is_done_task Done = true
+is_done_task _ = false
 
 -- `done` is the last of these tasks, and none but it
 abbrev pub closes : List Task → Bool
 closes [] = false
-closes (t ∷ []) = is_done t
-closes (t ∷ u ∷ ts) = not (is_done t) && closes (u ∷ ts)
+closes (t ∷ []) = is_done_task t
+closes (t ∷ u ∷ ts) = not (is_done_task t) && closes (u ∷ ts)
 
 -- what is left of a step can be brought to its end, which is `done`: its actions have what they ask for, and the deferred list has its room
 pub record IsReady (sys : System) (a : Actor) (left : Remainder) (c : Config) : Type 0 where

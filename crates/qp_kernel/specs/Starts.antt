@@ -5,27 +5,24 @@ use Rattle.qp_model.specs.declared.bodies.Body.TheVariants as body
 use Rattle.qp_model.specs.declared.words.Word.{Word}
 use Rattle.qp_model.specs.History.{marks}
 use Rattle.qp_model.specs.Record.{Item}
-
-abbrev pub is_done : Body → Bool
-is_done body.Done = true
-is_done _ = false
+use Rattle.qp_model.specs.OutputSummary.{is_done_record}
 
 -- the records of a lane up to the end of the n-th start or step in it, all where there are fewer
 abbrev pub up_to : ℕ → List Item → List Item
 up_to zero is = []
 up_to (suc n) [] = []
-up_to (suc n) (i ∷ is) = i ∷ (if is_done i.body then up_to n is else up_to (suc n) is)
+up_to (suc n) (i ∷ is) = i ∷ (if is_done_record i.body then up_to n is else up_to (suc n) is)
 
 -- and those behind
 abbrev pub behind : ℕ → List Item → List Item
 behind zero is = is
 behind (suc n) [] = []
-behind (suc n) (i ∷ is) = if is_done i.body then behind n is else behind (suc n) is
+behind (suc n) (i ∷ is) = if is_done_record i.body then behind n is else behind (suc n) is
 
 -- how many starts and steps come to their end
 abbrev pub dones : List Item → ℕ
 dones [] = 0
-dones (i ∷ is) = if is_done i.body then suc (dones is) else dones is
+dones (i ∷ is) = if is_done_record i.body then suc (dones is) else dones is
 
 -- these are just so many starts, each to its end
 abbrev pub AreStarts : ℕ → List Item → Type 0

@@ -14,7 +14,7 @@ use Rattle.qp_model.specs.Acts.{Actor, Config, Does, Moment}
 use Rattle.qp_model.specs.Step.{DoesLeft, GoesOnPublishing, Publishing, Remainder}
 use Rattle.qp_model.specs.Standing.{AgendaReaches}
 use Rattle.qp_model.proofs.Completes.{again_any, release, release_drops}
-use Rattle.qp_kernel.specs.Stages.{closes, is_done}
+use Rattle.qp_kernel.specs.Stages.{closes, is_done_task}
 use Rattle.qp_kernel.proofs.TurnLemmas.{left-form}
 
 -- the last of two lists that are the same
@@ -63,8 +63,8 @@ some-left sys a at left later c d g closing none reaches = by later.publishing r
 closes-behind : (done rest : List Task) → (rest ≡ [] → ⊥) → closes (done ++ rest) ≡ true → closes rest ≡ true
 closes-behind [] rest some h = h
 closes-behind (t ∷ []) [] some h = absurd (some refl)
-closes-behind (t ∷ []) (u ∷ us) some h = (and_parts (not (is_done t)) (closes (u ∷ us)) h).1
-closes-behind (t ∷ u ∷ us) rest some h = closes-behind (u ∷ us) rest some (and_parts (not (is_done t)) (closes ((u ∷ us) ++ rest)) h).1
+closes-behind (t ∷ []) (u ∷ us) some h = (and_parts (not (is_done_task t)) (closes (u ∷ us)) h).1
+closes-behind (t ∷ u ∷ us) rest some h = closes-behind (u ∷ us) rest some (and_parts (not (is_done_task t)) (closes ((u ∷ us) ++ rest)) h).1
 
 pub closes-left : (sys : System) (a : Actor) (at : Moment) (left later : Remainder) (c d : Config) (g : List Told) (done : List Task) → closes left.tasks ≡ true → left.tasks ≡ done ++ later.tasks
     → AgendaReaches sys a at left c (tell g ++ Point ∷ []) later d → closes later.tasks ≡ true

@@ -58,3 +58,4 @@ pub mod OutputText
 pub mod OutputFrames
 pub mod OutputSummary
 pub mod TellingKinds
+pub mod Results

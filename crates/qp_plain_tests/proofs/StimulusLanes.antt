@@ -18,14 +18,14 @@ use Rattle.qp_plain.specs.WorldView.{world_view}
 use Rattle.qp_plain_sound.specs.View.{view_of}
 use Rattle.qp_calls_stimulus.specs.Stimulating.{Happens}
 use Rattle.qp_calls_stimulus.proofs.Halting.{happens-unspilled}
-use Rattle.qp_plain_tests.specs.StimulusTrial.{IsBase}
+use Rattle.qp_plain_tests.specs.StimulusTrial.{IsStimulusBase}
 
 rest-told : (o k : ℕ) (r : Rec) (v : LaneView) → item_of r ≡ record { of = o; body = Rest k } → told_note r v ≡ plain (Rest k) ∷ []
 unfolding told_note
 rest-told o k r v is = rw (body-is o (Rest k) r is) refl
 
 pub base-rest : (sys : System) (o k : ℕ) (r : Rec) (u v w : LaneView) → item_of r ≡ record { of = o; body = Rest k } → Roomier u v → GrowsOf r.of (told_note r v) v w
-    → IsBase sys u → IsBase sys w
+    → IsStimulusBase sys u → IsStimulusBase sys w
 base-rest sys o k r u v w is room grows b =
     let grown : GrowsOf r.of (plain (Rest k) ∷ []) v w = subst (λ g. GrowsOf r.of g v w) (rest-told o k r v is) grows in
     record {
@@ -36,7 +36,7 @@ base-rest sys o k r u v w is room grows b =
     }
 
 -- a stimulus came to its end
-pub base-happens : (sys : System) (s : Stim) (place look : ℕ) (v w : LaneView) → Happens sys s place look v w → IsBase sys v → IsBase sys w
+pub base-happens : (sys : System) (s : Stim) (place look : ℕ) (v w : LaneView) → Happens sys s place look v w → IsStimulusBase sys v → IsStimulusBase sys w
 base-happens sys s place look v w h b = record {
   sound = b.sound;
   of = h.grows.sys ∙ b.of;
@@ -45,6 +45,6 @@ base-happens sys s place look v w h b = record {
 }
 
 -- nothing has happened in a new world
-pub new-base : (sys : System) (n : ℕ) (world : PlainWorld) → IsSound sys → IsNewWorld sys n world → IsBase sys (world_view world)
+pub new-base : (sys : System) (n : ℕ) (world : PlainWorld) → IsSound sys → IsNewWorld sys n world → IsStimulusBase sys (world_view world)
 unfolding view_of
 new-base sys n world sound new = record { sound = sound; of = new.sys_is; none = new.view.by; spills = rw (new.view.told) refl }

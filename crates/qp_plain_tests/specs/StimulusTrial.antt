@@ -6,7 +6,7 @@ use Rattle.qp_calls.specs.LaneView.{LaneView}
 use Rattle.qp_calls.specs.Notes.{spills_told}
 
 -- the lane is of this sound system, works for no object and has no `spill`
-pub record IsBase (sys : System) (v : LaneView) : Type 0 where
+pub record IsStimulusBase (sys : System) (v : LaneView) : Type 0 where
   pub sound : IsSound sys
   pub of : v.sys ≡ sys
   pub none : v.by ≡ 0

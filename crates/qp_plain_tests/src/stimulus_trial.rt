@@ -4,7 +4,7 @@ ghost use Rattle.std.specs.Prelude.{◌≡◌, ◌<◌, IfSome};
 ghost use Rattle.std.specs.List.{AllByRecursion};
 ghost use Rattle.qp_model.specs.Sound.{IsSound};
 ghost use Rattle.qp_stim.specs.Rules.{StimFits};
-ghost use Rattle.qp_plain_tests.specs.StimulusTrial.{IsBase};
+ghost use Rattle.qp_plain_tests.specs.StimulusTrial.{IsStimulusBase};
 
 use qp_base::{Gate, Steps};
 use qp_calls::Ops;
@@ -26,8 +26,8 @@ pub(crate) struct Trial {
 
 /// Adds a note of no object.
 fn note<O: Ops>(ops: &mut O, sys: &System) -> Option<()>
-    requires { IsBase sys.now (O.lane ops.old) }
-    ensures { IfSome result (λ _. IsBase sys.now (O.lane ops.new)) }
+    requires { IsStimulusBase sys.now (O.lane ops.old) }
+    ensures { IfSome result (λ _. IsStimulusBase sys.now (O.lane ops.new)) }
 {
     let _ = sys;
     let Ok(()) = ops.room() else {
@@ -39,8 +39,8 @@ fn note<O: Ops>(ops: &mut O, sys: &System) -> Option<()>
 
 /// Adds so many notes.
 fn notes<O: Ops>(ops: &mut O, sys: &System, count: u32) -> Option<()>
-    requires { IsBase sys.now (O.lane ops.old) }
-    ensures { IfSome result (λ _. IsBase sys.now (O.lane ops.new)) }
+    requires { IsStimulusBase sys.now (O.lane ops.old) }
+    ensures { IfSome result (λ _. IsStimulusBase sys.now (O.lane ops.new)) }
 {
     for _i in 0..count {
         note(ops, sys)?;
@@ -60,7 +60,7 @@ fn play<O: Ops, L: Ledger, G: Gate>(
     requires parts { blank.parts ≡ L.parts }
     requires some { 0 < blank.parts }
     requires fits { AllByRecursion (StimFits sys.now) stimuli.now }
-    requires base { IsBase sys.now (O.lane ops.old) }
+    requires base { IsStimulusBase sys.now (O.lane ops.old) }
 {
     let mut steps = Steps::<L>::open(blank);
     let mut told = Told::new(gate);

@@ -22,7 +22,7 @@ use Rattle.qp_kernel_turns.specs.Lanes.{HandsCode, HasFound, SameLane}
 use Rattle.qp_calls_stimulus.specs.Stimulating.{Stimulates, Asserts, Spills, Happens, begun, Exhausts}
 use Rattle.qp_port_lanes.specs.declared.cursor.Cursor.{Cursor}
 use Rattle.qp_port_lanes.specs.CursorAt.{IsCursorAt, IsSourceAt, at_settle_in, begins_settle, left_in, mine}
-use Rattle.qp_port_lanes.specs.SourceTurning.{BreaksOff, CursorGoes, DoesNoSettle, EndsIn, SourceIdles, SourceStops, SourceTurns, UnlessIdle, DoesNext, SourceStarves}
+use Rattle.qp_port_lanes.specs.SourceTurning.{BreaksOff, CursorGoes, DoesNoSettle, EndsIn, SourceIdles, SourceStops, SourceTurns, BreaksOffUnlessIdle, DoesNext, SourceStarves}
 use Rattle.qp_port_lanes.proofs.Going.{same-gains, same-stops, went, failed, spilled, full, elsewhere, few-done, unspilled-told}
 
 same-none : (v : LaneView) → SameLane v v
@@ -99,7 +99,7 @@ turns-then sys x y z u v w turn.Memory a h = record {
   keeps = same-then u v w a.keeps h.keeps;
 }
 
-pub breaks-then : (sys : System) (x y z : Cursor) (u v w : LaneView) (t : Turn) → CursorGoes sys x y u v → UnlessIdle sys y z v w t → UnlessIdle sys x z u w t
+pub breaks-then : (sys : System) (x y z : Cursor) (u v w : LaneView) (t : Turn) → CursorGoes sys x y u v → BreaksOffUnlessIdle sys y z v w t → BreaksOffUnlessIdle sys x z u w t
 breaks-then sys x y z u v w turn.Idle a h = tt
 breaks-then sys x y z u v w _ a h = record { before = h.before; goes = goes-then sys x y z u v h.before a h.goes; stands = h.stands; s = h.s; next = h.next; ends = h.ends }
 
@@ -152,13 +152,13 @@ module _ (sys : System) (x : Cursor) (v : LaneView) (at : IsCursorAt sys x v) (c
     is-bare other = ap begins_settle next-is ∙ no-settle s (drop (x.begun + 1) (mine x)) other
 
     -- the turn ends here
-    pub breaks-here : (t : Turn) (w : LaneView) → (s ≡ stim.Settle → ⊥) → EndsIn sys s (x.begun + 1) v w t → UnlessIdle sys x x v w t
+    pub breaks-here : (t : Turn) (w : LaneView) → (s ≡ stim.Settle → ⊥) → EndsIn sys s (x.begun + 1) v w t → BreaksOffUnlessIdle sys x x v w t
     breaks-here t w other ends = by t ends
       where
         its-end : (u : Turn) → EndsIn sys s (x.begun + 1) v w u → BreaksOff sys x x v w u
         its-end u k = record { before = v; goes = goes-none sys x v at; stands = rw (calm, next-is, no-settle s (drop (x.begun + 1) (mine x)) other) refl; s = s; next = next-is; ends = k }
 
-        by : (u : Turn) → EndsIn sys s (x.begun + 1) v w u → UnlessIdle sys x x v w u
+        by : (u : Turn) → EndsIn sys s (x.begun + 1) v w u → BreaksOffUnlessIdle sys x x v w u
         by turn.Idle k = absurd k
         by u k = its-end u k
 

@@ -82,10 +82,10 @@ pub record BreaksOff (sys : System) (x y : Cursor) (v w : LaneView) (answer : Tu
   pub ends : EndsIn sys s (y.begun + 1) before w answer
 
 -- a turn breaks off at a stimulus that is no `settle`, or is Idle
-abbrev pub UnlessIdle : System → Cursor → Cursor → LaneView → LaneView → Turn → Type 0
-UnlessIdle sys x y v w turn.Idle = Unit {0}
-UnlessIdle sys x y v w turn.Stopped = BreaksOff sys x y v w turn.Stopped
-UnlessIdle sys x y v w turn.Memory = BreaksOff sys x y v w turn.Memory
+abbrev pub BreaksOffUnlessIdle : System → Cursor → Cursor → LaneView → LaneView → Turn → Type 0
+BreaksOffUnlessIdle sys x y v w turn.Idle = Unit {0}
+BreaksOffUnlessIdle sys x y v w turn.Stopped = BreaksOff sys x y v w turn.Stopped
+BreaksOffUnlessIdle sys x y v w turn.Memory = BreaksOff sys x y v w turn.Memory
 
 -- one stimulus more was done, or the turn ends
 pub record OneMore (sys : System) (x y : Cursor) (v w : LaneView) : Type 0 where
@@ -98,7 +98,7 @@ DoesNext sys x y v w (Some t) = SourceTurns sys x y v w t
 
 abbrev pub NextBreaks : System → Cursor → Cursor → LaneView → LaneView → Option Turn → Type 0
 NextBreaks sys x y v w None = Unit {0}
-NextBreaks sys x y v w (Some t) = UnlessIdle sys x y v w t
+NextBreaks sys x y v w (Some t) = BreaksOffUnlessIdle sys x y v w t
 
 -- No stimulus more is done but where the stop word was found unset first.
 abbrev pub UnsetNext : LaneView → Option Turn → Type 0

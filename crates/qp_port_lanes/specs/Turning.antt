@@ -101,10 +101,10 @@ pub record NeverEmpty (v w : LaneView) : Type 0 where
   pub looks : list_all is_entry (looks_in ts) ≡ true
 
 -- so it is where the turn didn't find the queue empty, or nothing says so yet
-abbrev pub UnlessIdle : LaneView → LaneView → Turn → Type 0
-UnlessIdle v w turn.Idle = Unit {0}
-UnlessIdle v w turn.Stopped = NeverEmpty v w
-UnlessIdle v w turn.Memory = NeverEmpty v w
+abbrev pub NeverEmptyUnlessIdle : LaneView → LaneView → Turn → Type 0
+NeverEmptyUnlessIdle v w turn.Idle = Unit {0}
+NeverEmptyUnlessIdle v w turn.Stopped = NeverEmpty v w
+NeverEmptyUnlessIdle v w turn.Memory = NeverEmpty v w
 
 abbrev pub UnlessFound : LaneView → LaneView → Result (Unit {0}) Halt → Type 0
 UnlessFound v w (Ok u) = Unit {0}

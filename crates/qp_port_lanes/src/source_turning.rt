@@ -3,7 +3,7 @@
 ghost use Rattle.std.specs.Prelude.{◌≡◌, ◌<◌};
 ghost use Rattle.qp_model.specs.Sound.{IsSound};
 ghost use Rattle.qp_port_lanes.specs.CursorAt.{IsCursorAt};
-ghost use Rattle.qp_port_lanes.specs.SourceTurning.{DoesNext, IsSameSource, NextBreaks, SourceTurns, UnlessIdle, UnsetNext};
+ghost use Rattle.qp_port_lanes.specs.SourceTurning.{DoesNext, IsSameSource, NextBreaks, SourceTurns, BreaksOffUnlessIdle, UnsetNext};
 ghost use Rattle.qp_port_lanes.specs.Tells.{NextTells, SourceTells};
 
 use crate::cursor::Cursor;
@@ -75,7 +75,7 @@ fn turn_in<O: Ops, G: Tells, L: Ledger>(
     requires sound { IsSound sys.now }
     requires knows { IsCursorAt sys.now source.old (O.lane ops.old) }
     ensures turns { SourceTurns sys.now source.old source.new (O.lane ops.old) (O.lane ops.new) result }
-    ensures breaks { UnlessIdle sys.now source.old source.new (O.lane ops.old) (O.lane ops.new) result }
+    ensures breaks { BreaksOffUnlessIdle sys.now source.old source.new (O.lane ops.old) (O.lane ops.new) result }
     ensures same { IsSameSource source.old source.new }
     ensures tells { SourceTells source.old source.new gate.old.steps.list gate.new.steps.list }
 {
@@ -103,7 +103,7 @@ pub fn source_turn<O: Ops, G: Tells>(
     requires sound { IsSound sys.now }
     requires knows { IsCursorAt sys.now source.old (O.lane ops.old) }
     ensures turns { SourceTurns sys.now source.old source.new (O.lane ops.old) (O.lane ops.new) result }
-    ensures breaks { UnlessIdle sys.now source.old source.new (O.lane ops.old) (O.lane ops.new) result }
+    ensures breaks { BreaksOffUnlessIdle sys.now source.old source.new (O.lane ops.old) (O.lane ops.new) result }
     ensures same { IsSameSource source.old source.new }
     ensures tells { SourceTells source.old source.new gate.old.steps.list gate.new.steps.list }
 {

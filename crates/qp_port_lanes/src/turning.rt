@@ -6,7 +6,7 @@ ghost use Rattle.qp_kernel_turns.specs.Lanes.{LaneTo, LaneTurns};
 ghost use Rattle.qp_told.specs.Steps.{TellsSteps};
 ghost use Rattle.qp_port_lanes.specs.At.{IsBusyHome, IsHome};
 ghost use Rattle.qp_port_lanes.specs.Takes.{BeginTakes, FinishTakes, LookTakes};
-ghost use Rattle.qp_port_lanes.specs.Turning.{HomeTurns, LooksTo, NeverEmpty, NextTo, StaysEmpty, StepsTo, UnlessFound, UnlessIdle, UnlessOver, UnsetFirst};
+ghost use Rattle.qp_port_lanes.specs.Turning.{HomeTurns, LooksTo, NeverEmpty, NextTo, StaysEmpty, StepsTo, UnlessFound, NeverEmptyUnlessIdle, UnlessOver, UnsetFirst};
 
 use crate::home::Home;
 use qp_base::Tells;
@@ -178,7 +178,7 @@ pub fn object_turn<R: Wait, O: Ops, G: Tells>(
     requires few { budget ≤ 1000000 }
     requires knows { IsHome sys.now budget home.old (O.lane ops.old) }
     ensures goes { HomeTurns sys.now budget home.old.me home.new (O.lane ops.new) result }
-    ensures never { UnlessIdle (O.lane ops.old) (O.lane ops.new) result }
+    ensures never { NeverEmptyUnlessIdle (O.lane ops.old) (O.lane ops.new) result }
     ensures lane { LaneTurns false (O.lane ops.old) (O.lane ops.new) result }
     ensures same { home.new.me ≡ home.old.me }
     ensures tells { TellsSteps home.old.object.taken home.new.object.taken gate.old.steps.list gate.new.steps.list }

@@ -8,7 +8,8 @@ use Rattle.qp_model.specs.Record.{Item}
 use Rattle.qp_model.specs.Told.{ToldItem}
 use Rattle.qp_model_order.specs.SourceRun.{untold, untold_all}
 use Rattle.qp_calls.specs.LaneView.{Advances, AreBetween, IsBetween, LaneView}
-use Rattle.qp_kernel.specs.Starts.{AreStarts, IsStartAlone, behind, is_done, up_to}
+use Rattle.qp_kernel.specs.Starts.{AreStarts, IsStartAlone, behind, up_to}
+use Rattle.qp_model.specs.OutputSummary.{is_done_record}
 use Rattle.qp_kernel.proofs.StartsLemmas.{starts-split}
 use Rattle.qp_port_phases.specs.Turns.{AreReady}
 use Rattle.qp_port_phases.specs.Floors.{AddsFrom, AllAdd, AllUnder, AreFrom, IsFrom}
@@ -55,9 +56,9 @@ front-below w floor (suc n) (i ∷ is) h = by (mark_of w (touch i)) (front-below
     rest false one more k = more k
 
     by : (o : Option ℕ) → (AllByRecursion (λ k. k ≤ floor) (marks w is) → AllByRecursion (λ k. k ≤ floor) (marks w (up_to n is))) → (AllByRecursion (λ k. k ≤ floor) (marks w is) → AllByRecursion (λ k. k ≤ floor) (marks w (up_to (suc n) is)))
-        → AllByRecursion (λ k. k ≤ floor) (cons_option o (marks w is)) → AllByRecursion (λ k. k ≤ floor) (cons_option o (marks w (cond (is_done i.body) (up_to n is) (up_to (suc n) is))))
-    by None one more k = rest (is_done i.body) one more k
-    by (Some m) one more k = (k.0, rest (is_done i.body) one more k.1)
+        → AllByRecursion (λ k. k ≤ floor) (cons_option o (marks w is)) → AllByRecursion (λ k. k ≤ floor) (cons_option o (marks w (cond (is_done_record i.body) (up_to n is) (up_to (suc n) is))))
+    by None one more k = rest (is_done_record i.body) one more k
+    by (Some m) one more k = (k.0, rest (is_done_record i.body) one more k.1)
 
 -- a lane in which nothing stands but its starts, or what came of them
 pub apart-alone : (floor : Word → ℕ) (n : ℕ) (low high : Word → ℕ) (ts : List ToldItem) → IsStartAlone n (untold_all ts) → ((w : Word) → high w ≤ floor w) → ((w : Word) → AreBetween w (low w) (high w) ts) → IsApart floor n (untold_all ts)

@@ -10,7 +10,7 @@ use Rattle.std.proofs.lemmas.Option.{get_or_from_slice_get, slice_get_within}
 use Rattle.qp_model.specs.declared.record.Rec.{Rec}
 use Rattle.qp_model.specs.History.{Touch, Draws, Shows, Neither, same_word}
 use Rattle.qp_model.specs.Places.{RecordPlace, item_at, must_precede, places, places_from, places_in, touch_at, touch_first}
-use Rattle.qp_replay.specs.Orders.{GoesNext, GoesNextEach, IsLowestOrder, ComesNext, is_record}
+use Rattle.qp_replay.specs.Orders.{GoesNext, GoesNextEach, IsLowestOrder, IsUnblocked, is_record}
 use Rattle.qp_replay.specs.Remaining.{Blocks, HasNext, MayGo, Standing, front, head, place}
 use Rattle.qp_replay.proofs.RemainingLemmas.{lane-of, length-fronts, no-front, record-test}
 
@@ -161,10 +161,10 @@ module _ (st : Standing) (order : List RecordPlace) (n : ℕ) (kept : Kept st or
   fresh : Contains order (head st n) → ⊥
   fresh h = let old = (kept.stand (head st n) h).1 in omega (arith, old)
 
-  ready : ComesNext st.lanes order (head st n)
+  ready : IsUnblocked st.lanes order (head st n)
   ready x is first = ⊎_elim (λ less. kept.passed x is less) (λ le. absurd (go.free x (record { waits = record { stands = is; behind = le }; first = first }))) (cases_lt x.at (front st x.lane))
 
-  no-lower : (y : RecordPlace) → y.lane < n → IsTrue (is_record st.lanes y) → (Contains order y → ⊥) → ComesNext st.lanes order y → ⊥
+  no-lower : (y : RecordPlace) → y.lane < n → IsTrue (is_record st.lanes y) → (Contains order y → ⊥) → IsUnblocked st.lanes order y → ⊥
   no-lower y less is new before = lowest y.lane less (record { next = next; free = free })
     where
       behind : front st y.lane ≤ y.at

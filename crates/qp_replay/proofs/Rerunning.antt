@@ -37,7 +37,7 @@ use Rattle.qp_plain.specs.Repeat.{FitsTimer, LaneIsWithin, MayRepeat, Remains, R
 use Rattle.qp_replay.specs.declared.marks.At.{At}
 use Rattle.qp_replay.specs.Remaining.{place}
 use Rattle.qp_replay.specs.RerunLaws.{ComesNext, TicksFit, World, made, made_on, record_at, with_next}
-use Rattle.qp_replay.specs.Rerun.{GoesNext, IsRerun, world_in}
+use Rattle.qp_replay.specs.Rerun.{MayGoNext, IsRerun, world_in}
 use Rattle.qp_replay.proofs.OneThread.{a_record, empty-length, lanes-same, made-push, one-thread, room-before}
 
 -- ticks that fit a timer fit its word
@@ -121,7 +121,7 @@ remains w v u lane c r = record {
 lane-now : (w v : PlainWorld) (lane : ℕ) → Chosen w v lane → lane_in v ≡ lane_of (lists_of w.book) lane
 lane-now w v lane c = ap (λ (ls : List (List Rec)). lane_of ls v.book.at) c.lists ∙ ap (lane_of (lists_of w.book)) c.at
 
-module _ (lanes : List (List Rec)) (x : RecordPlace) (w : PlainWorld) (goes : GoesNext lanes x w) (r : Rec) (is : r ≡ goes.rec) (v : PlainWorld) (c : Chosen w v x.lane) where
+module _ (lanes : List (List Rec)) (x : RecordPlace) (w : PlainWorld) (goes : MayGoNext lanes x w) (r : Rec) (is : r ≡ goes.rec) (v : PlainWorld) (c : Chosen w v x.lane) where
   pub is-within : LaneIsWithin r v
   is-within regular =
       subst (λ (l : List Rec). length l < 1000000) (sym (lane-now w v x.lane c)) (goes.few (ap (λ (y : Rec). is_spill (item_of y).body) (sym is) ∙ regular))
@@ -237,7 +237,7 @@ few-before l n r at none regular room =
 module _ (sys : System) (stimuli : List (List Stim)) (j : Journal) (order : List RecordPlace) (sound : IsSound sys) (fit : StimuliFit sys stimuli) (lawful : Lawful sys stimuli j)
     (serial : IsSerial j.lanes order) where
   pub goes-next : (front behind : List RecordPlace) (x : RecordPlace) → order ≡ front ++ x ∷ behind → (w : PlainWorld) → w.sys.now ≡ sys → world_in w ≡ made j.lanes front
-      → lanes_in w ≡ length j.lanes → GoesNext j.lanes x w
+      → lanes_in w ≡ length j.lanes → MayGoNext j.lanes x w
   goes-next front behind x split w sys_is made_is wide =
       let rec = a_record sys stimuli j order sound fit lawful serial front behind x split in
       let law = (one-thread sys stimuli j order sound fit lawful serial).0 front (x ∷ behind) split in

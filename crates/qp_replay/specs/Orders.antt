@@ -10,15 +10,15 @@ unfolding item_at
 is_record lanes x = is_some (item_at lanes x)
 
 -- all records that must stand before y are among these
-abbrev pub ComesNext : List (List Rec) → List RecordPlace → RecordPlace → Type 0
-ComesNext lanes before y = (x : RecordPlace) → IsTrue (is_record lanes x) → IsTrue (must_precede lanes x y) → Contains before x
+abbrev pub IsUnblocked : List (List Rec) → List RecordPlace → RecordPlace → Type 0
+IsUnblocked lanes before y = (x : RecordPlace) → IsTrue (is_record lanes x) → IsTrue (must_precede lanes x y) → Contains before x
 
 -- Behind these stands x: a record that isn't among them, all that must stand before it is, and no record of a lower lane is so.
 pub record GoesNext (lanes : List (List Rec)) (before : List RecordPlace) (x : RecordPlace) : Type 0 where
   pub stands : IsTrue (is_record lanes x)
   pub fresh : Contains before x → ⊥
-  pub ready : ComesNext lanes before x
-  pub lowest : (y : RecordPlace) → y.lane < x.lane → IsTrue (is_record lanes y) → (Contains before y → ⊥) → ComesNext lanes before y → ⊥
+  pub ready : IsUnblocked lanes before x
+  pub lowest : (y : RecordPlace) → y.lane < x.lane → IsTrue (is_record lanes y) → (Contains before y → ⊥) → IsUnblocked lanes before y → ⊥
 
 -- each of these places goes next behind those before it
 abbrev pub GoesNextEach : List (List Rec) → List RecordPlace → List RecordPlace → Type 0

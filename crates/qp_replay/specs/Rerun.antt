@@ -17,7 +17,7 @@ abbrev pub world_in : PlainWorld → World
 world_in w = record { lanes = lists_of w.book; order = w.book.order.items }
 
 -- The record at this place may come next at the end of its lane, which has at most 1,000,000 records besides a `spill`.
-pub record GoesNext (lanes : List (List Rec)) (x : RecordPlace) (w : PlainWorld) : Type 0 where
+pub record MayGoNext (lanes : List (List Rec)) (x : RecordPlace) (w : PlainWorld) : Type 0 where
   pub sound : IsSound w.sys.now
   pub lane : x.lane < lanes_in w
   pub rec : Rec

@@ -10,10 +10,7 @@ use Rattle.qp_model.specs.Places.{RecordPlace}
 use Rattle.qp_replay.specs.Orders.{is_record}
 use Rattle.qp_replay.specs.declared.places.Replayed.{Replayed}
 use Rattle.qp_replay.specs.declared.places.Replayed.TheVariants.{Order, Cycle}
-
--- the record at a place
-abbrev pub record_at : List (List Rec) → RecordPlace → Option Rec
-record_at lanes x = option_and_then (λ lane. slice_get lane x.at) (slice_get lanes x.lane)
+use Rattle.qp_replay.specs.RerunLaws.{record_at}
 
 -- the line of a place: the lane, a space and the line of the record
 unfoldable pub place_line : ℕ → List (List Rec) → RecordPlace → List ℕ

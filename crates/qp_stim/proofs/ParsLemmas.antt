@@ -11,7 +11,8 @@ use Rattle.qp_stim.specs.declared.heard.Pars.{Pars}
 use Rattle.qp_stim.specs.declared.names.Signal.{Signal}
 use Rattle.qp_stim.specs.declared.verdict.LineStep.{LineStep}
 use Rattle.qp_stim.specs.Numbers.{number_of_token}
-use Rattle.qp_stim.specs.Grammar.{◌>>=◌, numbers_of}
+use Rattle.qp_stim.specs.Grammar.{numbers_of}
+use Rattle.qp_chart_text.specs.Tokens.{◌>>=◌}
 use Rattle.qp_stim.specs.Codes.{all_fit, stands}
 use Rattle.qp_stim.specs.Reading.{held, no_pars, with_par, with_pars, admits}
 use Rattle.qp_stim.proofs.NumbersLemmas.{held-small}

@@ -21,7 +21,8 @@ use Rattle.qp_stim.specs.Names.{Dictionary, FewParams, names_of, object_in, sign
 use Rattle.qp_stim.specs.Grammar.{Said, said_of}
 use Rattle.qp_stim.specs.Grammar as line
 use Rattle.qp_stim.specs.Codes.{exceeds, all_fit, is_out, event, stands, post_step, publish_step, source_step, step_said, step_if, step_of}
-use Rattle.qp_stim.specs.Stimuli.{◌>>=◌, Fault, add_to_last, sources_after, fails_at, read_on, stimuli_of}
+use Rattle.qp_stim.specs.Stimuli.{Fault, add_to_last, sources_after, fails_at, read_on, stimuli_of}
+use Rattle.qp_model.specs.Results.{◌>>=◌}
 use Rattle.qp_stim.specs.Answer.{StimuliAnswers}
 use Rattle.qp_stim.specs.Rules.{EventFits, PostFits, StimFits, StimuliFit}
 use Rattle.qp_model.proofs.HomeLemmas.{All-snoc}

@@ -5,7 +5,8 @@ use Rattle.qp_model.specs.declared.stimulus.Stim.{Stim}
 use Rattle.qp_stim.specs.declared.verdict.LineStep.{LineStep}
 use Rattle.qp_stim.specs.Names.{Dictionary}
 use Rattle.qp_stim.specs.Codes.{step_of}
-use Rattle.qp_stim.specs.Stimuli.{◌>>=◌, add_to_last, sources_after, fails_at, read_on}
+use Rattle.qp_stim.specs.Stimuli.{add_to_last, sources_after, fails_at, read_on}
+use Rattle.qp_model.specs.Results.{◌>>=◌}
 
 pub add_to_last-last : (s : Stim) (sources : List (List Stim)) (last : List Stim) → add_to_last s (sources ++ last ∷ []) ≡ sources ++ (last ++ s ∷ []) ∷ []
 add_to_last-last s [] last = refl

@@ -16,7 +16,8 @@ use Rattle.qp_stim.specs.Names.{Dictionary, FewParams}
 use Rattle.qp_stim.specs.Grammar.{Said, said_of}
 use Rattle.qp_stim.specs.Grammar as line
 use Rattle.qp_stim.specs.Codes.{exceeds, all_fit, stands, post_step, publish_step, source_step, step_said, step_if, step_of}
-use Rattle.qp_stim.specs.Reading.{◌>>=◌, held, no_pars, with_pars, heard_of, small_of, admits, post_verdict, publish_verdict, is_next, tick_verdict, verdict_on}
+use Rattle.qp_stim.specs.Reading.{held, no_pars, with_pars, heard_of, small_of, admits, post_verdict, publish_verdict, is_next, tick_verdict, verdict_on}
+use Rattle.qp_model.specs.Results.{◌>>=◌}
 use Rattle.qp_stim.proofs.NumbersLemmas.{held-small, held-large}
 use Rattle.qp_stim.proofs.ParsLemmas.{admits-pars}
 

@@ -6,6 +6,7 @@ use Rattle.std.specs.Str.{bytes_eq}
 use Rattle.qp_stim.specs.Parts.{split, before_separator, after, tokens}
 use Rattle.qp_stim.specs.Numbers.{number_of_token}
 use Rattle.qp_stim.specs.Names.{is_name}
+use Rattle.qp_chart_text.specs.Tokens.{◌>>=◌}
 
 -- an event as a line names it: its signal and its parameters
 pub record EventWords : Type 0 where
@@ -19,11 +20,6 @@ pub data Said : Type 0 where
   Publish : (event : EventWords) (reserve : Option ℕ) → Said
   Tick : (rate : ℕ) → Said
   Settle : Said
-
-infixl 10 ◌>>=◌
-abbrev pub ◌>>=◌ : {A B : Type 0} → Option A → (A → Option B) → Option B
-None >>= f = None
-(Some x) >>= f = f x
 
 -- NUM { "," NUM }
 unfoldable pub numbers_of : List (List ℕ) → Option (List ℕ)

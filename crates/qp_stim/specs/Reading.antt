@@ -17,6 +17,7 @@ use Rattle.qp_stim.specs.Parts.{split}
 use Rattle.qp_stim.specs.Names.{Dictionary}
 use Rattle.qp_stim.specs.Grammar as line
 use Rattle.qp_stim.specs.Grammar.{Said}
+use Rattle.qp_model.specs.Results.{◌>>=◌}
 
 -- a number, if 64 bits hold it
 abbrev pub held : ℕ → Option ℕ
@@ -58,11 +59,6 @@ held_option x = (option_map held x.0, x.1)
 
 abbrev pub option_left : Option (Option ℕ) × Tokens → Option (Option ℕ) × List (List ℕ)
 option_left x = (x.0, left x.1)
-
-infixl 10 ◌>>=◌
-abbrev pub ◌>>=◌ : {A B : Type 0} → Result A ℕ → (A → Result B ℕ) → Result B ℕ
-(Ok x) >>= f = f x
-(Err code) >>= f = Err code
 
 -- a margin or a reserve, if there is one
 abbrev pub small_of : Option (Option ℕ) → Result (Option ℕ) ℕ

@@ -8,6 +8,7 @@ use Rattle.qp_stim.specs.declared.verdict.LineStep.TheVariants.{Skips, Opens, Ad
 use Rattle.qp_stim.specs.Parts.{lines}
 use Rattle.qp_stim.specs.Names.{Dictionary, names_of}
 use Rattle.qp_stim.specs.Codes.{step_of}
+use Rattle.qp_model.specs.Results.{◌>>=◌}
 
 -- the first line with a code, and its lowest code
 pub record Fault : Type 0 where
@@ -29,11 +30,6 @@ sources_after sources (Adds s) = add_to_last s sources
 abbrev pub fails_at : {A : Type 0} → ℕ → Result A ℕ → Result A Fault
 fails_at n (Ok x) = Ok x
 fails_at n (Err code) = Err (record { line = n; code = code })
-
-infixl 10 ◌>>=◌
-abbrev pub ◌>>=◌ : {A B : Type 0} → Result A Fault → (A → Result B Fault) → Result B Fault
-(Ok x) >>= f = f x
-(Err e) >>= f = Err e
 
 -- the sources after these lines, the first of which has number n
 unfoldable pub read_on : Dictionary → ℕ → List (List Stim) → List (List ℕ) → Result (List (List Stim)) Fault

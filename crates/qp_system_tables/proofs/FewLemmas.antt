@@ -10,7 +10,8 @@ use Rattle.qp_chart_names.specs.declared.place.Part.{Part}
 use Rattle.qp_chart_names.specs.declared.place.Part.TheVariants.{Key, Pos}
 use Rattle.qp_chart_names.specs.Codes.{TOO_MANY, RANGE}
 use Rattle.qp_chart_names.specs.Faults.{Fault}
-use Rattle.qp_system_tables.specs.Tree.{◌>>=◌, refuse, at_key, knows, defaulted, needed, optional}
+use Rattle.qp_system_tables.specs.Tree.{refuse, at_key, knows, defaulted, needed, optional}
+use Rattle.qp_model.specs.Results.{◌>>=◌}
 use Rattle.qp_system_tables.specs.Values.{integer_between, name_of, text_of, tables_of, texts_of, some_texts, short_texts, vars_of, some_vars, named_vars, all_integers, items_of_kind, allowed}
 use Rattle.qp_chart_names.specs.Keys.{QP, POOL, SIGNAL, CHART, OBJECT, NAME, PARENT, INIT, INIT_DO, VARS, TIMER, STATE, ENTRY, EXIT, ROW, ON, WHEN, DO, TO}
 use Rattle.qp_chart_names.specs.declared.raw.RawState.{RawState}

@@ -15,7 +15,8 @@ use Rattle.qp_chart_names.specs.Codes.{RANGE}
 use Rattle.qp_chart_names.specs.Faults.{Fault}
 use Rattle.qp_system_tables.specs.declared.fault.SystemFault.{SystemFault}
 use Rattle.qp_system_tables.specs.declared.fault.SystemFault.TheVariants.{Memory, NotToml, At}
-use Rattle.qp_system_tables.specs.Tree.{◌>>=◌, each}
+use Rattle.qp_system_tables.specs.Tree.{each}
+use Rattle.qp_model.specs.Results.{◌>>=◌}
 use Rattle.qp_system_tables.specs.Values.{with_first, all_of_kind, short_texts}
 use Rattle.qp_system_tables.specs.Refused.{ReadFails}
 use Rattle.qp_system_tables.specs.Front.{with_front, Table, members}

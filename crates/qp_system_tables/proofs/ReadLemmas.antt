@@ -10,7 +10,8 @@ use Rattle.qp_chart_names.specs.declared.place.Part.{Part}
 use Rattle.qp_chart_names.specs.declared.place.Part.TheVariants.{Pos}
 use Rattle.qp_chart_names.specs.Codes.{TOO_MANY}
 use Rattle.qp_chart_names.specs.Faults.{Fault}
-use Rattle.qp_system_tables.specs.Tree.{◌>>=◌, refuse, at_key, default_at, needed_at, defaulted, needed, each}
+use Rattle.qp_system_tables.specs.Tree.{refuse, at_key, default_at, needed_at, defaulted, needed, each}
+use Rattle.qp_model.specs.Results.{◌>>=◌}
 use Rattle.qp_system_tables.specs.Values.{tables_of, some_tables, items_of_kind}
 use Rattle.qp_system_tables.specs.Tables.{read_tables}
 

@@ -10,7 +10,7 @@ use Rattle.toml.specs.declared.value.Value.{Value}
 use Rattle.qp_chart_names.specs.declared.place.Part.{Part}
 use Rattle.qp_chart_names.specs.Faults.{Fault}
 use Rattle.qp_system_tables.specs.declared.fault.SystemFault.{SystemFault}
-use Rattle.qp_system_tables.specs.Tree.{◌>>=◌}
+use Rattle.qp_model.specs.Results.{◌>>=◌}
 use Rattle.qp_system_tables.specs.Values.{allowed, named_vars, all_integers}
 use Rattle.qp_system_tables.specs.Refused.{ReadFails}
 use Rattle.qp_system_tables.specs.Front.{with_front}

@@ -8,7 +8,7 @@ use Rattle.toml.specs.View.{table_view}
 use Rattle.toml.specs.declared.value.Value.{Value}
 use Rattle.std.specs.declared.result.Result.{Result}
 use Rattle.qp_chart_names.specs.Faults.{Fault}
-use Rattle.qp_system_tables.specs.Tree.{◌>>=◌}
+use Rattle.qp_model.specs.Results.{◌>>=◌}
 
 -- things that were read, before those that reading gives
 abbrev pub with_front : {A : Type 0} → List A → Result (List A) Fault → Result (List A) Fault

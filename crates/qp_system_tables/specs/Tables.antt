@@ -17,7 +17,8 @@ use Rattle.qp_chart_names.specs.declared.raw.RawState.{RawState}
 use Rattle.qp_chart_names.specs.declared.raw.RawChart.{RawChart}
 use Rattle.qp_system_tables.specs.declared.raw.RawObject.{RawObject}
 use Rattle.qp_system_tables.specs.declared.raw.RawSystem.{RawSystem}
-use Rattle.qp_system_tables.specs.Tree.{◌>>=◌, refuse, at_key, knows, needed, defaulted, optional, each}
+use Rattle.qp_system_tables.specs.Tree.{refuse, at_key, knows, needed, defaulted, optional, each}
+use Rattle.qp_model.specs.Results.{◌>>=◌}
 use Rattle.qp_system_tables.specs.Values.{integer_between, name_of, text_of, flag_of, texts_of, vars_of, tables_of}
 
 -- a list of tables, each of which is read in turn right after the list itself

@@ -10,11 +10,7 @@ use Rattle.qp_chart_names.specs.declared.place.Part.TheVariants.{Key, Pos}
 use Rattle.qp_chart_names.specs.Codes.{MISSING, UNKNOWN}
 use Rattle.qp_chart_names.specs.Paths.{key_word}
 use Rattle.qp_chart_names.specs.Faults.{Fault}
-
-infixl 10 ◌>>=◌
-abbrev pub ◌>>=◌ : {A B : Type 0} → Result A Fault → (A → Result B Fault) → Result B Fault
-(Ok x) >>= f = f x
-(Err e) >>= f = Err e
+use Rattle.qp_model.specs.Results.{◌>>=◌}
 
 -- the fault of this code at this path
 abbrev pub refuse : {A : Type 0} → ℕ → List Part → Result A Fault

@@ -8,7 +8,8 @@ use Rattle.qp_chart_names.specs.declared.place.Part.{Part}
 use Rattle.qp_chart_names.specs.declared.place.Part.TheVariants.{Pos}
 use Rattle.qp_chart_names.specs.Codes.{WRONG_KIND, RANGE, TOO_MANY}
 use Rattle.qp_chart_names.specs.Faults.{Fault}
-use Rattle.qp_system_tables.specs.Tree.{refuse, ◌>>=◌}
+use Rattle.qp_system_tables.specs.Tree.{refuse}
+use Rattle.qp_model.specs.Results.{◌>>=◌}
 use Rattle.qp_system_tables.specs.Names.{is_name}
 
 abbrev pub within : ℕ → ℕ → List Part → ℤ → Result ℕ Fault
