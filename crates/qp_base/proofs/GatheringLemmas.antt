@@ -3,7 +3,7 @@ use Rattle.std.proofs.Common.{◌≡◌, ℕ, ◌+◌, ◌-◌, ◌^◌, ◌≤�
 use Rattle.std.specs.Option.{ForSome}
 use Rattle.std.proofs.lemmas.List.{append-nil, take-append-le, take_all, take-append-drop}
 use Rattle.qp_base.specs.Sink.{AppendsPrefix, appended}
-use Rattle.qp_base.specs.Gathering.{GoesDown, IsBegun, Went, in_64_bits, put_of, told, torn_part, whole_part}
+use Rattle.qp_base.specs.Gathering.{GoesDown, IsBegun, Went, in_64_bits, put_of, sink_told, torn_part, whole_part}
 use Rattle.qp_base.specs.declared.course.Course.{Course}
 use Rattle.qp_base.specs.declared.course.Course.TheVariants.{Open, Torn, Stopped}
 
@@ -36,26 +36,26 @@ went-on None after gone n held left bytes goes is count = rw is tt
 went-on (Some w) after gone n held left bytes goes is count = rw is (counted-on (length w) (length bytes) gone (length (w ++ bytes)) goes (length-append w bytes) ∙ sym count)
 
 -- what is put stays what it is while what is held goes on
-pub told-on : (below after : Option (List ℕ)) (gone n : ℕ) (held : List ℕ) → after ≡ appended below held → told Open n [] after ≡ told Open gone held below
-unfolding told put_of
+pub told-on : (below after : Option (List ℕ)) (gone n : ℕ) (held : List ℕ) → after ≡ appended below held → sink_told Open n [] after ≡ sink_told Open gone held below
+unfolding sink_told put_of
 told-on None after gone n held is = rw is refl
 told-on (Some w) after gone n held is = rw is (ap Some (append-nil (w ++ held)))
 
 -- bytes that go on while nothing is held are put
-pub told-over : (below after : Option (List ℕ)) (gone n : ℕ) (bytes : List ℕ) → after ≡ appended below bytes → told Open n [] after ≡ appended (told Open gone [] below) bytes
-unfolding told put_of
+pub told-over : (below after : Option (List ℕ)) (gone n : ℕ) (bytes : List ℕ) → after ≡ appended below bytes → sink_told Open n [] after ≡ appended (sink_told Open gone [] below) bytes
+unfolding sink_told put_of
 told-over None after gone n bytes is = rw is refl
 told-over (Some w) after gone n bytes is = rw is (ap Some (append-nil (w ++ bytes) ∙ ap (λ l. l ++ bytes) (sym (append-nil w))))
 
 -- bytes that are held are put
-pub told-held : (below : Option (List ℕ)) (gone : ℕ) (held bytes : List ℕ) → told Open gone (held ++ bytes) below ≡ appended (told Open gone held below) bytes
-unfolding told put_of
+pub told-held : (below : Option (List ℕ)) (gone : ℕ) (held bytes : List ℕ) → sink_told Open gone (held ++ bytes) below ≡ appended (sink_told Open gone held below) bytes
+unfolding sink_told put_of
 told-held None gone held bytes = refl
 told-held (Some w) gone held bytes = ap Some (sym (append_assoc w held bytes))
 
 -- where nothing is held, what was put went on
-pub told-all : (below : Option (List ℕ)) (gone : ℕ) → told Open gone [] below ≡ below
-unfolding told put_of
+pub told-all : (below : Option (List ℕ)) (gone : ℕ) → sink_told Open gone [] below ≡ below
+unfolding sink_told put_of
 told-all None gone = refl
 told-all (Some w) gone = ap Some (append-nil w)
 
@@ -89,14 +89,14 @@ torn-goes (Some w) after gone held few goes (k, some, is) =
 
 -- a torn piece was put whole
 pub torn-told : (below after : Option (List ℕ)) (gone : ℕ) (held : List ℕ) → length held ≤ 65536 → GoesDown Open gone held below → AppendsPrefix below held after
-    → told Torn gone held after ≡ told Open gone held below
-unfolding GoesDown Went told put_of
+    → sink_told Torn gone held after ≡ sink_told Open gone held below
+unfolding GoesDown Went sink_told put_of
 torn-told None after gone held few goes (k, some, is) = rw is refl
-torn-told (Some w) after gone held few goes (k, some, is) = ap (λ o. told Torn gone held o) is ∙ ap (λ l. Some (l ++ held)) (torn-whole gone k w held goes few some).1
+torn-told (Some w) after gone held few goes (k, some, is) = ap (λ o. sink_told Torn gone held o) is ∙ ap (λ l. Some (l ++ held)) (torn-whole gone k w held goes few some).1
 
 -- of bytes that didn't go on whole some were put
-pub stopped-told : (below after : Option (List ℕ)) (gone n : ℕ) (left bytes : List ℕ) → AppendsPrefix below bytes after → AppendsPrefix (told Open gone [] below) bytes (told Stopped n left after)
-unfolding told put_of
+pub stopped-told : (below after : Option (List ℕ)) (gone n : ℕ) (left bytes : List ℕ) → AppendsPrefix below bytes after → AppendsPrefix (sink_told Open gone [] below) bytes (sink_told Stopped n left after)
+unfolding sink_told put_of
 stopped-told None after gone n left bytes (k, few, is) = (k, few, rw is refl)
 stopped-told (Some w) after gone n left bytes (k, few, is) = (k, few, rw is (ap (λ l. Some (l ++ take k bytes)) (sym (append-nil w))))
 
@@ -106,8 +106,8 @@ stopped-goes None gone held = tt
 stopped-goes (Some w) gone held = tt
 
 -- what went on is the first part of what was put
-pub begun : (course : Course) (gone : ℕ) (held : List ℕ) (below : Option (List ℕ)) → GoesDown course gone held below → IsBegun below (told course gone held below)
-unfolding GoesDown Went told put_of
+pub begun : (course : Course) (gone : ℕ) (held : List ℕ) (below : Option (List ℕ)) → GoesDown course gone held below → IsBegun below (sink_told course gone held below)
+unfolding GoesDown Went sink_told put_of
 begun course gone held None goes = tt
 begun Open gone held (Some w) goes = (held, refl)
 begun Stopped gone held (Some w) goes = ([], sym (append-nil w))
@@ -135,27 +135,27 @@ pub torn : (course : Course) (below after : Option (List ℕ)) (gone : ℕ) (hel
 torn course below after gone held going few goes some = torn-goes below after gone held few (subst (λ c. GoesDown c gone held below) going goes) some
 
 pub torn-put : (course : Course) (below after : Option (List ℕ)) (gone : ℕ) (held : List ℕ) → course ≡ Open → length held ≤ 65536 → GoesDown course gone held below → AppendsPrefix below held after
-    → told Torn gone held after ≡ told course gone held below
+    → sink_told Torn gone held after ≡ sink_told course gone held below
 torn-put course below after gone held going few goes some =
-    torn-told below after gone held few (subst (λ c. GoesDown c gone held below) going goes) some ∙ ap (λ c. told c gone held below) (sym going)
+    torn-told below after gone held few (subst (λ c. GoesDown c gone held below) going goes) some ∙ ap (λ c. sink_told c gone held below) (sym going)
 
-pub on-put : (course : Course) (below after : Option (List ℕ)) (gone n : ℕ) (held left : List ℕ) → course ≡ Open → left ≡ [] → after ≡ appended below held → told course n left after ≡ told course gone held below
+pub on-put : (course : Course) (below after : Option (List ℕ)) (gone n : ℕ) (held left : List ℕ) → course ≡ Open → left ≡ [] → after ≡ appended below held → sink_told course n left after ≡ sink_told course gone held below
 on-put course below after gone n held left going empty is = rw (going, empty) (told-on below after gone n held is)
 
 pub over-put : (course : Course) (below after : Option (List ℕ)) (gone n : ℕ) (held bytes : List ℕ) → course ≡ Open → held ≡ [] → after ≡ appended below bytes
-    → told course n held after ≡ appended (told course gone held below) bytes
+    → sink_told course n held after ≡ appended (sink_told course gone held below) bytes
 over-put course below after gone n held bytes going empty is = rw (going, empty) (told-over below after gone n bytes is)
 
-pub held-put : (course : Course) (below : Option (List ℕ)) (gone : ℕ) (held left bytes : List ℕ) → course ≡ Open → left ≡ held ++ bytes → told course gone left below ≡ appended (told course gone held below) bytes
+pub held-put : (course : Course) (below : Option (List ℕ)) (gone : ℕ) (held left bytes : List ℕ) → course ≡ Open → left ≡ held ++ bytes → sink_told course gone left below ≡ appended (sink_told course gone held below) bytes
 held-put course below gone held left bytes going is = rw (going, is) (told-held below gone held bytes)
 
 pub stopped-put : (course : Course) (below after : Option (List ℕ)) (gone n : ℕ) (held left bytes : List ℕ) → course ≡ Open → held ≡ [] → AppendsPrefix below bytes after
-    → AppendsPrefix (told course gone held below) bytes (told Stopped n left after)
+    → AppendsPrefix (sink_told course gone held below) bytes (sink_told Stopped n left after)
 stopped-put course below after gone n held left bytes going empty some = rw (going, empty) (stopped-told below after gone n left bytes some)
 
-pub flushed : (course : Course) (gone : ℕ) (held : List ℕ) (below all : Option (List ℕ)) → told course gone held below ≡ all → course ≡ Open → held ≡ [] → below ≡ all
+pub flushed : (course : Course) (gone : ℕ) (held : List ℕ) (below all : Option (List ℕ)) → sink_told course gone held below ≡ all → course ≡ Open → held ≡ [] → below ≡ all
 flushed course gone held below all same going empty =
-    sym (told-all below gone) ∙ ap (λ c. told c gone [] below) (sym going) ∙ ap (λ h. told course gone h below) (sym empty) ∙ same
+    sym (told-all below gone) ∙ ap (λ c. sink_told c gone [] below) (sym going) ∙ ap (λ h. sink_told course gone h below) (sym empty) ∙ same
 
 -- a count that goes on in 64 bits, behind what was there at first
 pub count-on : (first gone after n : ℕ) → after ≡ in_64_bits (gone + n) → in_64_bits (first + after) ≡ in_64_bits (first + gone + n)
@@ -172,7 +172,7 @@ on-err (Err e) P p = p
 
 -- of bytes that didn't go on whole some were put, also where the failure is counted then
 pub stopped : {A E : Type 0} (r : Result A E) (course later : Course) (below there after : Option (List ℕ)) (gone n : ℕ) (held left bytes : List ℕ) → course ≡ Open → held ≡ [] → AppendsPrefix below bytes there
-    → later ≡ Stopped → after ≡ there → OnErr r (AppendsPrefix (told course gone held below) bytes (told later n left after))
+    → later ≡ Stopped → after ≡ there → OnErr r (AppendsPrefix (sink_told course gone held below) bytes (sink_told later n left after))
 stopped r course later below there after gone n held left bytes going empty some is same =
-    on-err r (AppendsPrefix (told course gone held below) bytes (told later n left after))
+    on-err r (AppendsPrefix (sink_told course gone held below) bytes (sink_told later n left after))
     (rw (is, same) (stopped-put course below there gone n held left bytes going empty some))

@@ -25,9 +25,9 @@ put_of Torn gone held w = whole_part gone w ++ held
 put_of Stopped gone held w = w
 
 -- the same, where the sink below tells what went on
-unfoldable pub told : Course → ℕ → List ℕ → Option (List ℕ) → Option (List ℕ)
+unfoldable pub sink_told : Course → ℕ → List ℕ → Option (List ℕ) → Option (List ℕ)
 unfolding put_of
-told course gone held below = option_map (put_of course gone held) below
+sink_told course gone held below = option_map (put_of course gone held) below
 
 -- how w went on: so many bytes of it, and of a torn piece some, from the first on
 unfoldable pub Went : Course → ℕ → List ℕ → List ℕ → Type 0

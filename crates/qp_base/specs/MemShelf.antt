@@ -16,9 +16,9 @@ pub record Shelved : Type 0 where
   pub misses : ℕ
 
 -- the bytes of the first file of this name
-abbrev pub held_by : List (List ℕ × List ℕ) → List ℕ → Option (List ℕ)
-held_by [] name = None
-held_by (file ∷ files) name = cond (bytes_eq file.0 name) (Some file.1) (held_by files name)
+abbrev pub bytes_of_file : List (List ℕ × List ℕ) → List ℕ → Option (List ℕ)
+bytes_of_file [] name = None
+bytes_of_file (file ∷ files) name = cond (bytes_eq file.0 name) (Some file.1) (bytes_of_file files name)
 
 -- the next load fails
 abbrev pub fails : Shelved → Bool

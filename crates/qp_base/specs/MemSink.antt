@@ -12,8 +12,8 @@ pub record Stored : Type 0 where
   pub faults : ℕ
 
 -- what the first pair of this number says
-abbrev pub listed : List (ℕ × ℕ) → ℕ → Option ℕ
-listed pairs put = option_map (λ pair. pair.1) (find (λ pair. pair.0 == put) pairs)
+abbrev pub first_said : List (ℕ × ℕ) → ℕ → Option ℕ
+first_said pairs put = option_map (λ pair. pair.1) (find (λ pair. pair.0 == put) pairs)
 
 -- how many of n bytes are kept by a put that fails, as listed or for want of room
 abbrev pub kept_of : Option ℕ → ℕ → ℕ → Option ℕ
@@ -22,7 +22,7 @@ kept_of None n free = cond (nat_le n free) None (Some free)
 
 -- how many of n bytes the next put keeps, if it fails
 abbrev pub kept_at_fault : Stored → ℕ → Option ℕ
-kept_at_fault s n = kept_of (listed s.failing s.puts) n (s.room - length s.bytes)
+kept_at_fault s n = kept_of (first_said s.failing s.puts) n (s.room - length s.bytes)
 
 -- the bytes that are kept
 abbrev pub kept_bytes : Option ℕ → List ℕ → List ℕ

@@ -3,7 +3,7 @@
 ghost use Rattle.std.specs.Prelude.{◌≡◌, ◌≢◌, ◌+◌, ◌≤◌, ℕ, [], length, vec_capacity, OnOk, OnErr, IfOk, IfErr, IfSome, true, false, is_err};
 ghost use Rattle.std.specs.Option.{ForSome};
 ghost use Rattle.qp_base.specs.Counts.{CountsIf, Rose};
-ghost use Rattle.qp_base.specs.Gathering.{GoesDown, Goes-prop, IsBegun, told};
+ghost use Rattle.qp_base.specs.Gathering.{GoesDown, Goes-prop, IsBegun, sink_told};
 ghost use Rattle.qp_base.specs.Sink.{AppendsPrefix, appended};
 ghost use Rattle.qp_base.specs.declared.course.Course.TheVariants.{Open};
 
@@ -78,7 +78,7 @@ impl<S: Sink + Drop, B: Beginning> Gathered<S, B> {
     /// The sink below, which got the first part of what was put.
     pub fn inner(&self) -> &S
         ensures inner { result.now ≡ self.now.inner }
-        ensures begun { IsBegun (S.written result.now) (told self.now.course (B.first_length + self.now.gone) self.now.held.items
+        ensures begun { IsBegun (S.written result.now) (sink_told self.now.course (B.first_length + self.now.gone) self.now.held.items
             (S.written self.now.inner)) }
     {
         &self.inner
@@ -87,7 +87,7 @@ impl<S: Sink + Drop, B: Beginning> Gathered<S, B> {
     /// The sink below, which got the first part of what was put; what is still gathered is dropped.
     pub fn into_inner(self) -> S
         ensures inner { result ≡ self.inner }
-        ensures begun { IsBegun (S.written result) (told self.course (B.first_length + self.gone) self.held.items (S.written self.inner)) }
+        ensures begun { IsBegun (S.written result) (sink_told self.course (B.first_length + self.gone) self.held.items (S.written self.inner)) }
         ensures grown { ForSome (S.written result) (λ w. B.first_length ≤ length w) }
         ensures none { self.course ≡ Open → self.faults ≡ 0 }
         ensures stands { self.course ≡ Open → S.faults result ≡ B.first_faults }
@@ -99,11 +99,11 @@ impl<S: Sink + Drop, B: Beginning> Gathered<S, B> {
 
     /// Hands on all that is gathered. It succeeds exactly where all that was put has gone on, and nothing is gathered then.
     pub fn flush(&mut self) -> Result<(), SinkFault>
-        ensures told { told self.new.course (B.first_length + self.new.gone) self.new.held.items (S.written self.new.inner) ≡ told
+        ensures told { sink_told self.new.course (B.first_length + self.new.gone) self.new.held.items (S.written self.new.inner) ≡ sink_told
             self.old.course (B.first_length + self.old.gone) self.old.held.items (S.written self.old.inner) }
         ensures going { OnOk result (self.new.course ≡ Open) }
         ensures held { OnOk result (self.new.held.items ≡ []) }
-        ensures ok { OnOk result (S.written self.new.inner ≡ told self.old.course (B.first_length + self.old.gone) self.old.held.items
+        ensures ok { OnOk result (S.written self.new.inner ≡ sink_told self.old.course (B.first_length + self.old.gone) self.old.held.items
             (S.written self.old.inner)) }
         ensures closed { self.old.course ≢ Open → is_err result ≡ true }
         ensures err { OnErr result (self.new.course ≢ Open) }
@@ -135,8 +135,8 @@ impl<S: Sink + Drop, B: Beginning> Gathered<S, B> {
     fn gather(&mut self, bytes: &[u8])
         requires going { self.old.course ≡ Open }
         requires room { length self.old.held.items + length bytes.now ≤ 65536 }
-        ensures told { told self.new.course (B.first_length + self.new.gone) self.new.held.items (S.written self.new.inner) ≡ appended
-            (told self.old.course (B.first_length + self.old.gone) self.old.held.items (S.written self.old.inner)) bytes.now }
+        ensures told { sink_told self.new.course (B.first_length + self.new.gone) self.new.held.items (S.written self.new.inner) ≡ appended
+            (sink_told self.old.course (B.first_length + self.old.gone) self.old.held.items (S.written self.old.inner)) bytes.now }
         ensures going { self.new.course ≡ Open }
         ensures inner { self.new.inner ≡ self.old.inner }
         ensures faults { self.new.faults ≡ self.old.faults }
@@ -147,7 +147,7 @@ impl<S: Sink + Drop, B: Beginning> Gathered<S, B> {
     /// Hands on what is gathered.
     fn hand_on(&mut self) -> Result<(), SinkFault>
         requires { self.old.course ≡ Open }
-        ensures told { told self.new.course (B.first_length + self.new.gone) self.new.held.items (S.written self.new.inner) ≡ told
+        ensures told { sink_told self.new.course (B.first_length + self.new.gone) self.new.held.items (S.written self.new.inner) ≡ sink_told
             self.old.course (B.first_length + self.old.gone) self.old.held.items (S.written self.old.inner) }
         ensures going { OnOk result (self.new.course ≡ Open) }
         ensures held { OnOk result (self.new.held.items ≡ []) }
@@ -177,10 +177,10 @@ impl<S: Sink + Drop, B: Beginning> Gathered<S, B> {
     fn hand_over(&mut self, bytes: &[u8]) -> Result<(), SinkFault>
         requires going { self.old.course ≡ Open }
         requires held { self.old.held.items ≡ [] }
-        ensures ok { OnOk result (told self.new.course (B.first_length + self.new.gone) self.new.held.items (S.written self.new.inner) ≡
-            appended (told self.old.course (B.first_length + self.old.gone) self.old.held.items (S.written self.old.inner)) bytes.now) }
-        ensures prefix { OnErr result (AppendsPrefix (told self.old.course (B.first_length + self.old.gone) self.old.held.items
-            (S.written self.old.inner)) bytes.now (told self.new.course (B.first_length + self.new.gone) self.new.held.items
+        ensures ok { OnOk result (sink_told self.new.course (B.first_length + self.new.gone) self.new.held.items (S.written self.new.inner) ≡
+            appended (sink_told self.old.course (B.first_length + self.old.gone) self.old.held.items (S.written self.old.inner)) bytes.now) }
+        ensures prefix { OnErr result (AppendsPrefix (sink_told self.old.course (B.first_length + self.old.gone) self.old.held.items
+            (S.written self.old.inner)) bytes.now (sink_told self.new.course (B.first_length + self.new.gone) self.new.held.items
             (S.written self.new.inner))) }
         ensures going { OnOk result (self.new.course ≡ Open) }
         ensures err { OnErr result (self.new.course ≢ Open) }
@@ -202,15 +202,15 @@ impl<S: Sink + Drop, B: Beginning> Gathered<S, B> {
 }
 
 impl<S: Sink + Drop, B: Beginning> Sink for Gathered<S, B> {
-    ghost written = { λ s. told s.course (B.first_length + s.gone) s.held.items (S.written s.inner) };
+    ghost written = { λ s. sink_told s.course (B.first_length + s.gone) s.held.items (S.written s.inner) };
 
     ghost faults = { λ s. s.faults };
 
     fn put(&mut self, bytes: &[u8]) -> Result<(), SinkFault>
-        ensures ok { OnOk result (told self.new.course (B.first_length + self.new.gone) self.new.held.items (S.written self.new.inner) ≡
-            appended (told self.old.course (B.first_length + self.old.gone) self.old.held.items (S.written self.old.inner)) bytes.now) }
-        ensures err { OnErr result (AppendsPrefix (told self.old.course (B.first_length + self.old.gone) self.old.held.items
-            (S.written self.old.inner)) bytes.now (told self.new.course (B.first_length + self.new.gone) self.new.held.items
+        ensures ok { OnOk result (sink_told self.new.course (B.first_length + self.new.gone) self.new.held.items (S.written self.new.inner) ≡
+            appended (sink_told self.old.course (B.first_length + self.old.gone) self.old.held.items (S.written self.old.inner)) bytes.now) }
+        ensures err { OnErr result (AppendsPrefix (sink_told self.old.course (B.first_length + self.old.gone) self.old.held.items
+            (S.written self.old.inner)) bytes.now (sink_told self.new.course (B.first_length + self.new.gone) self.new.held.items
             (S.written self.new.inner))) }
 
         ensures going { OnOk result (self.new.course ≡ Open) }

@@ -4,7 +4,7 @@ ghost use Rattle.std.specs.Prelude.{◌≡◌, ◌≤◌, ◌==◌, ℕ, List, O
 ghost use Rattle.std.specs.Option.{option_copied};
 ghost use Rattle.std.specs.List.{list_any};
 ghost use Rattle.qp_base.specs.Counts.{CountsIf};
-ghost use Rattle.qp_base.specs.MemShelf.{Shelved, after_load, fails, held_by};
+ghost use Rattle.qp_base.specs.MemShelf.{Shelved, after_load, fails, bytes_of_file};
 ghost use Rattle.qp_base.specs.Shelf.{KeepsLimit, TellsOf, is_failed, is_missed};
 
 use crate::shelves::{FILE_LIMIT, Shelf, ShelfFault};
@@ -29,7 +29,7 @@ impl Model for Files {
 impl Files {
     /// The bytes of the first file of this name.
     fn find(&self, name: &str) -> Option<&[u8]>
-        ensures { option_copied result ≡ held_by self.now name.now }
+        ensures { option_copied result ≡ bytes_of_file self.now name.now }
     {
         for (held, bytes) in &self.items {
             if held.as_str() == name {
@@ -41,7 +41,7 @@ impl Files {
 
     /// A copy of the first file of this name.
     fn copy(&self, alloc: Global, name: &str) -> Result<Vec<u8>, ShelfFault>
-        ensures tells { TellsOf (held_by self.now name.now) result }
+        ensures tells { TellsOf (bytes_of_file self.now name.now) result }
         ensures limit { KeepsLimit result }
         ensures works { is_failed result ≡ false }
     {
@@ -115,7 +115,7 @@ impl MemShelf {
 }
 
 impl Shelf for MemShelf {
-    ghost holds = { λ s. Some (held_by s.files) };
+    ghost holds = { λ s. Some (bytes_of_file s.files) };
 
     ghost faults = { λ s. s.faults };
 
@@ -125,9 +125,9 @@ impl Shelf for MemShelf {
         ensures fails { is_failed result ≡ fails self.old }
         ensures after { self.new ≡ after_load self.old result }
 
-        ensures tells { TellsOf (held_by self.old.files name.now) result }
+        ensures tells { TellsOf (bytes_of_file self.old.files name.now) result }
         ensures limit { KeepsLimit result }
-        ensures held { Some (held_by self.new.files) ≡ Some (held_by self.old.files) }
+        ensures held { Some (bytes_of_file self.new.files) ≡ Some (bytes_of_file self.old.files) }
 
         ensures faults { CountsIf (is_failed result) self.old.faults self.new.faults }
         ensures faults_last { self.old.faults ≤ self.new.faults }

@@ -2,7 +2,7 @@
 
 ghost use Rattle.std.specs.Prelude.{◌≡◌, ◌≤◌, ◌-◌, ℕ, List, [], length, Option, Some, OnOk, OnErr, IfOk, is_err, is_some};
 ghost use Rattle.qp_base.specs.Counts.{CountsIf};
-ghost use Rattle.qp_base.specs.MemSink.{Stored, after_put, kept_at_fault, listed};
+ghost use Rattle.qp_base.specs.MemSink.{Stored, after_put, kept_at_fault, first_said};
 ghost use Rattle.qp_base.specs.Sink.{AppendsPrefix, appended};
 
 use crate::faults::Memory;
@@ -27,7 +27,7 @@ impl Model for PutFaults {
 impl PutFaults {
     /// How many bytes the put of this number keeps, if it fails.
     fn find(&self, put: u64) -> Option<u64>
-        ensures { result ≡ listed self.now put }
+        ensures { result ≡ first_said self.now put }
     {
         self.items
             .iter()

@@ -17,7 +17,7 @@ use Rattle.qp_calls.specs.LaneView.{LaneView, Grows, AddsTold, Roomier, ceiling_
 use Rattle.qp_calls.specs.Clauses.{ReadsSubscribers, EntryStands, entry_of}
 use Rattle.qp_calls.specs.Entries.{Again, Made, PostsEntry, Released, Unmade, did_of}
 use Rattle.qp_calls.specs.Groups.{CallAnswers}
-use Rattle.qp_calls.specs.Publishing.{Announced, AreObjects, BeginsGoing, EndsGoing, GoesOnAssert, GoesOnGoing, Marks, PostsAgain}
+use Rattle.qp_calls.specs.Publishing.{Announced, MembersAreObjects, BeginsGoing, EndsGoing, GoesOnAssert, GoesOnGoing, Marks, PostsAgain}
 use Rattle.qp_calls.proofs.Growing.{gains-none, grows-room, grows-then, stands-still}
 use Rattle.qp_calls.proofs.Answering.{with_head, without-with}
 use Rattle.qp_calls.proofs.NoteLemmas.{ceiling-append}
@@ -209,7 +209,7 @@ begins-going ev reserve made all former fixed p a r v w room is_fixed first mark
       fits = (first.head, first.number, all, makes, refl, refl);
       left = refl;
       former = refl;
-      objects = subst (λ s. AreObjects s all) (sym marks.grows.sys) first.objects;
+      objects = subst (λ s. MembersAreObjects s all) (sym marks.grows.sys) first.objects;
       stands = stands-still made v w marks.hands marks.grows.sys first.stands;
       hands = marks.hands ∙ first.hands ∙ ap (λ x. with_entry (entry_of made) x) hands;
     } in

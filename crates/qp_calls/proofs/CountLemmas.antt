@@ -11,7 +11,7 @@ use Rattle.qp_calls.specs.declared.tokens.HeldEntry.TheVariants as token
 use Rattle.qp_calls.specs.Tokens.{Token, Held, same_token, token_of, take_out, stands, with_entry, without_entry, hands_after, hands_by}
 use Rattle.qp_calls.specs.LaneView.{LaneView}
 use Rattle.qp_calls.specs.Clauses.{EntryStands, entry_of, TakesIt}
-use Rattle.qp_calls.specs.Counting.{one, times, count_of}
+use Rattle.qp_calls.specs.Counting.{one_if, times, count_of}
 use Rattle.qp_calls.specs.Deferring.{tokens_in, is_named, StandAll}
 use Rattle.qp_calls.proofs.HandLemmas.{same-equal, same-self}
 use Rattle.qp_calls.proofs.Releasing.{with-pool}
@@ -20,25 +20,25 @@ use Rattle.qp_model.proofs.NumberLemmas.{not-zero}
 
 -- how often an entry is this token
 abbrev pub count_in : Token → model.Entry → ℕ
-count_in t e = if e.pool == 0 then 0 else one (same_token t (token_of e))
+count_in t e = if e.pool == 0 then 0 else one_if (same_token t (token_of e))
 
 pub count-with : (t : Token) (e : model.Entry) (hands : List Token) → count_of t (with_entry e hands) ≡ count_in t e + count_of t hands
 unfolding times
 count-with t e hands = go (e.pool == 0)
   where
-    go : (u : Bool) → count_of t (if u then hands else token_of e ∷ hands) ≡ (if u then 0 else one (same_token t (token_of e))) + count_of t hands
+    go : (u : Bool) → count_of t (if u then hands else token_of e ∷ hands) ≡ (if u then 0 else one_if (same_token t (token_of e))) + count_of t hands
     go true = omega arith
     go false = refl
 
 -- a token that is there, taken out
-count-take_out : (t x : Token) (hands : List Token) → stands x hands ≡ true → count_of t (take_out x hands) + one (same_token t x) ≡ count_of t hands
+count-take_out : (t x : Token) (hands : List Token) → stands x hands ≡ true → count_of t (take_out x hands) + one_if (same_token t x) ≡ count_of t hands
 unfolding stands take_out times
 count-take_out t x [] h = absurd (cc)
 count-take_out t x (y ∷ ys) h = go (same_token x y) refl h (count-take_out t x ys)
   where
     go : (u : Bool) → same_token x y ≡ u → (u || list_any (λ z. same_token x z) ys) ≡ true
-        → (list_any (λ z. same_token x z) ys ≡ true → count_of t (take_out x ys) + one (same_token t x) ≡ count_of t ys)
-        → count_of t (if u then ys else y ∷ take_out x ys) + one (same_token t x) ≡ count_of t (y ∷ ys)
+        → (list_any (λ z. same_token x z) ys ≡ true → count_of t (take_out x ys) + one_if (same_token t x) ≡ count_of t ys)
+        → count_of t (if u then ys else y ∷ take_out x ys) + one_if (same_token t x) ≡ count_of t (y ∷ ys)
     go true is k ih = let same : x ≡ y = same-equal x y is in rw same (omega arith)
     go false is k ih = let less = ih k in omega (arith, less)
 
@@ -50,7 +50,7 @@ pub count-without : (t : Token) (e : model.Entry) (hands : List Token) → is_in
 count-without t e hands h = go (e.pool == 0) h
   where
     go : (u : Bool) → (u || stands (token_of e) hands) ≡ true
-        → count_of t (if u then hands else take_out (token_of e) hands) + (if u then 0 else one (same_token t (token_of e))) ≡ count_of t hands
+        → count_of t (if u then hands else take_out (token_of e) hands) + (if u then 0 else one_if (same_token t (token_of e))) ≡ count_of t hands
     go true k = omega arith
     go false k = count-take_out t (token_of e) hands k
 
@@ -60,7 +60,7 @@ unfolding stands times
 count-stands t [] h = absurd (omega arith)
 count-stands t (y ∷ ys) h = go (same_token t y) h (count-stands t ys)
   where
-    go : (u : Bool) → 0 < one u + count_of t ys → (0 < count_of t ys → list_any (λ z. same_token t z) ys ≡ true) → (u || list_any (λ z. same_token t z) ys) ≡ true
+    go : (u : Bool) → 0 < one_if u + count_of t ys → (0 < count_of t ys → list_any (λ z. same_token t z) ys ≡ true) → (u || list_any (λ z. same_token t z) ys) ≡ true
     go true k ih = refl
     go false k ih = ih (omega arith)
 

@@ -10,7 +10,7 @@ use Rattle.qp_model.specs.declared.systems.System.{System}
 use Rattle.qp_model.specs.Parts.{is_static}
 use Rattle.qp_model.specs.Sound.{IsSound, IsSoundSignal}
 use Rattle.qp_model.proofs.ListLemmas.{nothing-left, every-at}
-use Rattle.qp_calls.specs.Notes.{MayNote, MayStop, last_code, spills_told, stop_code, told_note, told_as}
+use Rattle.qp_calls.specs.Notes.{MayNote, MayStop, last_code, spills_told, stop_code, told_note, note_told}
 use Rattle.qp_calls.specs.LaneView.{LaneView, GrowsOf, ceiling_in}
 use Rattle.qp_calls.specs.declared.answers.RoomFault.{RoomFault}
 use Rattle.qp_calls.specs.Clauses.{IsFault, IsEvent}
@@ -37,7 +37,7 @@ pub spilled : (n : ℕ) (r : Rec) (v w : LaneView) → item_of r ≡ record { of
     → GrowsOf 0 (plain (item.Spill (length v.told)) ∷ []) v w
 unfolding told_note
 spilled n r v w is here grown =
-    let body : GrowsOf r.of (plain (item.Spill n) ∷ []) v w = subst (λ b. GrowsOf r.of (told_as (ceiling_in 0 v.told) b ∷ []) v w) (spill-body n r is) grown in
+    let body : GrowsOf r.of (plain (item.Spill n) ∷ []) v w = subst (λ b. GrowsOf r.of (note_told (ceiling_in 0 v.told) b ∷ []) v w) (spill-body n r is) grown in
     let mine : GrowsOf 0 (plain (item.Spill n) ∷ []) v w = subst (λ o. GrowsOf o (plain (item.Spill n) ∷ []) v w) (spill-of n r is) body in
     subst (λ k. GrowsOf 0 (plain (item.Spill k) ∷ []) v w) here mine
 

@@ -26,7 +26,7 @@ use Rattle.qp_calls.specs.LaneView.{LaneView, Grows, Roomier}
 use Rattle.qp_calls.specs.Clauses.{IsEvent, EntryStands, StandsHold, entry_of}
 use Rattle.qp_calls.specs.Entries.{Released}
 use Rattle.qp_calls.specs.Groups.{CallAnswers}
-use Rattle.qp_calls.specs.Publishing.{Announced, AreObjects, PostsAgain, PostsAll, PostsCut, PostsFront, PostsSome, PostsWhole, PublishCut, PublishesAll}
+use Rattle.qp_calls.specs.Publishing.{Announced, MembersAreObjects, PostsAgain, PostsAll, PostsCut, PostsUpToFull, PostsSome, PostsWhole, PublishCut, PublishesAll}
 use Rattle.qp_calls.proofs.Growing.{gains-none, grows-room, grows-then, stands-still}
 use Rattle.qp_calls.proofs.FirstPool.{pool_of_sound}
 use Rattle.qp_calls.proofs.Answering.{without-with}
@@ -127,7 +127,7 @@ some-more e all left to rest n a v r w some room first post =
     }
 
 pub some-assert : (e : model.Entry) (all left to rest code : ℕ) (a v r w : LaneView) → PostsSome e all left a v → Roomier v r → members left ≡ to ∷ members rest
-    → PostsAgain e to (did.Assert code) r w → (code ≡ 1) × PostsFront e all a w
+    → PostsAgain e to (did.Assert code) r w → (code ≡ 1) × PostsUpToFull e all a w
 some-assert e all left to rest code a v r w some room first post =
     let end = one-asserted (ring_of r.sys to) to code e post.answer post.g post.said post.fits in
     let here : PostsOne (ring_of a.sys to) e to AtQueue post.g = subst (λ s. PostsOne (ring_of s to) e to AtQueue post.g) (same_sys a v r e all left some room) end.1 in
@@ -220,7 +220,7 @@ fixed-whole made sig all left a w is some none =
     rw is (some-fixed sig all left a w at none)
 
 -- the next member is an object
-pub next-object : (e : model.Entry) (all left to rest : ℕ) (a v r : LaneView) → PostsSome e all left a v → Roomier v r → members left ≡ to ∷ members rest → AreObjects a.sys all
+pub next-object : (e : model.Entry) (all left to rest : ℕ) (a v r : LaneView) → PostsSome e all left a v → Roomier v r → members left ≡ to ∷ members rest → MembersAreObjects a.sys all
     → IsTrue (is_object r.sys to)
 next-object e all left to rest a v r some room first objects =
     let split : members all ≡ some.sent ++ to ∷ members rest = some.split ∙ ap (λ x. some.sent ++ x) first in
@@ -285,7 +285,7 @@ publish-value ev reserve made all n fixed a r v w room is_fixed first one whole 
     }
 
 pub publish-assert : (ev : Event) (reserve : Option ℕ) (made : HeldEntry) (all code : ℕ) (fixed : Bool) (a r v w : LaneView) → Roomier a r → fixed ≡ is_static r.sys ev.sig
-    → Announced fixed ev reserve made all r v → (code ≡ 1) → PostsFront (entry_of made) all v w → CallAnswers a.sys 0 None (call.Publish ev.sig ev.pars reserve) (did.Assert code) a w
+    → Announced fixed ev reserve made all r v → (code ≡ 1) → PostsUpToFull (entry_of made) all v w → CallAnswers a.sys 0 None (call.Publish ev.sig ev.pars reserve) (did.Assert code) a w
 unfolding Fits Publishes
 publish-assert ev reserve made all code fixed a r v w room is_fixed first one front =
     let sys : v.sys ≡ a.sys = let here : r.sys ≡ a.sys = rw room.same refl in first.grows.sys ∙ here in

@@ -23,7 +23,7 @@ use Rattle.qp_calls.specs.declared.did.Did.TheVariants as did
 use Rattle.qp_calls.specs.Tokens.{hands_after, hands_by}
 use Rattle.qp_calls.specs.LaneView.{LaneView, Gains, Grows, AddsOf, AddsTold, Roomier}
 use Rattle.qp_calls.specs.Entries.{PostsEntry, did_of}
-use Rattle.qp_calls.specs.Ticking.{FiredInVain, GrowsByTicks, TickCut, TickedAll, TickedSome, TickedTimer, TicksTimer, by_ticker, timer_of}
+use Rattle.qp_calls.specs.Ticking.{FiredInVain, GrowsByTicks, TickCut, TickedAll, TickedSome, TickedTimer, TicksTimer, by_ticker, timer_posting}
 use Rattle.qp_calls.proofs.Growing.{gains-none, gains-then, room-then}
 
 idle_hands : (t n : ℕ) (a v : LaneView) → Grows (plain (item.Idle t n) ∷ []) a v → v.hands ≡ a.hands
@@ -176,11 +176,11 @@ ticked-other rate done d a v some is = record {
 }
 
 -- what fits a timer of that object and signal fits this one
-as_timer : (ring t : ℕ) (d : TimerDef) (g : List Told) → TicksOne ring t (timer_of d.object d.sig) g → TicksOne ring t d g
+as_timer : (ring t : ℕ) (d : TimerDef) (g : List Told) → TicksOne ring t (timer_posting d.object d.sig) g → TicksOne ring t d g
 unfolding TicksOne
 as_timer ring t d g h = h
 
-as_vain : (t : ℕ) (d : TimerDef) (g : List Told) → FiresInVain t (timer_of d.object d.sig) g → FiresInVain t d g
+as_vain : (t : ℕ) (d : TimerDef) (g : List Told) → FiresInVain t (timer_posting d.object d.sig) g → FiresInVain t d g
 unfolding FiresInVain
 as_vain t d g h = h
 

@@ -81,7 +81,7 @@ pub record FitsPool (sys : System) (pool : ℕ) (ev : Event) : Type 0 where
 
 -- Tries: a call makes at most one more than others made operations on the word in it, by which the mark rose; `own` is 1
 -- where it drew a number itself.
-pub record Tries (w : Word) (own before after : ℕ) (old new : LaneView) : Type 0 where
+pub record FewTries (w : Word) (own before after : ℕ) (old new : LaneView) : Type 0 where
   pub up : before ≤ after
   pub few : after + old.mark w + own ≤ before + 1 + new.mark w
 
@@ -277,16 +277,16 @@ Counted p old new c = Looks (word.Queue p) (c.f + c.l + c.m) (Counts c.f c.l c.m
 -- Signals.
 
 -- a number of the word was drawn by this record
-abbrev pub Does : Word → (ℕ → Told) → LaneView → LaneView → Type 0
-Does w t old new = (n : ℕ) × AddsTold (t n ∷ []) old new × (old.mark w < new.mark w)
+abbrev pub AddsDrawn : Word → (ℕ → Told) → LaneView → LaneView → Type 0
+AddsDrawn w t old new = (n : ℕ) × AddsTold (t n ∷ []) old new × (old.mark w < new.mark w)
 
 -- the answer tells whether the set changed
 abbrev pub Subscribing : ℕ → LaneView → LaneView → Bool → Type 0
-Subscribing sig old new true = Does (word.Signal sig) (λ n. plain (Sub sig n)) old new
+Subscribing sig old new true = AddsDrawn (word.Signal sig) (λ n. plain (Sub sig n)) old new
 Subscribing sig old new false = (n : ℕ) × AddsTold (same_in sig n true ∷ []) old new
 
 abbrev pub Unsubscribing : ℕ → LaneView → LaneView → Bool → Type 0
-Unsubscribing sig old new true = Does (word.Signal sig) (λ n. plain (Unsub sig n)) old new
+Unsubscribing sig old new true = AddsDrawn (word.Signal sig) (λ n. plain (Unsub sig n)) old new
 Unsubscribing sig old new false = (n : ℕ) × AddsTold (same_in sig n false ∷ []) old new
 
 -- the set shown, whose members are objects of the system
@@ -303,35 +303,35 @@ pub record Owns (v : LaneView) (t : ℕ) : Type 0 where
   pub there : slice_get v.sys.timers (t - 1) ≡ Some timer
   pub owner : timer.object ≡ v.by
 
-abbrev pub Arms : ℕ → ℕ → ℕ → LaneView → LaneView → arming.Arm → Type 0
-Arms t ticks interval old new armed.Done = Does (word.Timer t) (λ n. plain (Arm t n ticks interval)) old new
-Arms t ticks interval old new (armed.Armed n c) = AddsTold (plain (Armed t n c) ∷ []) old new × (0 < c)
+abbrev pub CallArms : ℕ → ℕ → ℕ → LaneView → LaneView → arming.Arm → Type 0
+CallArms t ticks interval old new armed.Done = AddsDrawn (word.Timer t) (λ n. plain (Arm t n ticks interval)) old new
+CallArms t ticks interval old new (armed.Armed n c) = AddsTold (plain (Armed t n c) ∷ []) old new × (0 < c)
 
 abbrev pub draws_armed : arming.Arm → ℕ
 draws_armed armed.Done = 1
 draws_armed (armed.Armed n c) = 0
 
 -- the answer is the former counter
-abbrev pub Disarms : ℕ → LaneView → LaneView → ℕ → Type 0
-Disarms t old new zero = (n : ℕ) × AddsTold (plain (Idle t n) ∷ []) old new
-Disarms t old new (suc c) = Does (word.Timer t) (λ n. plain (Disarm t n (suc c))) old new
+abbrev pub CallDisarms : ℕ → LaneView → LaneView → ℕ → Type 0
+CallDisarms t old new zero = (n : ℕ) × AddsTold (plain (Idle t n) ∷ []) old new
+CallDisarms t old new (suc c) = AddsDrawn (word.Timer t) (λ n. plain (Disarm t n (suc c))) old new
 
 abbrev pub draws_disarmed : ℕ → ℕ
 draws_disarmed zero = 0
 draws_disarmed (suc c) = 1
 
-abbrev pub Rearms : ℕ → ℕ → LaneView → LaneView → ℕ → Type 0
-Rearms t ticks old new former = Does (word.Timer t) (λ n. plain (Rearm t n former ticks)) old new
+abbrev pub CallRearms : ℕ → ℕ → LaneView → LaneView → ℕ → Type 0
+CallRearms t ticks old new former = AddsDrawn (word.Timer t) (λ n. plain (Rearm t n former ticks)) old new
 
 -- a tick that changes the word is no object's
 abbrev pub TickedTo : ℕ → (ℕ → Told) → LaneView → LaneView → Type 0
 TickedTo t told old new =
     (n : ℕ) × AddsOf 0 (told n ∷ []) old new × (old.mark (word.Timer t) < new.mark (word.Timer t))
 
-abbrev pub TicksOne : ℕ → LaneView → LaneView → ticking.Tick → Type 0
-TicksOne t old new ticked.Idle = (n : ℕ) × AddsTold (plain (Idle t n) ∷ []) old new
-TicksOne t old new ticked.Down = (counter : ℕ) × (0 < counter) × TickedTo t (λ n. plain (Tick t n counter)) old new
-TicksOne t old new ticked.Fired = (reload : ℕ) × TickedTo t (λ n. plain (Fire t n reload)) old new
+abbrev pub AnswersTick : ℕ → LaneView → LaneView → ticking.Tick → Type 0
+AnswersTick t old new ticked.Idle = (n : ℕ) × AddsTold (plain (Idle t n) ∷ []) old new
+AnswersTick t old new ticked.Down = (counter : ℕ) × (0 < counter) × TickedTo t (λ n. plain (Tick t n counter)) old new
+AnswersTick t old new ticked.Fired = (reload : ℕ) × TickedTo t (λ n. plain (Fire t n reload)) old new
 
 abbrev pub draws_ticked : ticking.Tick → ℕ
 draws_ticked ticked.Idle = 0

@@ -29,9 +29,9 @@ pub record CallAnswers (sys : System) (o : ℕ) (now : Option model.Entry) (c : 
   pub hands : IsTrue (is_value d) → new.hands ≡ old.hands
 
 -- the call answers, or `room` refused
-abbrev pub DoesCall : Option model.Entry → Call → LaneView → LaneView → Result Did RoomFault → Type 0
-DoesCall now c old new (Ok d) = CallAnswers old.sys old.by now c d old new
-DoesCall now c old new (Err fault) = Refused fault old new
+abbrev pub CallReturns : Option model.Entry → Call → LaneView → LaneView → Result Did RoomFault → Type 0
+CallReturns now c old new (Ok d) = CallAnswers old.sys old.by now c d old new
+CallReturns now c old new (Err fault) = Refused fault old new
 
 -- a step has ended: the reference of its entry was dropped
 pub record EndsStep (e : model.Entry) (d : Did) (old new : LaneView) : Type 0 where

@@ -245,11 +245,11 @@ pub record Looks (w : Word) (n : ℕ) (x : Shown) (old new : LaneView) : Type 0 
 
 -- The lane went on: its records come behind those that it had, it knows of no word less, and each mark of the new records lies between what it
 -- knew of the word and what it knows.
-pub record Follows (told : List ToldItem) (mark : Word → ℕ) (told' : List ToldItem) (mark' : Word → ℕ) : Type 0 where
+pub record AdvancesBy (told : List ToldItem) (mark : Word → ℕ) (told' : List ToldItem) (mark' : Word → ℕ) : Type 0 where
   pub more : List ToldItem
   pub grows : told' ≡ told ++ more
   pub rise : (w : Word) → mark w ≤ mark' w
   pub between : (w : Word) → AreBetween w (mark w) (mark' w) more
 
 abbrev pub Advances : LaneView → LaneView → Type 0
-Advances v w = Follows v.told v.mark w.told w.mark
+Advances v w = AdvancesBy v.told v.mark w.told w.mark

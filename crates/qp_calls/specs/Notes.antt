@@ -57,13 +57,13 @@ unfolding body_of
 spare_after r spare = spare_by (body_of r) spare
 
 -- a note as it is told
-abbrev pub told_as : ℕ → Body → Told
-told_as c (Lock x) = raised x c
-told_as c b = plain b
+abbrev pub note_told : ℕ → Body → Told
+note_told c (Lock x) = raised x c
+note_told c b = plain b
 
 unfoldable pub told_note : Rec → LaneView → List Told
 unfolding body_of ceiling_in
-told_note r v = told_as (ceiling_in 0 v.told) (body_of r) ∷ []
+told_note r v = note_told (ceiling_in 0 v.told) (body_of r) ∷ []
 
 -- the code with which a lane stops at this record, 0 for none: an assertion's own, and 6 of `spent` and `spill`
 abbrev pub stop_code : Body → ℕ

@@ -27,8 +27,8 @@ use Rattle.qp_calls.specs.Entries.{Unmade, did_of, is_value}
 use Rattle.qp_calls.specs.Groups.{CallAnswers, Refused}
 
 -- every member is an object
-abbrev pub AreObjects : System → ℕ → Type 0
-AreObjects sys set = IsTrue (list_all (λ a. is_object sys a) (members set))
+abbrev pub MembersAreObjects : System → ℕ → Type 0
+MembersAreObjects sys set = IsTrue (list_all (λ a. is_object sys a) (members set))
 
 -- a new event got its entry, and its subscribers were read
 pub record Announced (fixed : Bool) (ev : Event) (reserve : Option ℕ) (made : HeldEntry) (set : ℕ) (old new : LaneView) : Type 0 where
@@ -38,7 +38,7 @@ pub record Announced (fixed : Bool) (ev : Event) (reserve : Option ℕ) (made : 
   pub makes : MakesNew fixed (sizes_of old.sys) ev.sig ev.pars reserve head (entry_of made)
   pub stands : EntryStands made new
   pub hands : new.hands ≡ with_entry (entry_of made) old.hands
-  pub objects : AreObjects new.sys set
+  pub objects : MembersAreObjects new.sys set
   pub spare : old.spare ≤ new.spare + 3
 
 abbrev pub Announces : Bool → Event → Option ℕ → LaneView → LaneView → Result (HeldEntry × ℕ) Did → Type 0
@@ -70,7 +70,7 @@ pub record BeginsGoing (ev : Event) (reserve : Option ℕ) (ceiling : ℕ) (p : 
       (entry_of p.entry) ceiling (members p.all) g
   pub left : p.left ≡ p.all
   pub former : p.former ≡ ceiling
-  pub objects : AreObjects new.sys p.all
+  pub objects : MembersAreObjects new.sys p.all
   pub stands : EntryStands p.entry new
   pub hands : new.hands ≡ with_entry (entry_of p.entry) old.hands
 
@@ -131,7 +131,7 @@ pub record PostsWhole (e : model.Entry) (all : ℕ) (old new : LaneView) : Type 
   pub hands : new.hands ≡ without_entry e old.hands
 
 -- or to those before one whose queue had no free entry
-pub record PostsFront (e : model.Entry) (all : ℕ) (old new : LaneView) : Type 0 where
+pub record PostsUpToFull (e : model.Entry) (all : ℕ) (old new : LaneView) : Type 0 where
   pub g : List Told
   pub grows : Grows g old new
   pub fits : PostsUpTo (λ a. ring_of old.sys a) e (members all) g
@@ -146,7 +146,7 @@ pub record PostsCut (e : model.Entry) (all : ℕ) (old new : LaneView) : Type 0 
 
 abbrev pub PostsAll : model.Entry → ℕ → LaneView → LaneView → Result Did RoomFault → Type 0
 PostsAll e all old new (Ok (did.Value n)) = (n ≡ 1) × PostsWhole e all old new
-PostsAll e all old new (Ok (did.Assert code)) = (code ≡ 1) × PostsFront e all old new
+PostsAll e all old new (Ok (did.Assert code)) = (code ≡ 1) × PostsUpToFull e all old new
 PostsAll e all old new (Err fault) = PostsCut e all old new × IsFault new fault
 
 -- the posts so far

@@ -27,19 +27,19 @@ abbrev pub GrowsByTicks : List Told → LaneView → LaneView → Type 0
 GrowsByTicks g old new = Gains (map (by_ticker old.by) g) old new
 
 -- one timer, whose signal is posted to its object where it fires
-abbrev pub timer_of : ℕ → ℕ → TimerDef
-timer_of object sig = record { object = object; sig = sig; rate = 0 }
+abbrev pub timer_posting : ℕ → ℕ → TimerDef
+timer_posting object sig = record { object = object; sig = sig; rate = 0 }
 
 pub record TickedTimer (t object sig : ℕ) (old new : LaneView) : Type 0 where
   pub g : List Told
   pub grows : GrowsByTicks g old new
-  pub fits : TicksOne (ring_of old.sys object) t (timer_of object sig) g
+  pub fits : TicksOne (ring_of old.sys object) t (timer_posting object sig) g
   pub hands : new.hands ≡ old.hands
 
 pub record FiredInVain (t object sig : ℕ) (old new : LaneView) : Type 0 where
   pub g : List Told
   pub grows : GrowsByTicks g old new
-  pub fits : FiresInVain t (timer_of object sig) g
+  pub fits : FiresInVain t (timer_posting object sig) g
 
 abbrev pub TicksTimer : ℕ → ℕ → ℕ → LaneView → LaneView → Result Did RoomFault → Type 0
 TicksTimer t object sig old new (Ok (did.Value n)) = TickedTimer t object sig old new

@@ -7,7 +7,7 @@ ghost use Rattle.qp_model.specs.declared.words.Word.TheVariants as word;
 ghost use Rattle.qp_calls.specs.LaneView.{GrowsOf, LaneView, Roomier, Sets};
 ghost use Rattle.qp_calls.specs.LaneLaws.{HasCauses, IsWithinLimit};
 ghost use Rattle.qp_calls.specs.Notes.{MayNote, MayStop, spare_after, told_note};
-ghost use Rattle.qp_calls.specs.Clauses.{Arms, ClaimsEntry, ClaimsFront, Counted, Disarms, Faults, FitsPool, GivesBlock, GoesBack, IsEvent, LetsGo, Makes, MakesMore, Owns, ReadsSubscribers, Rearms, Sees, EntryStands, StandsFresh, StandsHold, Stopped, Stops, Subscribing, Takes, TicksOne, Tries, Unsubscribing, draws_armed, draws_claimed, draws_disarmed, draws_given, draws_ticked, event_of};
+ghost use Rattle.qp_calls.specs.Clauses.{CallArms, ClaimsEntry, ClaimsFront, Counted, CallDisarms, Faults, FitsPool, GivesBlock, GoesBack, IsEvent, LetsGo, Makes, MakesMore, Owns, ReadsSubscribers, CallRearms, Sees, EntryStands, StandsFresh, StandsHold, Stopped, Stops, Subscribing, Takes, AnswersTick, FewTries, Unsubscribing, draws_armed, draws_claimed, draws_disarmed, draws_given, draws_ticked, event_of};
 
 use crate::answers::{Arm, Claim, Counts, Dec, Give, RoomFault, Take, Tick};
 use crate::tokens::{Fresh, HeldEntry, Hold};
@@ -57,7 +57,7 @@ pub trait Ops {
         requires room { 0 < (lane self.old).spare }
         requires fits { FitsPool (lane self.old).sys pool (event_of ev.now) }
         ensures gives { GivesBlock pool reserve (event_of ev.now) (lane self.old) (lane self.new) result }
-        ensures tries { Tries (word.Pool pool) (draws_given result)
+        ensures tries { FewTries (word.Pool pool) (draws_given result)
             steps.old steps.new (lane self.old) (lane self.new) };
 
     /// Makes the first reference to a block.
@@ -113,7 +113,7 @@ pub trait Ops {
         requires object { IsTrue (is_object (lane self.old).sys to) }
         requires stands { EntryStands e (lane self.old) }
         ensures claims { ClaimsEntry to e margin (lane self.old) (lane self.new) result }
-        ensures tries { Tries (word.Queue to) (draws_claimed result)
+        ensures tries { FewTries (word.Queue to) (draws_claimed result)
             steps.old steps.new (lane self.old) (lane self.new) };
 
     /// Posts an entry last-in to the object set by `by`, where an entry is free. Otherwise it comes back, and the
@@ -124,7 +124,7 @@ pub trait Ops {
         requires serves { IsTrue ((lane self.old).serves (lane self.old).by) }
         requires stands { EntryStands e (lane self.old) }
         ensures claims { ClaimsFront e (lane self.old) (lane self.new) result }
-        ensures tries { Tries (word.Queue (lane self.old).by) (draws_claimed result)
+        ensures tries { FewTries (word.Queue (lane self.old).by) (draws_claimed result)
             steps.old steps.new (lane self.old) (lane self.new) };
 
     /// Takes the front entry. Where a poster has claimed it and not yet laid it, an implementation may wait for it.
@@ -172,15 +172,15 @@ pub trait Ops {
         requires room { 0 < (lane self.old).spare }
         requires some { 0 < ticks }
         requires owns { Owns (lane self.old) t }
-        ensures arms { Arms t ticks interval (lane self.old) (lane self.new) result }
-        ensures tries { Tries (word.Timer t) (draws_armed result) steps.old steps.new (lane self.old) (lane self.new) };
+        ensures arms { CallArms t ticks interval (lane self.old) (lane self.new) result }
+        ensures tries { FewTries (word.Timer t) (draws_armed result) steps.old steps.new (lane self.old) (lane self.new) };
 
     /// Disarms a timer of the object set by `by`, and answers the former counter.
     fn disarm<L: Ledger>(&mut self, t: u8, steps: &mut Steps<L>) -> u16
         requires room { 0 < (lane self.old).spare }
         requires owns { Owns (lane self.old) t }
-        ensures disarms { Disarms t (lane self.old) (lane self.new) result }
-        ensures tries { Tries (word.Timer t) (draws_disarmed result)
+        ensures disarms { CallDisarms t (lane self.old) (lane self.new) result }
+        ensures tries { FewTries (word.Timer t) (draws_disarmed result)
             steps.old steps.new (lane self.old) (lane self.new) };
 
     /// Sets the counter of a timer of the object set by `by`, and answers the former one. The interval stays.
@@ -188,15 +188,15 @@ pub trait Ops {
         requires room { 0 < (lane self.old).spare }
         requires some { 0 < ticks }
         requires owns { Owns (lane self.old) t }
-        ensures rearms { Rearms t ticks (lane self.old) (lane self.new) result }
-        ensures tries { Tries (word.Timer t) 1 steps.old steps.new (lane self.old) (lane self.new) };
+        ensures rearms { CallRearms t ticks (lane self.old) (lane self.new) result }
+        ensures tries { FewTries (word.Timer t) 1 steps.old steps.new (lane self.old) (lane self.new) };
 
     /// A tick of a timer. It posts nothing.
     fn tick_one<L: Ledger>(&mut self, t: u8, steps: &mut Steps<L>) -> Tick
         requires room { 0 < (lane self.old).spare }
         requires timer { IsTrue (is_timer (lane self.old).sys t) }
-        ensures ticks { TicksOne t (lane self.old) (lane self.new) result }
-        ensures tries { Tries (word.Timer t) (draws_ticked result)
+        ensures ticks { AnswersTick t (lane self.old) (lane self.new) result }
+        ensures tries { FewTries (word.Timer t) (draws_ticked result)
             steps.old steps.new (lane self.old) (lane self.new) };
 
     /// Sets the stop word where it is 0: by the code of the `assert` that is the lane's last record, by 6 where that

@@ -6,7 +6,7 @@ ghost use Rattle.qp_model.specs.Parts.{is_static};
 ghost use Rattle.qp_model.specs.Sound.{IsSound};
 ghost use Rattle.qp_model.specs.WordLaw.{is_object};
 ghost use Rattle.qp_calls.specs.Clauses.{IsEvent, EntryStands, entry_of, event_of};
-ghost use Rattle.qp_calls.specs.Groups.{DoesCall, EndsStep, Refused};
+ghost use Rattle.qp_calls.specs.Groups.{CallReturns, EndsStep, Refused};
 
 use crate::answers::RoomFault;
 use crate::did::Did;
@@ -33,7 +33,7 @@ pub fn post_new<O: Ops, L: Ledger>(
     requires object { IsTrue (is_object sys.now to) }
     requires event { IsEvent sys.now (event_of ev.now) }
     requires pooled { IsFalse (is_static sys.now ev.now.sig) }
-    ensures { DoesCall None (call.Post to ev.now.sig ev.now.pars.items margin reserve)
+    ensures { CallReturns None (call.Post to ev.now.sig ev.now.pars.items margin reserve)
         (O.lane ops.old) (O.lane ops.new) result }
 {
     ops.room()?;
@@ -54,7 +54,7 @@ pub fn post_static<O: Ops, L: Ledger>(
 ) -> Result<Did, RoomFault>
     requires object { IsTrue (is_object (O.lane ops.old).sys to) }
     requires fixed { IsTrue (is_static (O.lane ops.old).sys sig) }
-    ensures { DoesCall None (call.Post to sig [] margin None) (O.lane ops.old) (O.lane ops.new) result }
+    ensures { CallReturns None (call.Post to sig [] margin None) (O.lane ops.old) (O.lane ops.new) result }
 {
     ops.room()?;
     Ok(post_entry(ops, to, HeldEntry::Static(sig), margin, steps))
@@ -75,7 +75,7 @@ pub fn post<O: Ops, L: Ledger>(
     requires object { IsTrue (is_object sys.now to) }
     requires event { IsEvent sys.now (event_of ev.now) }
     requires reserve { is_static sys.now ev.now.sig ≡ true → reserve ≡ None }
-    ensures { DoesCall None (call.Post to ev.now.sig ev.now.pars.items margin reserve)
+    ensures { CallReturns None (call.Post to ev.now.sig ev.now.pars.items margin reserve)
         (O.lane ops.old) (O.lane ops.new) result }
 {
     if sys.is_static(u64::from(ev.sig)) {
@@ -94,7 +94,7 @@ pub fn forward<O: Ops, L: Ledger>(
 ) -> Result<Did, RoomFault>
     requires object { IsTrue (is_object (O.lane ops.old).sys to) }
     requires stands { EntryStands now.now (O.lane ops.old) }
-    ensures { DoesCall (Some (entry_of now.now)) (call.Forward to margin) (O.lane ops.old) (O.lane ops.new) result }
+    ensures { CallReturns (Some (entry_of now.now)) (call.Forward to margin) (O.lane ops.old) (O.lane ops.new) result }
 {
     ops.room()?;
     let e = again(ops, now);
@@ -114,7 +114,7 @@ pub fn lifo_new<O: Ops, L: Ledger>(
     requires object { IsTrue (is_object (O.lane ops.old).sys (O.lane ops.old).by) }
     requires serves { IsTrue ((O.lane ops.old).serves (O.lane ops.old).by) }
     requires event { IsEvent sys.now (event_of ev.now) }
-    ensures { DoesCall None (call.Lifo ev.now.sig ev.now.pars.items reserve) (O.lane ops.old) (O.lane ops.new) result }
+    ensures { CallReturns None (call.Lifo ev.now.sig ev.now.pars.items reserve) (O.lane ops.old) (O.lane ops.new) result }
 {
     ops.room()?;
     match make_entry(ops, sys, ev, reserve, steps) {

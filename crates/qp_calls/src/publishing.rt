@@ -7,7 +7,7 @@ ghost use Rattle.qp_model.specs.Sound.{IsSound};
 ghost use Rattle.qp_model.specs.WordLaw.{is_object};
 ghost use Rattle.qp_calls.specs.LaneView.{ceiling_in};
 ghost use Rattle.qp_calls.specs.Clauses.{IsEvent, EntryStands, entry_of, event_of};
-ghost use Rattle.qp_calls.specs.Publishing.{Announces, AreObjects, Begins, EndsPublication, PublishingGoesOn, Marks, PostsAgain, PostsAll, PublishesAll};
+ghost use Rattle.qp_calls.specs.Publishing.{Announces, MembersAreObjects, Begins, EndsPublication, PublishingGoesOn, Marks, PostsAgain, PostsAll, PublishesAll};
 
 use crate::answers::RoomFault;
 use crate::deferral::object;
@@ -119,7 +119,7 @@ pub fn publish_post<O: Ops, L: Ledger>(
     steps: &mut Steps<L>,
 ) -> Result<Begun, RoomFault>
     requires some { 0 < p.left }
-    requires objects { AreObjects (O.lane ops.old).sys p.left }
+    requires objects { MembersAreObjects (O.lane ops.old).sys p.left }
     requires stands { EntryStands p.entry (O.lane ops.old) }
     ensures { PublishingGoesOn p (O.lane ops.old) (O.lane ops.new) result }
 {
@@ -188,7 +188,7 @@ fn post_all<O: Ops, L: Ledger>(
     all: u32,
     steps: &mut Steps<L>,
 ) -> Result<Did, RoomFault>
-    requires objects { AreObjects (O.lane ops.old).sys all }
+    requires objects { MembersAreObjects (O.lane ops.old).sys all }
     requires stands { EntryStands entry (O.lane ops.old) }
     ensures { PostsAll (entry_of entry) all (O.lane ops.old) (O.lane ops.new) result }
 {

@@ -11,7 +11,7 @@ use Rattle.qp_model.specs.Ends.{is_spill, spills_in}
 use Rattle.qp_model.specs.History.{Neither, touch_of, lane_items}
 use Rattle.qp_model.specs.Told.{ToldItem, for_object}
 use Rattle.qp_calls.specs.LaneView.{LaneView, handled_in, ceiling_in}
-use Rattle.qp_calls.specs.Notes.{IsNote, MayNote, MayStop, told_as, told_note, spare_after, stop_code, last_code}
+use Rattle.qp_calls.specs.Notes.{IsNote, MayNote, MayStop, note_told, told_note, spare_after, stop_code, last_code}
 use Rattle.qp_calls.specs.Tokens.{Token, handles, hands_by, hands_after}
 use Rattle.qp_calls_log.specs.declared.log.Log.{Log}
 use Rattle.qp_calls_log.specs.Lane.{is_plain, is_caused_in, spill_place}
@@ -52,7 +52,7 @@ unfolding MayNote item_of
 note-off v r may = note-touches v (body_of r) may r.of
 
 -- moves no token,
-leaves-hands : (v : LaneView) (b : Body) → IsNote b v → (hands : List Token) (c : ℕ) → hands_by hands (told_as c b) ≡ hands
+leaves-hands : (v : LaneView) (b : Body) → IsNote b v → (hands : List Token) (c : ℕ) → hands_by hands (note_told c b) ≡ hands
 unfolding hands_by
 leaves-hands v (New p n b from sig pars) h hands c = let wrong : false ≡ true = h.0 in absurd (cc)
 leaves-hands v (Inc p b r) h hands c = let wrong : false ≡ true = h.0 in absurd (cc)
@@ -68,7 +68,7 @@ unfolding MayNote told_note hands_after
 note-hands v r may hands = leaves-hands v (body_of r) may hands (ceiling_in 0 v.told)
 
 -- and handles none.
-handles-none : (v : LaneView) (b : Body) → IsNote b v → (x : Token) (c : ℕ) → handles x (told_as c b).body ≡ false
+handles-none : (v : LaneView) (b : Body) → IsNote b v → (x : Token) (c : ℕ) → handles x (note_told c b).body ≡ false
 handles-none v (Inc p b r) h x c = let wrong : false ≡ true = h.0 in absurd (cc)
 handles-none v (Dec p b d k) h x c = let wrong : false ≡ true = h.0 in absurd (cc)
 handles-none v (Post a f l m e) h x c = let wrong : false ≡ true = h.0 in absurd (cc)

@@ -19,7 +19,7 @@ use Rattle.qp_model.specs.Sources.{CallFits, FiresInVain, SeesEmpty, SeesEntry, 
 use Rattle.qp_model.proofs.FitsLemmas.{all-append}
 use Rattle.qp_calls.specs.LaneView.{LaneView, Grows, Own, own_after, own_of}
 use Rattle.qp_calls.proofs.Sending.{no_restore, no_raise}
-use Rattle.qp_calls_stimulus.specs.Stimulating.{begun}
+use Rattle.qp_calls_stimulus.specs.Stimulating.{begun_records}
 
 abbrev pub is_aloof : Body → Bool
 is_aloof (item.Took f l m e) = false
@@ -167,7 +167,7 @@ aloof-front (t ∷ g) h q =
     let parts = and_parts (is_aloof t.body) (list_all (λ t. is_aloof t.body) (g ++ h)) q in
     rw (parts.0, aloof-front g h parts.1) refl
 
-pub aloof-begun : (place look : ℕ) (one : List Told) → Aloof one → Aloof (begun place look one)
+pub aloof-begun : (place look : ℕ) (one : List Told) → Aloof one → Aloof (begun_records place look one)
 aloof-begun place look one h = h
 
 aloof-of : (a o : ℕ) (c : Own) (b : Body) → is_aloof b ≡ true → own_of a c o b ≡ c

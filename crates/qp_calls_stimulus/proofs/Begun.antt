@@ -19,7 +19,7 @@ use Rattle.qp_calls_stimulus.specs.declared.doing.Stimulated.{Stimulated}
 use Rattle.qp_calls_stimulus.specs.declared.doing.Stimulated.TheVariants as stimulated
 use Rattle.qp_calls_stimulus.specs.Calling.{Calls, CallsCut}
 use Rattle.qp_calls.specs.Halting.{HaltsFull}
-use Rattle.qp_calls_stimulus.specs.Stimulating.{Asserts, StimulusHalts, Happens, KeepsOwn, Stimulates, Tries, begun}
+use Rattle.qp_calls_stimulus.specs.Stimulating.{StimulusAsserts, StimulusHalts, StimulusHappens, KeepsOwn, Stimulates, StimulusTries, begun_records}
 use Rattle.qp_calls_stimulus.proofs.Aloof.{aloof-begun, aloof-front, entry-aloof, own-same, stimulus-aloof}
 use Rattle.qp_calls_stimulus.proofs.Halting.{cut-spills}
 
@@ -41,17 +41,17 @@ module _ (sys : System) (s : Stim) (place look : ℕ) (v r n : LaneView) (room :
   unfolding begins hands_after hands_by
   begun_hands = begins.hands
 
-  goes : (one : List Told) (w : LaneView) → Grows one n w → Grows (begun place look one) v w
+  goes : (one : List Told) (w : LaneView) → Grows one n w → Grows (begun_records place look one) v w
   unfolding begins
   goes one w grows = grows-then (plain (body.Stim place look) ∷ []) one v n w begins grows
 
   came : (x y : Called) (w : LaneView) → x ≡ y → Calls sys s n w (Ok x) → Calls sys s n w (Ok y)
   came x y w is h = subst (λ z. Calls sys s n w (Ok z)) is h
 
-  pub happens : (x : Called) (w : LaneView) → x ≡ called.Whole → Calls sys s n w (Ok x) → Happens sys s place look v w
+  pub happens : (x : Called) (w : LaneView) → x ≡ called.Whole → Calls sys s n w (Ok x) → StimulusHappens sys s place look v w
   happens x w is calls = let h = came x called.Whole w is calls in record { one = h.one; grows = goes h.one w h.grows; fits = h.fits; hands = h.hands ∙ begun_hands }
 
-  pub tries : (x : Called) (w : LaneView) → x ≡ called.Tried → Calls sys s n w (Ok x) → Tries sys s place look v w
+  pub tries : (x : Called) (w : LaneView) → x ≡ called.Tried → Calls sys s n w (Ok x) → StimulusTries sys s place look v w
   tries x w is calls =
       let h = came x called.Tried w is calls in
       let seen = h.1 in
@@ -65,7 +65,7 @@ module _ (sys : System) (s : Stim) (place look : ℕ) (v r n : LaneView) (room :
         found = record {
           object = entry.object;
           its = entry.its;
-          g = begun place look entry.g;
+          g = begun_records place look entry.g;
           before = entry.before;
           counts = entry.counts;
           grows = goes entry.g entry.before entry.grows;
@@ -74,7 +74,7 @@ module _ (sys : System) (s : Stim) (place look : ℕ) (v r n : LaneView) (room :
         };
       }
 
-  pub asserts : (x : Called) (code : ℕ) (mid w : LaneView) → x ≡ called.Asserted code → Calls sys s n mid (Ok x) → Stops code mid w → Asserts sys s place look v w
+  pub asserts : (x : Called) (code : ℕ) (mid w : LaneView) → x ≡ called.Asserted code → Calls sys s n mid (Ok x) → Stops code mid w → StimulusAsserts sys s place look v w
   asserts x code mid w is calls stops =
       let h = came x (called.Asserted code) mid is calls in
       record { one = h.one; mid = mid; code = code; grows = goes h.one mid h.grows; fits = h.fits; some = h.some; few = h.few; last = h.last; stops = stops }
@@ -87,7 +87,7 @@ module _ (sys : System) (s : Stim) (place look : ℕ) (v r n : LaneView) (room :
   cuts mid w stimulated.Memory cut h =
       let grows = goes cut.one mid cut.grows in
       let aloof = aloof-front cut.one cut.back (stimulus-aloof sys s cut.asserted (cut.one ++ cut.back) (cut.fits sim)) in
-      record { g = begun place look cut.one; mid = mid; grows = grows; own = λ a. own-same (begun place look cut.one) v mid a grows (aloof-begun place look cut.one aloof); dry = h }
+      record { g = begun_records place look cut.one; mid = mid; grows = grows; own = λ a. own-same (begun_records place look cut.one) v mid a grows (aloof-begun place look cut.one aloof); dry = h }
 
   -- no `spill` stands in the lane yet
   pub cut-unspilled : (mid : LaneView) → spills_told v.told ≡ false → CallsCut sys s n mid → spills_told mid.told ≡ false
@@ -104,15 +104,15 @@ unfolding own_after
 full_own v w a h = let here : w.own a ≡ h.full.own a = rw h.stops refl in here ∙ h.spills.own a
 
 pub keeps-own : (sys : System) (s : Stim) (place look : ℕ) (v w : LaneView) (r : Stimulated) → Stimulates sys s place look v w r → KeepsOwn v w
-keeps-own sys s place look v w stimulated.Done h a = own-same (begun place look h.one) v w a h.grows (aloof-begun place look h.one (stimulus-aloof sys s false h.one (h.fits sim)))
+keeps-own sys s place look v w stimulated.Done h a = own-same (begun_records place look h.one) v w a h.grows (aloof-begun place look h.one (stimulus-aloof sys s false h.one (h.fits sim)))
 keeps-own sys s place look v w stimulated.Tried h a =
-    own-same (begun place look (plain body.Settle ∷ h.one)) v w a h.grows (aloof-begun place look (plain body.Settle ∷ h.one) (entry-aloof (priorities sys) h.one h.fits))
+    own-same (begun_records place look (plain body.Settle ∷ h.one)) v w a h.grows (aloof-begun place look (plain body.Settle ∷ h.one) (entry-aloof (priorities sys) h.one h.fits))
 keeps-own sys s place look v w stimulated.Stopped (inl h) a =
     let here : w.own a ≡ h.mid.own a = rw h.stops refl in
-    here ∙ own-same (begun place look h.one) v h.mid a h.grows (aloof-begun place look h.one (stimulus-aloof sys s true h.one (h.fits sim)))
+    here ∙ own-same (begun_records place look h.one) v h.mid a h.grows (aloof-begun place look h.one (stimulus-aloof sys s true h.one (h.fits sim)))
 keeps-own sys s place look v w stimulated.Stopped (inr (inl h)) a =
     full_own h.mid w a h.halts
-    ∙ own-same (begun place look h.one) v h.mid a h.grows
+    ∙ own-same (begun_records place look h.one) v h.mid a h.grows
     (aloof-begun place look h.one (aloof-front h.one h.back (stimulus-aloof sys s h.asserted (h.one ++ h.back) (h.fits sim))))
 keeps-own sys s place look v w stimulated.Stopped (inr (inr h)) a = full_own v w a h
 keeps-own sys s place look v w stimulated.Memory h a = let here : w.own a ≡ h.mid.own a = rw h.dry.stops refl in here ∙ h.own a

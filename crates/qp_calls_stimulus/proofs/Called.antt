@@ -37,7 +37,7 @@ use Rattle.qp_calls_stimulus.proofs.Settled.{is-object, settles}
 
 -- What a stimulus that keeps to the rules names.
 
-pub fits-object : (sys : System) (to : ℕ) (ev : Ev) (margin reserve : Option ℕ) → rule.StimFits sys (stim.Post to ev margin reserve) → IsTrue (is_object sys to)
+pub fits-object : (sys : System) (to : ℕ) (ev : Ev) (margin reserve : Option ℕ) → rule.StimulusFits sys (stim.Post to ev margin reserve) → IsTrue (is_object sys to)
 fits-object sys to ev margin reserve h = let o = h.object in subst (λ p. IsTrue (is_object sys p)) o.4 (is-object sys o.0 o.1 (slice_get-get_or sys.objects o.0 o.1 o.2 ∙ ap Some o.3))
 
 pub fits-event : (sys : System) (ev : Ev) (reserve : Option ℕ) → rule.EventFits sys ev reserve → IsEvent sys (event_of ev)

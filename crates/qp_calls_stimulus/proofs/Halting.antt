@@ -13,7 +13,7 @@ use Rattle.qp_calls.specs.Notes.{spills_told}
 use Rattle.qp_model_order.specs.Stimulus.{ArePlain, StimulusForm}
 use Rattle.qp_model_order.proofs.CalmLemmas.{calm-parts}
 use Rattle.qp_model_order.proofs.StimulusForm.{cut-plain, stimulus-form}
-use Rattle.qp_calls_stimulus.specs.Stimulating.{Happens, begun}
+use Rattle.qp_calls_stimulus.specs.Stimulating.{StimulusHappens, begun_records}
 
 plain-spills : (o : ℕ) (g : List Told) → ArePlain g → spills_told (map (for_object o) g) ≡ false
 plain-spills o [] h = refl
@@ -26,8 +26,8 @@ cut-spills sys s asserted one back v w none grows some fits =
     (plain-spills v.by one (cut-plain asserted one back some (stimulus-form sys s asserted (one ++ back) fits)))
 
 -- nor has one in which a stimulus came to its end
-pub happens-unspilled : (sys : System) (s : Stim) (place look : ℕ) (v w : LaneView) → spills_told v.told ≡ false → Happens sys s place look v w → spills_told w.told ≡ false
+pub happens-unspilled : (sys : System) (s : Stim) (place look : ℕ) (v w : LaneView) → spills_told v.told ≡ false → StimulusHappens sys s place look v w → spills_told w.told ≡ false
 unfolding StimulusForm
 happens-unspilled sys s place look v w none h =
-    rw (h.grows.told, list_any-append (λ t. is_spill t.told.body) v.told (map (for_object v.by) (begun place look h.one)), none)
+    rw (h.grows.told, list_any-append (λ t. is_spill t.told.body) v.told (map (for_object v.by) (begun_records place look h.one)), none)
     (plain-spills v.by h.one (stimulus-form sys s false h.one (h.fits sim)))

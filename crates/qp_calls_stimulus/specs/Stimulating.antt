@@ -15,8 +15,8 @@ use Rattle.qp_calls_stimulus.specs.declared.doing.Stimulated.TheVariants as stim
 use Rattle.qp_calls_stimulus.specs.Settling.{HasEntry}
 
 -- the records of a stimulus, from its `stim` on
-abbrev pub begun : ℕ → ℕ → List Told → List Told
-begun place look one = plain (body.Stim place look) ∷ one
+abbrev pub begun_records : ℕ → ℕ → List Told → List Told
+begun_records place look one = plain (body.Stim place look) ∷ one
 
 -- a full lane told its `spill`, and one without memory did not; either has stopped
 abbrev pub StimulusHalts : LaneView → LaneView → Stimulated → Type 0
@@ -25,27 +25,27 @@ StimulusHalts v w stimulated.Memory = HaltsDry v w
 StimulusHalts v w _ = ⊥
 
 -- all records came, and the hands are as they were
-pub record Happens (sys : System) (s : Stim) (place look : ℕ) (v w : LaneView) : Type 0 where
+pub record StimulusHappens (sys : System) (s : Stim) (place look : ℕ) (v w : LaneView) : Type 0 where
   pub one : List Told
-  pub grows : Grows (begun place look one) v w
+  pub grows : Grows (begun_records place look one) v w
   pub fits : (kernel : ℕ) → StimFits sys kernel s false one
   pub hands : w.hands ≡ v.hands
 
 -- a `settle` saw an entry
-pub record Tries (sys : System) (s : Stim) (place look : ℕ) (v w : LaneView) : Type 0 where
+pub record StimulusTries (sys : System) (s : Stim) (place look : ℕ) (v w : LaneView) : Type 0 where
   pub settle : s ≡ stim.Settle
   pub one : List Told
-  pub grows : Grows (begun place look (plain body.Settle ∷ one)) v w
+  pub grows : Grows (begun_records place look (plain body.Settle ∷ one)) v w
   pub fits : SeesEntry (priorities sys) one
   pub hands : w.hands ≡ v.hands
   pub found : HasEntry sys v w
 
 -- an assertion ended it, and the lane stopped with its code, which is that of the last record
-pub record Asserts (sys : System) (s : Stim) (place look : ℕ) (v w : LaneView) : Type 0 where
+pub record StimulusAsserts (sys : System) (s : Stim) (place look : ℕ) (v w : LaneView) : Type 0 where
   pub one : List Told
   pub mid : LaneView
   pub code : ℕ
-  pub grows : Grows (begun place look one) v mid
+  pub grows : Grows (begun_records place look one) v mid
   pub fits : (kernel : ℕ) → StimFits sys kernel s true one
   pub some : 1 ≤ code
   pub few : code ≤ 5
@@ -58,7 +58,7 @@ pub record Spills (sys : System) (s : Stim) (place look : ℕ) (v w : LaneView) 
   pub back : List Told
   pub asserted : Bool
   pub mid : LaneView
-  pub grows : Grows (begun place look one) v mid
+  pub grows : Grows (begun_records place look one) v mid
   pub fits : (kernel : ℕ) → StimFits sys kernel s asserted (one ++ back)
   pub some : back ≢ []
   pub halts : HaltsFull mid w
@@ -77,9 +77,9 @@ KeepsOwn v w = (a : ℕ) → w.own a ≡ v.own a
 
 -- a lane that stopped had no room before the `stim`, or else stopped within the stimulus
 abbrev pub Stimulates : System → Stim → ℕ → ℕ → LaneView → LaneView → Stimulated → Type 0
-Stimulates sys s place look v w stimulated.Done = Happens sys s place look v w
-Stimulates sys s place look v w stimulated.Tried = Tries sys s place look v w
-Stimulates sys s place look v w stimulated.Stopped = Asserts sys s place look v w ⊎ Spills sys s place look v w ⊎ HaltsFull v w
+Stimulates sys s place look v w stimulated.Done = StimulusHappens sys s place look v w
+Stimulates sys s place look v w stimulated.Tried = StimulusTries sys s place look v w
+Stimulates sys s place look v w stimulated.Stopped = StimulusAsserts sys s place look v w ⊎ Spills sys s place look v w ⊎ HaltsFull v w
 Stimulates sys s place look v w stimulated.Memory = Exhausts v w
 
 -- The gate was told of the stimulus, unless the lane gave up before its `stim`.

@@ -2,7 +2,7 @@
 
 ghost use Rattle.std.specs.Prelude.{◌≡◌};
 ghost use Rattle.qp_model.specs.Sound.{IsSound};
-ghost use Rattle.qp_stim.specs.Rules.{StimFits};
+ghost use Rattle.qp_stim.specs.Rules.{StimulusFits};
 ghost use Rattle.qp_calls_stimulus.specs.Calling.{Calls, called_of};
 
 use crate::settling::{Sight, settle};
@@ -41,7 +41,7 @@ pub(crate) fn make<O: Ops, L: Ledger>(
     requires of { (O.lane ops.old).sys ≡ sys.now }
     requires sound { IsSound sys.now }
     requires none { (O.lane ops.old).by ≡ 0 }
-    requires fits { StimFits sys.now s.now }
+    requires fits { StimulusFits sys.now s.now }
     ensures { Calls sys.now s.now (O.lane ops.old) (O.lane ops.new) result }
 {
     match s {

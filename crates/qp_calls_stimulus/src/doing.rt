@@ -2,7 +2,7 @@
 
 ghost use Rattle.std.specs.Prelude.{◌≡◌, false};
 ghost use Rattle.qp_model.specs.Sound.{IsSound};
-ghost use Rattle.qp_stim.specs.Rules.{StimFits};
+ghost use Rattle.qp_stim.specs.Rules.{StimulusFits};
 ghost use Rattle.qp_calls.specs.Clauses.{IsFault};
 ghost use Rattle.qp_calls.specs.Notes.{spills_told};
 ghost use Rattle.qp_calls_stimulus.specs.Stimulating.{StimulusHalts, StimulusTells, KeepsOwn, Stimulates};
@@ -55,7 +55,7 @@ pub fn stimulus<O: Ops, L: Ledger, G: Tells>(
     requires of { (O.lane ops.old).sys ≡ sys.now }
     requires sound { IsSound sys.now }
     requires none { (O.lane ops.old).by ≡ 0 }
-    requires fits { StimFits sys.now s.now }
+    requires fits { StimulusFits sys.now s.now }
     requires spills { spills_told (O.lane ops.old).told ≡ false }
     ensures stimulates { Stimulates sys.now s.now place look (O.lane ops.old) (O.lane ops.new) result }
     ensures own { KeepsOwn (O.lane ops.old) (O.lane ops.new) }

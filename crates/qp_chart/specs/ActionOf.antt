@@ -18,7 +18,7 @@ use Rattle.qp_chart_text.specs.ReadingActions.{command_of_text}
 use Rattle.qp_chart_names.specs.ActionFaults.{command_known, command_in_range, command_fits, params_in}
 use Rattle.qp_chart.specs.Binding.{Binds}
 use Rattle.qp_chart_names.specs.Pairs.{Corresponds}
-use Rattle.qp_chart_names.specs.RawNumbers.{variable_names, variable_number, timer_number, signal_number, object_named}
+use Rattle.qp_chart_names.specs.RawNumbers.{variable_names, variable_number, timer_by_name, signal_number, object_named}
 
 -- the bound expression of an expression that may use so many parameters
 abbrev pub IsBoundOf : RawChart → ℕ → Term → Bound → Type 0
@@ -58,11 +58,11 @@ IsPlainOf names chart params Flush p = p ≡ checked.Flush
 IsPlainOf names chart params (Subscribe name) p = (signal : ℕ) × (p ≡ checked.Subscribe signal) × (signal_number names name ≡ Some signal)
 IsPlainOf names chart params (Unsubscribe name) p = (signal : ℕ) × (p ≡ checked.Unsubscribe signal) × (signal_number names name ≡ Some signal)
 IsPlainOf names chart params (Arm name ticks interval) p =
-    (timer : ℕ) × (t i : Bound) × (p ≡ checked.Arm timer t i) × (timer_number chart name ≡ Some timer)
+    (timer : ℕ) × (t i : Bound) × (p ≡ checked.Arm timer t i) × (timer_by_name chart name ≡ Some timer)
     × IsBoundOf chart params ticks t × IsBoundOf chart params interval i
 IsPlainOf names chart params (Rearm name ticks) p =
-    (timer : ℕ) × (t : Bound) × (p ≡ checked.Rearm timer t) × (timer_number chart name ≡ Some timer) × IsBoundOf chart params ticks t
-IsPlainOf names chart params (Disarm name) p = (timer : ℕ) × (p ≡ checked.Disarm timer) × (timer_number chart name ≡ Some timer)
+    (timer : ℕ) × (t : Bound) × (p ≡ checked.Rearm timer t) × (timer_by_name chart name ≡ Some timer) × IsBoundOf chart params ticks t
+IsPlainOf names chart params (Disarm name) p = (timer : ℕ) × (p ≡ checked.Disarm timer) × (timer_by_name chart name ≡ Some timer)
 
 -- an action
 unfoldable pub IsActOf : Names → RawChart → ℕ → Command → Act → Type 0

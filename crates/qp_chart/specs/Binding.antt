@@ -7,7 +7,7 @@ use Rattle.qp_chart.specs.Tree as bound
 use Rattle.qp_chart.specs.declared.binding.BindFault.{BindFault}
 use Rattle.qp_chart.specs.declared.binding.BindFault.TheVariants as fault
 use Rattle.qp_chart_text.specs.Terms.{Word, Term, Num, Var, Ok, Me, Par, One, Two}
-use Rattle.qp_chart_names.specs.Known.{is_named, knows, reaches}
+use Rattle.qp_chart_names.specs.Known.{has_name, knows, reaches}
 use Rattle.qp_chart.specs.Expr.{InRange}
 
 -- the bound expression with the variables' names put back
@@ -23,7 +23,7 @@ named vars (bound.Two op x y) = Two op (named vars x) (named vars y)
 -- the expression with each variable by its place; none where a name is no variable
 unfoldable pub bound_in : List Word → Term → Option bound.Tree
 bound_in vars (Num n) = Some (bound.Num n)
-bound_in vars (Var name) = option_map (λ v. bound.Var v) (position (is_named name) vars)
+bound_in vars (Var name) = option_map (λ v. bound.Var v) (position (has_name name) vars)
 bound_in vars Ok = Some bound.Ok
 bound_in vars Me = Some bound.Me
 bound_in vars (Par j) = Some (bound.Par j)

@@ -17,7 +17,7 @@ use Rattle.qp_chart_names.specs.Faults.{Fault, fault_if, first_of, first_in}
 use Rattle.qp_chart_names.specs.NameFaults.{undeclared, undeclared_key, doubles_fault}
 use Rattle.qp_chart_names.specs.RawNumbers.{state_number, signal_number}
 use Rattle.qp_chart.specs.Parents.{parents_of, tree_fault, is_below_in}
-use Rattle.qp_chart_names.specs.ActionFaults.{is_static, params_of, texts_fault, when_fault}
+use Rattle.qp_chart_names.specs.ActionFaults.{is_static_name, params_of_name, texts_fault, when_fault}
 
 -- the place of a state
 abbrev pub state_place : ℕ → List Part
@@ -36,7 +36,7 @@ unfoldable pub timer_fault : Names → ℕ → RawTimer → Option Fault
 timer_fault names k timer =
     first_of
     (undeclared (signal_number names timer.signal) (Key TIMER ∷ Pos k ∷ Key SIGNAL ∷ [])
-    ∷ fault_if (not (is_static names timer.signal)) RANGE (Key TIMER ∷ Pos k ∷ Key SIGNAL ∷ [])
+    ∷ fault_if (not (is_static_name names timer.signal)) RANGE (Key TIMER ∷ Pos k ∷ Key SIGNAL ∷ [])
     ∷ [])
 
 -- the parent of the k-th state isn't declared
@@ -63,8 +63,8 @@ row_fault names chart at earlier row =
     first_of
     (undeclared (signal_number names row.on) (at ++ Key ON ∷ [])
     ∷ fault_if (is_covered earlier row) TWO_ROWS at
-    ∷ when_fault chart (params_of names row.on) (at ++ Key WHEN ∷ []) row.when
-    ∷ texts_fault names chart (Some (params_of names row.on)) at DO row.acts
+    ∷ when_fault chart (params_of_name names row.on) (at ++ Key WHEN ∷ []) row.when
+    ∷ texts_fault names chart (Some (params_of_name names row.on)) at DO row.acts
     ∷ undeclared_key (state_number chart) row.to (at ++ Key TO ∷ [])
     ∷ [])
 

@@ -14,7 +14,7 @@ use Rattle.qp_chart.specs.declared.checked.Chart.{Chart}
 use Rattle.qp_chart_names.specs.Pairs.{Corresponds}
 use Rattle.qp_chart_names.specs.RawNumbers.{Refers, state_number, signal_number}
 use Rattle.qp_chart.specs.Parents.{parent_number}
-use Rattle.qp_chart_names.specs.ActionFaults.{params_of}
+use Rattle.qp_chart_names.specs.ActionFaults.{params_of_name}
 use Rattle.qp_chart.specs.ActionOf.{IsActOfText, IsGuardOf}
 
 -- the actions of some texts
@@ -30,8 +30,8 @@ pub record IsTimerOf (names : Names) (raw : RawTimer) (timer : Timer) : Type 0 w
 -- a row; its texts may use the parameters of its signal
 pub record IsRowOf (names : Names) (chart : RawChart) (raw : RawRow) (row : Row) : Type 0 where
   pub on : signal_number names raw.on ≡ Some row.on
-  pub when : IsGuardOf chart (params_of names raw.on) raw.when row.when
-  pub acts : AreActsOf names chart (Some (params_of names raw.on)) raw.acts row.acts
+  pub when : IsGuardOf chart (params_of_name names raw.on) raw.when row.when
+  pub acts : AreActsOf names chart (Some (params_of_name names raw.on)) raw.acts row.acts
   pub to : Refers (state_number chart) raw.to row.to
 
 -- a state

@@ -16,14 +16,14 @@ pub data Tree : Type 0 where
   One : (op : Unary) (x : Tree) → Tree
   Two : (op : Binary) (x y : Tree) → Tree
 
-abbrev pub size_of : Tree → ℕ
-size_of (Num n) = 0
-size_of (Var v) = 0
-size_of Ok = 0
-size_of Me = 0
-size_of (Par j) = 0
-size_of (One op x) = size_of x + 1
-size_of (Two op x y) = size_of x + size_of y + 1
+abbrev pub tree_size : Tree → ℕ
+tree_size (Num n) = 0
+tree_size (Var v) = 0
+tree_size Ok = 0
+tree_size Me = 0
+tree_size (Par j) = 0
+tree_size (One op x) = tree_size x + 1
+tree_size (Two op x y) = tree_size x + tree_size y + 1
 
 -- a tree is stored as its parts, each behind its operands
 abbrev Sign : Type 0
@@ -75,9 +75,9 @@ build (Two op x y) ss ts =
     ap (λ l. built l ts) (append_assoc (signs x) (signs y ++ inr (inr op) ∷ []) ss ∙ ap (λ l. signs x ++ l) (append_assoc (signs y) (inr (inr op) ∷ []) ss))
     ∙ build x (signs y ++ inr (inr op) ∷ ss) ts ∙ build y (inr (inr op) ∷ ss) (x ∷ ts)
 
-pub back : (t : Tree) → first (built (signs t) []) ≡ t
-back t = ap (λ l. first (built l [])) (sym (append-nil (signs t))) ∙ ap first (build t [] [])
+pub built-signs : (t : Tree) → first (built (signs t) []) ≡ t
+built-signs t = ap (λ l. first (built l [])) (sym (append-nil (signs t))) ∙ ap first (build t [] [])
 
 abbrev pub tree_code : Coded Tree
 tree_code =
-    code_by (List Sign) (coded_list (coded⊎ (coded⊎ coded_ℤ (coded⊎ coded_ℕ coded_ℕ)) (coded⊎ (coded⊎ coded_bool unary.the_row.coded) binary.the_row.coded))) signs (λ l. first (built l [])) back
+    code_by (List Sign) (coded_list (coded⊎ (coded⊎ coded_ℤ (coded⊎ coded_ℕ coded_ℕ)) (coded⊎ (coded⊎ coded_bool unary.the_row.coded) binary.the_row.coded))) signs (λ l. first (built l [])) built-signs

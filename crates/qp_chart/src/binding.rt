@@ -4,7 +4,7 @@ ghost use Rattle.std.specs.Prelude.{◌≡◌, ◌<◌, ◌≤◌, ℕ, List, fa
 ghost use Rattle.qp_chart_text.specs.Terms.{Word, Term, One, Two, term_of};
 ghost use Rattle.std.specs.List.{list_any, position};
 ghost use Rattle.qp_chart.specs.Binding.{Binds, IsCause};
-ghost use Rattle.qp_chart_names.specs.Known.{is_named, words, has_word, knows};
+ghost use Rattle.qp_chart_names.specs.Known.{has_name, words, is_among, knows};
 
 use crate::expression::{Bound, Node};
 use qp_chart_names::known::is_known;
@@ -124,7 +124,7 @@ fn two(alloc: Global, op: Binary, left: Bound, right: Bound) -> Result<Bound, Bi
 
 // The first place of a name among the variables.
 fn place(name: &Name, vars: &[Name]) -> Option<usize>
-    ensures { result ≡ position (is_named name.now) vars.now }
+    ensures { result ≡ position (has_name name.now) vars.now }
 {
     vars.iter().position(|v| v == name)
 }

@@ -1,6 +1,6 @@
 //! The check that makes a chart of what a file says.
 ghost use Rattle.std.specs.Prelude.{◌≡◌, ◌≤◌, length, map, None, IfOk, IfErr};
-ghost use Rattle.qp_chart_names.specs.Faults.{IsFault, first_in};
+ghost use Rattle.qp_chart_names.specs.Faults.{IsChartFault, first_in};
 ghost use Rattle.qp_chart.specs.Parents.{parents_of, parent_number};
 ghost use Rattle.qp_chart.specs.ChartFaults.{chart_fault, parts_fault, body_fault, frame_fault, timer_fault, parent_at};
 ghost use Rattle.qp_chart_names.specs.Pairs.{Corresponds};
@@ -28,7 +28,7 @@ impl Chart {
         requires { IsReadable names.now raw.now }
         ensures ok { IfOk result (λ chart. (chart_fault names.now raw.now ≡ None) × IsChartOf names.now raw.now chart) }
         ensures legal { IfOk result IsLegal }
-        ensures fault { IfErr result (IsFault (chart_fault names.now raw.now)) }
+        ensures fault { IfErr result (IsChartFault (chart_fault names.now raw.now)) }
     {
         let scope = Scope {
             names,
@@ -44,7 +44,7 @@ fn checked_chart(alloc: Global, scope: &Scope<'_>) -> Result<Chart, ChartFault>
     requires { IsReadable scope.now.names.now scope.now.chart.now }
     ensures ok { IfOk result (λ chart. (parts_fault scope.now.names.now scope.now.chart.now ≡ None) ×
         IsChartOf scope.now.names.now scope.now.chart.now chart) }
-    ensures fault { IfErr result (IsFault (parts_fault scope.now.names.now scope.now.chart.now)) }
+    ensures fault { IfErr result (IsChartFault (parts_fault scope.now.names.now scope.now.chart.now)) }
 {
     let (timer, parents) = checked_frame(alloc, scope)?;
     let (init, init_do, state) = checked_body(alloc, scope, parents.as_slice())?;
@@ -69,7 +69,7 @@ fn checked_body(
     requires readable { IsReadable scope.now.names.now scope.now.chart.now }
     ensures ok { IfOk result (λ body. (body_fault scope.now.names.now scope.now.chart.now ≡ None) ×
         IsBodyOf scope.now.names.now scope.now.chart.now body.0 body.1 body.2) }
-    ensures fault { IfErr result (IsFault (body_fault scope.now.names.now scope.now.chart.now)) }
+    ensures fault { IfErr result (IsChartFault (body_fault scope.now.names.now scope.now.chart.now)) }
 {
     let raw = scope.chart;
     let init = scope.state(&raw.init, &[], key::INIT)?;
@@ -91,7 +91,7 @@ fn checked_frame(alloc: Global, scope: &Scope<'_>) -> Result<(Timers, Vec<Option
     requires states { length scope.now.chart.now.state ≤ 64 }
     ensures ok { IfOk result (λ frame. (frame_fault scope.now.names.now scope.now.chart.now ≡ None) × Corresponds
         (IsTimerOf scope.now.names.now) scope.now.chart.now.timer frame.0 × (frame.1.items ≡ parents_of scope.now.chart.now)) }
-    ensures fault { IfErr result (IsFault (frame_fault scope.now.names.now scope.now.chart.now)) }
+    ensures fault { IfErr result (IsChartFault (frame_fault scope.now.names.now scope.now.chart.now)) }
 {
     let timers = checked_timers(alloc, scope, scope.chart.timer.as_slice())?;
     let parents = checked_parents(alloc, scope, scope.chart.state.as_slice())?;
@@ -104,7 +104,7 @@ fn checked_timers(alloc: Global, scope: &Scope<'_>, raws: &[RawTimer]) -> Result
     requires { length raws.now ≤ 8 }
     ensures ok { IfOk result (λ timers. (first_in (timer_fault scope.now.names.now) 1 raws.now ≡ None) × Corresponds
         (IsTimerOf scope.now.names.now) raws.now timers) }
-    ensures fault { IfErr result (IsFault (first_in (timer_fault scope.now.names.now) 1 raws.now)) }
+    ensures fault { IfErr result (IsChartFault (first_in (timer_fault scope.now.names.now) 1 raws.now)) }
 {
     let mut timers = Vec::new(alloc);
     for (i, raw) in raws.iter().enumerate() {
@@ -117,7 +117,7 @@ fn checked_timers(alloc: Global, scope: &Scope<'_>, raws: &[RawTimer]) -> Result
 /// One time event.
 fn checked_timer(scope: &Scope<'_>, place: u16, raw: &RawTimer) -> Result<Timer, ChartFault>
     ensures ok { IfOk result (λ timer. (timer_fault scope.now.names.now place raw.now ≡ None) × IsTimerOf scope.now.names.now raw.now timer) }
-    ensures fault { IfErr result (IsFault (timer_fault scope.now.names.now place raw.now)) }
+    ensures fault { IfErr result (IsChartFault (timer_fault scope.now.names.now place raw.now)) }
 {
     let at = [Part::Key(key::TIMER), Part::Pos(place)];
     let signal = scope.signal(&raw.signal, &at, key::SIGNAL)?;
@@ -140,7 +140,7 @@ fn checked_parents(
     requires { length raws.now ≤ 64 }
     ensures ok { IfOk result (λ parents. (first_in (parent_at scope.now.chart.now) 1 raws.now ≡ None) ×
         (parents.items ≡ map (λ raw. parent_number scope.now.chart.now raw) raws.now)) }
-    ensures fault { IfErr result (IsFault (first_in (parent_at scope.now.chart.now) 1 raws.now)) }
+    ensures fault { IfErr result (IsChartFault (first_in (parent_at scope.now.chart.now) 1 raws.now)) }
 {
     let mut parents = Vec::new(alloc);
     for (i, raw) in raws.iter().enumerate() {

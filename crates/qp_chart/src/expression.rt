@@ -24,7 +24,7 @@ pub enum Node {
 }
 
 impl Model for Bound {
-    ghost use Rattle.qp_chart.specs.Tree.{Tree, tree_code, size_of};
+    ghost use Rattle.qp_chart.specs.Tree.{Tree, tree_code, tree_size};
 
     ghost Value = { Tree };
 
@@ -34,7 +34,7 @@ impl Model for Bound {
 
     ghost view = { λ b. tree_of b.node };
 
-    ghost size = { size_of };
+    ghost size = { tree_size };
 
     ghost use Rattle.std.proofs.Common.{arith};
 

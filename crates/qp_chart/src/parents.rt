@@ -1,6 +1,6 @@
 //! The parents of the states: that they make a tree, and no deep one.
 ghost use Rattle.std.specs.Prelude.{◌≡◌, ◌≤◌, length, Some, None, IfOk, IfErr};
-ghost use Rattle.qp_chart_names.specs.Faults.{IsFault, first_in};
+ghost use Rattle.qp_chart_names.specs.Faults.{IsChartFault, first_in};
 ghost use Rattle.qp_chart.specs.StateTree.{has};
 ghost use Rattle.qp_chart.specs.Parents.{parent_in, path_in, up_in, loop_at, depth_at, tree_fault};
 
@@ -13,7 +13,7 @@ pub const DEPTH: usize = 6;
 pub(crate) fn check_tree(parents: &[Option<u8>]) -> Result<(), ChartFault>
     requires { length parents.now ≤ 64 }
     ensures ok { IfOk result (λ _. tree_fault parents.now ≡ None) }
-    ensures fault { IfErr result (IsFault (tree_fault parents.now)) }
+    ensures fault { IfErr result (IsChartFault (tree_fault parents.now)) }
 {
     check_loops(parents)?;
     check_depth(parents)
@@ -22,7 +22,7 @@ pub(crate) fn check_tree(parents: &[Option<u8>]) -> Result<(), ChartFault>
 fn check_loops(parents: &[Option<u8>]) -> Result<(), ChartFault>
     requires { length parents.now ≤ 64 }
     ensures ok { IfOk result (λ _. first_in (loop_at parents.now) 1 parents.now ≡ None) }
-    ensures fault { IfErr result (IsFault (first_in (loop_at parents.now) 1 parents.now)) }
+    ensures fault { IfErr result (IsChartFault (first_in (loop_at parents.now) 1 parents.now)) }
 {
     for i in 0..parents.len() {
         let state = i as u8 + 1;
@@ -37,7 +37,7 @@ fn check_loops(parents: &[Option<u8>]) -> Result<(), ChartFault>
 fn check_depth(parents: &[Option<u8>]) -> Result<(), ChartFault>
     requires { length parents.now ≤ 64 }
     ensures ok { IfOk result (λ _. first_in (depth_at parents.now) 1 parents.now ≡ None) }
-    ensures fault { IfErr result (IsFault (first_in (depth_at parents.now) 1 parents.now)) }
+    ensures fault { IfErr result (IsChartFault (first_in (depth_at parents.now) 1 parents.now)) }
 {
     for i in 0..parents.len() {
         if depth(parents, i as u8 + 1) > DEPTH {

@@ -5,10 +5,10 @@ ghost use Rattle.std.specs.Prelude.{◌≡◌, All, Some, None, map, true, IfOk,
 ghost use Rattle.std.specs.Option.{is_some};
 ghost use Rattle.qp_chart_names.specs.Pairs.{Corresponds};
 ghost use Rattle.qp_chart_text.specs.Terms.{Set, Say, Post, Lifo, Publish, Arm, Rearm, term_of, event_of_tree, order_of, command_of, address_of};
-ghost use Rattle.qp_chart_names.specs.RawNumbers.{signal_number, timer_number, variable_number};
-ghost use Rattle.qp_chart_names.specs.ActionFaults.{IsAllowed, IsSound, command_known, command_in_range, command_fits, event_known, event_fits, receiver_known, is_byte, params_in};
+ghost use Rattle.qp_chart_names.specs.RawNumbers.{signal_number, timer_by_name, variable_number};
+ghost use Rattle.qp_chart_names.specs.ActionFaults.{IsAllowed, IsTermSound, command_known, command_in_range, command_fits, is_event_known, event_fits, receiver_known, is_byte, params_in};
 ghost use Rattle.qp_chart.specs.ActionOf.{IsBoundOf, IsTargetOf, IsEventOf, IsByteOf, IsPlainOf, IsActOf};
-ghost use Rattle.qp_chart_names.specs.Faults.{IsFault};
+ghost use Rattle.qp_chart_names.specs.Faults.{IsChartFault};
 
 use crate::actions::{Act, Plain, Plains, Target};
 use crate::binding::{BindFault, bind};
@@ -24,9 +24,9 @@ pub(crate) fn bound(
     params: u8,
     e: &Expr,
 ) -> Result<Bound, ChartFault>
-    requires { IsSound scope.now.chart.now params (term_of e.now) }
+    requires { IsTermSound scope.now.chart.now params (term_of e.now) }
     ensures ok { IfOk result (IsBoundOf scope.now.chart.now params (term_of e.now)) }
-    ensures memory { IfErr result (IsFault None) }
+    ensures memory { IfErr result (IsChartFault None) }
 {
     match bind(alloc, e, scope.tables.vars.as_slice(), params) {
         Ok(bound) => Ok(bound),
@@ -43,9 +43,9 @@ fn bounds(
     params: u8,
     exprs: &[Expr],
 ) -> Result<BoundExprs, ChartFault>
-    requires { All (λ e. IsSound scope.now.chart.now params (term_of e)) exprs.now }
+    requires { All (λ e. IsTermSound scope.now.chart.now params (term_of e)) exprs.now }
     ensures ok { IfOk result (λ pars. Corresponds (IsBoundOf scope.now.chart.now params) (map term_of exprs.now) pars) }
-    ensures memory { IfErr result (IsFault None) }
+    ensures memory { IfErr result (IsChartFault None) }
 {
     let mut items = Vec::new(alloc);
     for e in exprs {
@@ -66,8 +66,8 @@ fn declared_signal(scope: &Scope<'_>, name: &Name) -> u16
 }
 
 fn declared_timer(scope: &Scope<'_>, name: &Name) -> u8
-    requires { is_some (timer_number scope.now.chart.now name.now) ≡ true }
-    ensures { timer_number scope.now.chart.now name.now ≡ Some result }
+    requires { is_some (timer_by_name scope.now.chart.now name.now) ≡ true }
+    ensures { timer_by_name scope.now.chart.now name.now ≡ Some result }
 {
     match scope.timer_number(name) {
         Some(number) => number,
@@ -116,10 +116,10 @@ fn event(
     params: u8,
     event: &EventTree,
 ) -> Result<(u16, BoundExprs), ChartFault>
-    requires known { event_known scope.now.names.now scope.now.chart.now (event_of_tree event.now) ≡ true }
+    requires known { is_event_known scope.now.names.now scope.now.chart.now (event_of_tree event.now) ≡ true }
     requires fits { event_fits scope.now.names.now params (event_of_tree event.now) ≡ true }
     ensures ok { IfOk result (λ e. IsEventOf scope.now.names.now scope.now.chart.now params (event_of_tree event.now) e.0 e.1) }
-    ensures memory { IfErr result (IsFault None) }
+    ensures memory { IfErr result (IsChartFault None) }
 {
     let signal = declared_signal(scope, &event.signal);
     let pars = bounds(alloc, scope, params, event.pars.as_slice())?;
@@ -136,7 +136,7 @@ fn resolved_set(
 ) -> Result<Plain, ChartFault>
     requires { IsAllowed scope.now.names.now scope.now.chart.now inside (Set var.now (term_of value.now)) }
     ensures ok { IfOk result (IsPlainOf scope.now.names.now scope.now.chart.now (params_in inside) (Set var.now (term_of value.now))) }
-    ensures memory { IfErr result (IsFault None) }
+    ensures memory { IfErr result (IsChartFault None) }
 {
     let var = declared_variable(scope, var);
     let value = bound(alloc, scope, inside.unwrap_or(0), value)?;
@@ -152,7 +152,7 @@ fn resolved_say(
 ) -> Result<Plain, ChartFault>
     requires { IsAllowed scope.now.names.now scope.now.chart.now inside (Say (term_of value.now)) }
     ensures ok { IfOk result (IsPlainOf scope.now.names.now scope.now.chart.now (params_in inside) (Say (term_of value.now))) }
-    ensures memory { IfErr result (IsFault None) }
+    ensures memory { IfErr result (IsChartFault None) }
 {
     let value = bound(alloc, scope, inside.unwrap_or(0), value)?;
     Ok(Plain::Say(value))
@@ -171,7 +171,7 @@ fn resolved_post(
     requires { IsAllowed scope.now.names.now scope.now.chart.now inside (Post (address_of to.now) (event_of_tree posted.now) margin reserve) }
     ensures ok { IfOk result (IsPlainOf scope.now.names.now scope.now.chart.now (params_in inside)
         (Post (address_of to.now) (event_of_tree posted.now) margin reserve)) }
-    ensures memory { IfErr result (IsFault None) }
+    ensures memory { IfErr result (IsChartFault None) }
 {
     let to = target(scope, to);
     let (sig, pars) = event(alloc, scope, inside.unwrap_or(0), posted)?;
@@ -196,7 +196,7 @@ fn resolved_lifo(
 ) -> Result<Plain, ChartFault>
     requires { IsAllowed scope.now.names.now scope.now.chart.now inside (Lifo (event_of_tree posted.now) reserve) }
     ensures ok { IfOk result (IsPlainOf scope.now.names.now scope.now.chart.now (params_in inside) (Lifo (event_of_tree posted.now) reserve)) }
-    ensures memory { IfErr result (IsFault None) }
+    ensures memory { IfErr result (IsChartFault None) }
 {
     let (sig, pars) = event(alloc, scope, inside.unwrap_or(0), posted)?;
     let reserve = byte(reserve);
@@ -213,7 +213,7 @@ fn resolved_publish(
 ) -> Result<Plain, ChartFault>
     requires { IsAllowed scope.now.names.now scope.now.chart.now inside (Publish (event_of_tree posted.now) reserve) }
     ensures ok { IfOk result (IsPlainOf scope.now.names.now scope.now.chart.now (params_in inside) (Publish (event_of_tree posted.now) reserve)) }
-    ensures memory { IfErr result (IsFault None) }
+    ensures memory { IfErr result (IsChartFault None) }
 {
     let (sig, pars) = event(alloc, scope, inside.unwrap_or(0), posted)?;
     let reserve = byte(reserve);
@@ -232,7 +232,7 @@ fn resolved_arm(
     requires { IsAllowed scope.now.names.now scope.now.chart.now inside (Arm timer.now (term_of ticks.now) (term_of interval.now)) }
     ensures ok { IfOk result (IsPlainOf scope.now.names.now scope.now.chart.now (params_in inside)
         (Arm timer.now (term_of ticks.now) (term_of interval.now))) }
-    ensures memory { IfErr result (IsFault None) }
+    ensures memory { IfErr result (IsChartFault None) }
 {
     let timer = declared_timer(scope, timer);
     let ticks = bound(alloc, scope, inside.unwrap_or(0), ticks)?;
@@ -254,7 +254,7 @@ fn resolved_rearm(
 ) -> Result<Plain, ChartFault>
     requires { IsAllowed scope.now.names.now scope.now.chart.now inside (Rearm timer.now (term_of ticks.now)) }
     ensures ok { IfOk result (IsPlainOf scope.now.names.now scope.now.chart.now (params_in inside) (Rearm timer.now (term_of ticks.now))) }
-    ensures memory { IfErr result (IsFault None) }
+    ensures memory { IfErr result (IsChartFault None) }
 {
     let timer = declared_timer(scope, timer);
     let ticks = bound(alloc, scope, inside.unwrap_or(0), ticks)?;
@@ -271,7 +271,7 @@ fn resolved_plain(
 ) -> Result<Plain, ChartFault>
     requires { IsAllowed scope.now.names.now scope.now.chart.now inside (order_of plain.now) }
     ensures ok { IfOk result (IsPlainOf scope.now.names.now scope.now.chart.now (params_in inside) (order_of plain.now)) }
-    ensures memory { IfErr result (IsFault None) }
+    ensures memory { IfErr result (IsChartFault None) }
 {
     match plain {
         PlainAction::Set { var, value } => resolved_set(alloc, scope, inside, var, value),
@@ -319,7 +319,7 @@ fn resolved_plains(
     requires { All (λ plain. IsAllowed scope.now.names.now scope.now.chart.now inside (order_of plain)) plains.now }
     ensures ok { IfOk result (λ acts. Corresponds (IsPlainOf scope.now.names.now scope.now.chart.now (params_in inside))
         (map order_of plains.now) acts) }
-    ensures memory { IfErr result (IsFault None) }
+    ensures memory { IfErr result (IsChartFault None) }
 {
     let mut items = Vec::new(alloc);
     for plain in plains {
@@ -341,7 +341,7 @@ pub(crate) fn resolved(
     requires in_range { command_in_range scope.now.names.now (command_of action.now) ≡ true }
     requires fits { command_fits scope.now.names.now inside (command_of action.now) ≡ true }
     ensures ok { IfOk result (IsActOf scope.now.names.now scope.now.chart.now (params_in inside) (command_of action.now)) }
-    ensures memory { IfErr result (IsFault None) }
+    ensures memory { IfErr result (IsChartFault None) }
 {
     match action {
         Action::Plain(plain) => Ok(Act::Plain(resolved_plain(alloc, scope, inside, plain)?)),

@@ -3,7 +3,7 @@ ghost use Rattle.std.specs.Prelude.{◌≡◌, ◌+◌, ◌≤◌, ◌++◌, len
 ghost use Rattle.qp_chart_names.specs.declared.raw.RawRow.{RawRow};
 ghost use Rattle.qp_chart_names.specs.declared.raw.RawState.{RawState};
 ghost use Rattle.std.specs.Option.{option_and_then};
-ghost use Rattle.qp_chart_names.specs.Faults.{IsFault, first_in};
+ghost use Rattle.qp_chart_names.specs.Faults.{IsChartFault, first_in};
 ghost use Rattle.qp_chart.specs.Parents.{parents_of, parent_number, is_below_in};
 ghost use Rattle.qp_chart.specs.ChartFaults.{init_fault, row_fault, rows_fault, state_fault, is_covered, state_place};
 ghost use Rattle.qp_chart_names.specs.Pairs.{Corresponds};
@@ -32,7 +32,7 @@ pub(crate) fn checked_states(
     requires readable { All IsReadableState raws.now }
     ensures ok { IfOk result (λ states. (first_in (state_fault scope.now.names.now scope.now.chart.now) 1 raws.now ≡ None) × Corresponds
         (IsStateOf scope.now.names.now scope.now.chart.now) raws.now states) }
-    ensures fault { IfErr result (IsFault (first_in (state_fault scope.now.names.now scope.now.chart.now) 1 raws.now)) }
+    ensures fault { IfErr result (IsChartFault (first_in (state_fault scope.now.names.now scope.now.chart.now) 1 raws.now)) }
 {
     let mut states = Vec::new(alloc);
     for (i, raw) in raws.iter().enumerate() {
@@ -54,7 +54,7 @@ fn checked_state(
     requires readable { IsReadableState raw.now }
     ensures ok { IfOk result (λ state. (state_fault scope.now.names.now scope.now.chart.now place raw.now ≡ None) × IsStateOf
         scope.now.names.now scope.now.chart.now raw.now state) }
-    ensures fault { IfErr result (IsFault (state_fault scope.now.names.now scope.now.chart.now place raw.now)) }
+    ensures fault { IfErr result (IsChartFault (state_fault scope.now.names.now scope.now.chart.now place raw.now)) }
 {
     let at = [Part::Key(key::STATE), Part::Pos(place as u16)];
     let entry = checked_acts(alloc, scope, None, &at, key::ENTRY, raw.entry.as_slice())?;
@@ -100,7 +100,7 @@ fn checked_init(
     requires { parents.now ≡ parents_of scope.now.chart.now }
     ensures ok { IfOk result (λ to. (init_fault scope.now.chart.now place init.now ≡ None) × Refers (state_number scope.now.chart.now)
         init.now to) }
-    ensures fault { IfErr result (IsFault (init_fault scope.now.chart.now place init.now)) }
+    ensures fault { IfErr result (IsChartFault (init_fault scope.now.chart.now place init.now)) }
 {
     let Some(name) = init else {
         return Ok(None);
@@ -131,7 +131,7 @@ fn checked_rows(
     requires readable { All IsReadableRow raws.now }
     ensures ok { IfOk result (λ rows. (rows_fault scope.now.names.now scope.now.chart.now place raws.now ≡ None) × Corresponds
         (IsRowOf scope.now.names.now scope.now.chart.now) raws.now rows) }
-    ensures fault { IfErr result (IsFault (rows_fault scope.now.names.now scope.now.chart.now place raws.now)) }
+    ensures fault { IfErr result (IsChartFault (rows_fault scope.now.names.now scope.now.chart.now place raws.now)) }
 {
     let mut rows = Vec::new(alloc);
     for (i, raw) in raws.iter().enumerate() {
@@ -159,7 +159,7 @@ fn checked_row(
     requires readable { IsReadableRow raw.now }
     ensures ok { IfOk result (λ row. (row_fault scope.now.names.now scope.now.chart.now at.now earlier.now raw.now ≡ None) × IsRowOf
         scope.now.names.now scope.now.chart.now raw.now row) }
-    ensures fault { IfErr result (IsFault (row_fault scope.now.names.now scope.now.chart.now at.now earlier.now raw.now)) }
+    ensures fault { IfErr result (IsChartFault (row_fault scope.now.names.now scope.now.chart.now at.now earlier.now raw.now)) }
 {
     let on = scope.signal(&raw.on, at, key::ON)?;
     if covered(earlier, raw) {

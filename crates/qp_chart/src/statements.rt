@@ -5,7 +5,7 @@ ghost use Rattle.qp_chart_names.specs.Keys.{WHEN};
 ghost use Rattle.qp_chart_text.specs.Reading.{term_of_text};
 ghost use Rattle.qp_chart_text.specs.Terms.{term_of, command_of};
 ghost use Rattle.qp_chart_names.specs.Pairs.{Corresponds};
-ghost use Rattle.qp_chart_names.specs.Faults.{IsFault};
+ghost use Rattle.qp_chart_names.specs.Faults.{IsChartFault};
 ghost use Rattle.qp_chart_names.specs.ActionFaults.{action_fault, text_fault, texts_fault, when_fault, guard_fault};
 ghost use Rattle.qp_chart.specs.ActionOf.{IsActOfCommand, IsActOfText, IsBoundOf, IsBoundOfText, IsGuardOf};
 
@@ -30,7 +30,7 @@ pub(crate) fn checked_acts(
     requires few { length texts.now ≤ 16 }
     ensures ok { IfOk result (λ acts. (texts_fault scope.now.names.now scope.now.chart.now inside at.now list texts.now ≡ None) ×
         Corresponds (IsActOfText scope.now.names.now scope.now.chart.now inside) texts.now acts) }
-    ensures fault { IfErr result (IsFault (texts_fault scope.now.names.now scope.now.chart.now inside at.now list texts.now)) }
+    ensures fault { IfErr result (IsChartFault (texts_fault scope.now.names.now scope.now.chart.now inside at.now list texts.now)) }
 {
     let mut items = Vec::new(alloc);
     for (i, text) in texts.iter().enumerate() {
@@ -53,7 +53,7 @@ fn checked_act(
     requires { length at.now + length rest.now ≤ 8 }
     ensures ok { IfOk result (λ act. (text_fault scope.now.names.now scope.now.chart.now inside (at.now ++ rest.now) text.now ≡ None) ×
         IsActOfText scope.now.names.now scope.now.chart.now inside text.now act) }
-    ensures fault { IfErr result (IsFault (text_fault scope.now.names.now scope.now.chart.now inside (at.now ++ rest.now) text.now)) }
+    ensures fault { IfErr result (IsChartFault (text_fault scope.now.names.now scope.now.chart.now inside (at.now ++ rest.now) text.now)) }
 {
     match read_action(alloc, text) {
         Ok(action) => act_of(alloc, scope, inside, at, rest, &action),
@@ -75,7 +75,7 @@ fn act_of(
     ensures ok { IfOk result (λ act.
         (action_fault scope.now.names.now scope.now.chart.now inside (at.now ++ rest.now) (Some (command_of action.now)) ≡ None) ×
         IsActOfCommand scope.now.names.now scope.now.chart.now inside (command_of action.now) act) }
-    ensures fault { IfErr result (IsFault
+    ensures fault { IfErr result (IsChartFault
         (action_fault scope.now.names.now scope.now.chart.now inside (at.now ++ rest.now) (Some (command_of action.now)))) }
 {
     if !is_known(scope, action) {
@@ -101,7 +101,7 @@ pub(crate) fn checked_guard(
     requires { length at.now ≤ 6 }
     ensures ok { IfOk result (λ guard. (when_fault scope.now.chart.now params (at.now ++ Key WHEN ∷ []) when.now ≡ None) × IsGuardOf
         scope.now.chart.now params when.now guard) }
-    ensures fault { IfErr result (IsFault (when_fault scope.now.chart.now params (at.now ++ Key WHEN ∷ []) when.now)) }
+    ensures fault { IfErr result (IsChartFault (when_fault scope.now.chart.now params (at.now ++ Key WHEN ∷ []) when.now)) }
 {
     match when {
         Some(text) => Ok(Some(checked_expr(alloc, scope, params, at, text.as_str())?)),
@@ -120,7 +120,7 @@ fn checked_expr(
     requires { length at.now ≤ 6 }
     ensures ok { IfOk result (λ b. (guard_fault scope.now.chart.now params (at.now ++ Key WHEN ∷ []) (term_of_text text.now) ≡ None) ×
         IsBoundOfText scope.now.chart.now params text.now b) }
-    ensures fault { IfErr result (IsFault (guard_fault scope.now.chart.now params (at.now ++ Key WHEN ∷ []) (term_of_text text.now))) }
+    ensures fault { IfErr result (IsChartFault (guard_fault scope.now.chart.now params (at.now ++ Key WHEN ∷ []) (term_of_text text.now))) }
 {
     let rest = [Part::Key(key::WHEN)];
     match read_expr(alloc, text) {
@@ -141,7 +141,7 @@ fn guard_of(
     requires { length at.now ≤ 6 }
     ensures ok { IfOk result (λ b. (guard_fault scope.now.chart.now params (at.now ++ Key WHEN ∷ []) (Some (term_of e.now)) ≡ None) ×
         IsBoundOf scope.now.chart.now params (term_of e.now) b) }
-    ensures fault { IfErr result (IsFault (guard_fault scope.now.chart.now params (at.now ++ Key WHEN ∷ []) (Some (term_of e.now)))) }
+    ensures fault { IfErr result (IsChartFault (guard_fault scope.now.chart.now params (at.now ++ Key WHEN ∷ []) (Some (term_of e.now)))) }
 {
     let rest = [Part::Key(key::WHEN)];
     if !scope.knows(e) {

@@ -17,7 +17,7 @@ use Rattle.qp_chart_compiled.specs.declared.choice.Choice.{Choice}
 use Rattle.qp_chart_compiled.specs.Codes.{row_at}
 use Rattle.qp_chart_compiled.specs.Rows.{rows_from, rows_on, leaves_rest}
 use Rattle.qp_chart_compiled.specs.Compiled.{IsPlan, IsChoice, between}
-use Rattle.qp_chart_compiled.specs.Building.{Extends, Places, Offers}
+use Rattle.qp_chart_compiled.specs.Building.{AppendsTasks, Places, Offers}
 
 -- tasks behind the others change nothing between two places
 pub between-stays : (from to : ℕ) (ts more : List Task) → to ≤ length ts → between from to (ts ++ more) ≡ between from to ts
@@ -29,10 +29,10 @@ between-stays from to ts more h = by (to - from) refl
         ap (λ us. take (suc n) us) (drop-append-le from ts more (omega (arith, e, h)))
         ∙ take-append-le (suc n) (drop from ts) more (omega (arith, e, h, length-drop from ts))
 
-pub extends-trans : (a b c : List Task) → Extends a b → Extends b c → Extends a c
+pub extends-trans : (a b c : List Task) → AppendsTasks a b → AppendsTasks b c → AppendsTasks a c
 extends-trans a b c one two = (one.0 ++ two.0, two.1 ∙ ap (λ ts. ts ++ two.0) one.1 ∙ append_assoc a one.0 two.0)
 
-pub plan-stays : (a b : List Task) (whole : drill.Plan) (plan : Plan) → Extends a b → IsPlan a whole plan → IsPlan b whole plan
+pub plan-stays : (a b : List Task) (whole : drill.Plan) (plan : Plan) → AppendsTasks a b → IsPlan a whole plan → IsPlan b whole plan
 plan-stays a b whole plan more h =
     record {
       inside = omega (arith, h.inside, ap length more.1, length-append a more.0);
@@ -42,7 +42,7 @@ plan-stays a b whole plan more h =
 
 module _ (chart : Chart) (leaf : ℕ) where
   -- choices stay choices
-  pub choices-stay : (a b : List Task) → Extends a b → (hs : List Handler) (xs : List Choice) → Corresponds (IsChoice chart a leaf) hs xs → Corresponds (IsChoice chart b leaf) hs xs
+  pub choices-stay : (a b : List Task) → AppendsTasks a b → (hs : List Handler) (xs : List Choice) → Corresponds (IsChoice chart a leaf) hs xs → Corresponds (IsChoice chart b leaf) hs xs
   unfolding Corresponds
   choices-stay a b more [] [] h = tt
   choices-stay a b more [] (x ∷ xs) h = absurd h

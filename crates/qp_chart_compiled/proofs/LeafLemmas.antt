@@ -14,7 +14,7 @@ use Rattle.qp_chart_compiled.specs.declared.compiled.Compiled.{Compiled}
 use Rattle.qp_chart_compiled.specs.Codes.{task_at, tasks_at}
 use Rattle.qp_chart_compiled.specs.Rows.{rows_on, leaves_rest}
 use Rattle.qp_chart_compiled.specs.Compiled.{IsClass, IsLeaf, AreClasses, AreLeaves, IsCompiled, choices_of, classes_of, between}
-use Rattle.qp_chart_compiled.specs.Building.{Extends, Offers, Places, MakesLeaf, MakesLeaves}
+use Rattle.qp_chart_compiled.specs.Building.{AppendsTasks, Offers, Places, MakesLeaf, MakesLeaves}
 use Rattle.qp_chart_compiled.proofs.ChoiceLemmas.{extends-trans, choices-stay, plan-stays}
 
 get-before : {X : Type 0} (xs : List X) (x : X) (i : ℕ) → i < length xs → slice_get (xs ++ x ∷ []) i ≡ slice_get xs i
@@ -48,7 +48,7 @@ each-more P xs ys x e before last i h = by (below-next i (length xs) (omega (ari
 
 -- some classes of a leaf are made
 pub record Classes (chart : Chart) (width leaf count : ℕ) (old new : List Task) (classes : List Choices) : Type 0 where
-  pub more : Extends old new
+  pub more : AppendsTasks old new
   pub whole : length classes ≡ count
   pub each : AreClasses chart new width leaf classes
 
@@ -78,7 +78,7 @@ classes-all chart width leaf count a b classes e k = record { more = k.more; mad
 
 -- some leaves are made
 pub record Leaves (chart : Chart) (width count : ℕ) (old new : List Task) (leaves : List Leaf) : Type 0 where
-  pub more : Extends old new
+  pub more : AppendsTasks old new
   pub whole : length leaves ≡ count
   pub each : AreLeaves chart new width leaves
 
@@ -90,7 +90,7 @@ leaves-none chart width ts leaves e =
       each = λ leaf h. absurd (omega (arith, h, ap length e));
     }
 
-leaf-stays : (chart : Chart) (width leaf : ℕ) (a b : List Task) (classes : List Choices) → Extends a b → IsLeaf chart a width leaf classes → IsLeaf chart b width leaf classes
+leaf-stays : (chart : Chart) (width leaf : ℕ) (a b : List Task) (classes : List Choices) → AppendsTasks a b → IsLeaf chart a width leaf classes → IsLeaf chart b width leaf classes
 leaf-stays chart width leaf a b classes more h = record { whole = h.whole; each = λ rest below. choices-stay chart leaf a b more _ _ (h.each rest below) }
 
 pub leaves-more : (chart : Chart) (width count : ℕ) (a b c : List Task) (leaves new : List Leaf) (made : Leaf) → MakesLeaf chart width count b c made.classes.items

@@ -20,10 +20,10 @@ use Rattle.qp_chart_compiled.specs.declared.agenda.Plan.{Plan}
 use Rattle.qp_chart_compiled.specs.declared.choice.Choice.{Choice}
 use Rattle.qp_chart_compiled.specs.declared.code.Code.{Code}
 use Rattle.qp_chart_compiled.specs.declared.compiled.Compiled.{Compiled}
-use Rattle.qp_chart_compiled.specs.AsTask.{first}
+use Rattle.qp_chart_compiled.specs.AsTask.{first_task}
 use Rattle.qp_chart_compiled.specs.Codes.{row_at, task_at, tasks_at}
 use Rattle.qp_chart_compiled.specs.Rows.{rows_from, rows_on, leaves_rest, is_open, is_open_at, first_open}
-use Rattle.qp_chart_compiled.specs.Compiled.{IsPlan, IsChoice, IsCompiled, between, left_of, left_in, choices_in, classes_at, classes_of}
+use Rattle.qp_chart_compiled.specs.Compiled.{IsPlan, IsChoice, IsCompiled, between, tasks_left_of, tasks_left_in, choices_in, classes_at, classes_of}
 use Rattle.qp_chart_tree.proofs.WalkLemmas.{top-left}
 
 -- nothing stands between a place and one that isn't behind it
@@ -31,10 +31,10 @@ between-none : (from to : ℕ) (ts : List Task) → to ≤ from → between from
 between-none from to ts h = let none : to - from ≡ 0 = omega (arith, h) in ap (λ n. take n (drop from ts)) none
 
 -- the first of what stands behind a place
-between-first : (chart : Chart) (from to : ℕ) (codes : List Code) (x : Code) → from < to → slice_get codes from ≡ Some x → first (between from to (tasks_at chart codes)) ≡ Some (task_at chart x)
+between-first : (chart : Chart) (from to : ℕ) (codes : List Code) (x : Code) → from < to → slice_get codes from ≡ Some x → first_task (between from to (tasks_at chart codes)) ≡ Some (task_at chart x)
 between-first chart from to codes x h e = along codes from to h e
   where
-    along : (codes : List Code) (from to : ℕ) → from < to → slice_get codes from ≡ Some x → first (between from to (tasks_at chart codes)) ≡ Some (task_at chart x)
+    along : (codes : List Code) (from to : ℕ) → from < to → slice_get codes from ≡ Some x → first_task (between from to (tasks_at chart codes)) ≡ Some (task_at chart x)
     along [] from to h e = absurd (none-some x e)
     along (y ∷ ys) zero zero h e = absurd (omega (arith, h))
     along (y ∷ ys) zero (suc to) h e = let all : suc to - 0 ≡ suc to = omega arith in rw all (ap option_task e)
@@ -71,13 +71,13 @@ between-next from to ts h =
     let count : to - from ≡ suc (to - suc from) = omega (arith, h) in
     rw (add-one, count) (ap (λ us. take (to - suc from) us) (drop-next from ts) ∙ take-next (to - suc from) (drop from ts))
 
-pub next-none : (chart : Chart) (c : Compiled) (agenda : Agenda) → agenda.to ≤ agenda.from → None ≡ first (left_in chart c agenda)
-unfolding left_in
-next-none chart c agenda h = ap first (sym (between-none agenda.from agenda.to (tasks_at chart c.codes.items) h))
+pub next-none : (chart : Chart) (c : Compiled) (agenda : Agenda) → agenda.to ≤ agenda.from → None ≡ first_task (tasks_left_in chart c agenda)
+unfolding tasks_left_in
+next-none chart c agenda h = ap first_task (sym (between-none agenda.from agenda.to (tasks_at chart c.codes.items) h))
 
-pub next-past : (chart : Chart) (c : Compiled) (agenda : Agenda) → slice_get c.codes.items agenda.from ≡ None → None ≡ first (left_in chart c agenda)
-unfolding left_in
-next-past chart c agenda h = ap first (sym (between-past chart agenda.from agenda.to c.codes.items (past c.codes.items agenda.from h)))
+pub next-past : (chart : Chart) (c : Compiled) (agenda : Agenda) → slice_get c.codes.items agenda.from ≡ None → None ≡ first_task (tasks_left_in chart c agenda)
+unfolding tasks_left_in
+next-past chart c agenda h = ap first_task (sym (between-past chart agenda.from agenda.to c.codes.items (past c.codes.items agenda.from h)))
   where
     past : (codes : List Code) (i : ℕ) → slice_get codes i ≡ None → length codes ≤ i
     past [] i e = omega arith
@@ -85,17 +85,17 @@ next-past chart c agenda h = ap first (sym (between-past chart agenda.from agend
     past (x ∷ xs) (suc i) e = omega (arith, past xs i e)
 
 pub next-some : (chart : Chart) (c : Compiled) (agenda : Agenda) (x : Code) (t : Task) → agenda.from < agenda.to → slice_get c.codes.items agenda.from ≡ Some x → t ≡ task_at chart x
-    → Some t ≡ first (left_in chart c agenda)
-unfolding left_in
+    → Some t ≡ first_task (tasks_left_in chart c agenda)
+unfolding tasks_left_in
 next-some chart c agenda x t h e is = ap Some is ∙ sym (between-first chart agenda.from agenda.to c.codes.items x h e)
 
 pub advance-one : (chart : Chart) (c : Compiled) (agenda : Agenda) → agenda.from < agenda.to
-    → left_in chart c (record { from = agenda.from + 1; to = agenda.to }) ≡ drop 1 (left_in chart c agenda)
-unfolding left_in
+    → tasks_left_in chart c (record { from = agenda.from + 1; to = agenda.to }) ≡ drop 1 (tasks_left_in chart c agenda)
+unfolding tasks_left_in
 advance-one chart c agenda h = between-next agenda.from agenda.to (tasks_at chart c.codes.items) h
 
-pub advance-none : (chart : Chart) (c : Compiled) (agenda : Agenda) → agenda.to ≤ agenda.from → left_in chart c agenda ≡ drop 1 (left_in chart c agenda)
-unfolding left_in
+pub advance-none : (chart : Chart) (c : Compiled) (agenda : Agenda) → agenda.to ≤ agenda.from → tasks_left_in chart c agenda ≡ drop 1 (tasks_left_in chart c agenda)
+unfolding tasks_left_in
 advance-none chart c agenda h =
     let none = between-none agenda.from agenda.to (tasks_at chart c.codes.items) h in
     none ∙ ap (λ ts. drop 1 ts) (sym none)
@@ -161,7 +161,7 @@ module _ (chart : Chart) (names : Names) (sig : ℕ) where
   open-rest : (width : ℕ) (h : Handler) → opens h ≡ true → leaves_rest width (sig % width) h ≡ true
   unfolding opens
   open-rest width h test =
-      let first : (h.row.on == sig) ≡ true = left (h.row.on == sig) (passes names h.row.when) test in
+      let first_task : (h.row.on == sig) ≡ true = left (h.row.on == sig) (passes names h.row.when) test in
       let same : h.row.on ≡ sig = grind (arith, nat_tests) in
       let rest : (h.row.on % width) ≡ (sig % width) = ap (λ n. n % width) same in
       grind (arith, nat_tests)
@@ -260,28 +260,28 @@ module _ (chart : Chart) (c : Compiled) (is : IsCompiled chart c) (leaf : ℕ) (
 
   pub step-some : (plan : Plan) (found : Option Plan) (choices : List Choice) → choices ≡ choices_in (classes_at c.leaves.items leaf) (sig % c.width)
       → found ≡ first_open chart names sig choices → found ≡ Some plan
-      → (left_in chart c plan.agenda ≡ (step_plan chart leaf names sig).tasks) × (plan.leaf ≡ (step_plan chart leaf names sig).leaf)
-  unfolding left_in step_plan
+      → (tasks_left_in chart c plan.agenda ≡ (step_plan chart leaf names sig).tasks) × (plan.leaf ≡ (step_plan chart leaf names sig).leaf)
+  unfolding tasks_left_in step_plan
   step-some plan found choices e f some = by (handler chart names sig leaf) (subst (λ o. Picks chart names sig (tasks_at chart c.codes.items) leaf (handler chart names sig leaf) o) same step-picks)
     where
       same : first_open chart names sig (choices_in (classes_at c.leaves.items leaf) (sig % c.width)) ≡ Some plan
       same = ap (λ xs. first_open chart names sig xs) (sym e) ∙ sym f ∙ some
 
       by : (o : Option Handler) → Picks chart names sig (tasks_at chart c.codes.items) leaf o (Some plan)
-          → (left_of (tasks_at chart c.codes.items) plan.agenda ≡ (ended (handled chart leaf o)).tasks) × (plan.leaf ≡ (ended (handled chart leaf o)).leaf)
+          → (tasks_left_of (tasks_at chart c.codes.items) plan.agenda ≡ (ended (handled chart leaf o)).tasks) × (plan.leaf ≡ (ended (handled chart leaf o)).leaf)
       by None h = absurd h
       by (Some y) h = (h.tasks, h.leaf)
 
   pub step-none : (found : Option Plan) (choices : List Choice) → choices ≡ choices_in (classes_at c.leaves.items leaf) (sig % c.width)
       → found ≡ first_open chart names sig choices → found ≡ None
-      → (left_in chart c c.unhandled ≡ (step_plan chart leaf names sig).tasks) × (leaf ≡ (step_plan chart leaf names sig).leaf)
-  unfolding left_in step_plan handled
+      → (tasks_left_in chart c c.unhandled ≡ (step_plan chart leaf names sig).tasks) × (leaf ≡ (step_plan chart leaf names sig).leaf)
+  unfolding tasks_left_in step_plan handled
   step-none found choices e f none = by (handler chart names sig leaf) (subst (λ o. Picks chart names sig (tasks_at chart c.codes.items) leaf (handler chart names sig leaf) o) same step-picks)
     where
       same : first_open chart names sig (choices_in (classes_at c.leaves.items leaf) (sig % c.width)) ≡ None
       same = ap (λ xs. first_open chart names sig xs) (sym e) ∙ sym f ∙ none
 
       by : (o : Option Handler) → Picks chart names sig (tasks_at chart c.codes.items) leaf o None
-          → (left_of (tasks_at chart c.codes.items) c.unhandled ≡ (ended (handled chart leaf o)).tasks) × (leaf ≡ (ended (handled chart leaf o)).leaf)
+          → (tasks_left_of (tasks_at chart c.codes.items) c.unhandled ≡ (ended (handled chart leaf o)).tasks) × (leaf ≡ (ended (handled chart leaf o)).leaf)
       by None h = (is.unhandled, refl)
       by (Some y) h = absurd h

@@ -19,6 +19,6 @@ as_task (own.Raise c) = task.Raise c
 as_task own.Restore = task.Restore
 
 -- the first of some tasks
-abbrev pub first : List task.Task → Option task.Task
-first [] = None
-first (t ∷ ts) = Some t
+abbrev pub first_task : List task.Task → Option task.Task
+first_task [] = None
+first_task (t ∷ ts) = Some t

@@ -23,18 +23,18 @@ abbrev pub between : ℕ → ℕ → List Task → List Task
 between from to ts = take (to - from) (drop from ts)
 
 -- the tasks left of an agenda, where these are the tasks of all codes
-abbrev pub left_of : List Task → Agenda → List Task
-left_of ts agenda = between agenda.from agenda.to ts
+abbrev pub tasks_left_of : List Task → Agenda → List Task
+tasks_left_of ts agenda = between agenda.from agenda.to ts
 
 -- the tasks left of an agenda
-unfoldable pub left_in : Chart → Compiled → Agenda → List Task
+unfoldable pub tasks_left_in : Chart → Compiled → Agenda → List Task
 unfolding tasks_at
-left_in chart c agenda = left_of (tasks_at chart c.codes.items) agenda
+tasks_left_in chart c agenda = tasks_left_of (tasks_at chart c.codes.items) agenda
 
 -- the plan among all tasks: its tasks, and the leaf after them
 pub record IsPlan (ts : List Task) (whole : drill.Plan) (plan : Plan) : Type 0 where
   pub inside : plan.agenda.to ≤ length ts
-  pub tasks : left_of ts plan.agenda ≡ whole.tasks
+  pub tasks : tasks_left_of ts plan.agenda ≡ whole.tasks
   pub leaf : plan.leaf ≡ whole.leaf
 
 -- a row that may handle an event at this leaf, and what is done where it does
@@ -80,7 +80,7 @@ AreLeaves chart ts width leaves = (leaf : ℕ) → leaf < length leaves → IsLe
 -- a chart is compiled: its start, what is done where no row is open, and the choices of each leaf
 pub record IsCompiled (chart : Chart) (c : Compiled) : Type 0 where
   pub start : IsPlan (tasks_at chart c.codes.items) (start_plan chart) c.start
-  pub unhandled : left_of (tasks_at chart c.codes.items) c.unhandled ≡ Unhandled ∷ Done ∷ []
+  pub unhandled : tasks_left_of (tasks_at chart c.codes.items) c.unhandled ≡ Unhandled ∷ Done ∷ []
   pub some : 1 ≤ c.width
   pub whole : length c.leaves.items ≡ suc (length chart.state)
   pub each : AreLeaves chart (tasks_at chart c.codes.items) c.width c.leaves.items

@@ -5,9 +5,9 @@ ghost use Rattle.std.specs.Option.{option_map};
 ghost use Rattle.qp_chart.specs.declared.checked.Chart.{Chart};
 ghost use Rattle.qp_chart.specs.Expr.{names_in};
 ghost use Rattle.qp_chart.specs.Agenda.{start_plan, step_plan};
-ghost use Rattle.qp_chart_compiled.specs.AsTask.{as_task, first};
+ghost use Rattle.qp_chart_compiled.specs.AsTask.{as_task, first_task};
 ghost use Rattle.qp_chart_compiled.specs.Codes.{tasks_at};
-ghost use Rattle.qp_chart_compiled.specs.Compiled.{IsCompiled, choices_in, classes_at, left_in};
+ghost use Rattle.qp_chart_compiled.specs.Compiled.{IsCompiled, choices_in, classes_at, tasks_left_in};
 ghost use Rattle.qp_chart_compiled.specs.Building.{MakesLeaves};
 
 use crate::agenda::{Agenda, Plan};
@@ -49,7 +49,7 @@ impl Compiled {
     /// What a start is to do, and the leaf after it.
     pub fn start(&self, chart: &Chart) -> (Agenda, u8)
         requires { IsCompiled chart.now self.now }
-        ensures tasks { left_in chart.now self.now result.0 ≡ (start_plan chart.now).tasks }
+        ensures tasks { tasks_left_in chart.now self.now result.0 ≡ (start_plan chart.now).tasks }
         ensures leaf { result.1 ≡ (start_plan chart.now).leaf }
     {
         let _ = chart;
@@ -61,7 +61,7 @@ impl Compiled {
     /// It looks at rows of the signal alone, and evaluates their guards up to the first that passes.
     pub fn step(&self, chart: &Chart, leaf: u8, env: &Env<'_>, sig: u16) -> (Agenda, u8)
         requires { IsCompiled chart.now self.now }
-        ensures tasks { left_in chart.now self.now result.0 ≡ (step_plan chart.now leaf (names_in env.now) sig).tasks }
+        ensures tasks { tasks_left_in chart.now self.now result.0 ≡ (step_plan chart.now leaf (names_in env.now) sig).tasks }
         ensures leaf { result.1 ≡ (step_plan chart.now leaf (names_in env.now) sig).leaf }
     {
         let choices = self.choices(leaf, usize::from(sig) % self.width);
@@ -86,7 +86,7 @@ impl Compiled {
 
     /// The first task that is left. There is none exactly where no task is left.
     pub fn next<'a>(&self, chart: &'a Chart, agenda: &Agenda) -> Option<Task<'a>>
-        ensures { option_map as_task result ≡ first (left_in chart.now self.now agenda.now) }
+        ensures { option_map as_task result ≡ first_task (tasks_left_in chart.now self.now agenda.now) }
     {
         if agenda.from >= agenda.to {
             return None;
@@ -99,7 +99,7 @@ impl Compiled {
 
     /// Drops the first task that is left; where none is, nothing changes.
     pub fn advance(&self, agenda: &mut Agenda)
-        ensures { (chart : Chart) → left_in chart self.now agenda.new ≡ drop 1 (left_in chart self.now agenda.old) }
+        ensures { (chart : Chart) → tasks_left_in chart self.now agenda.new ≡ drop 1 (tasks_left_in chart self.now agenda.old) }
     {
         if agenda.from < agenda.to {
             agenda.from += 1;

@@ -4,29 +4,29 @@ use Rattle.std.specs.Option.{option_or, option_and_then}
 use Rattle.std.proofs.lemmas.List.{drop_more, at_drop_all, take_more, map-append}
 use Rattle.qp_chart_names.specs.declared.fault.ChartFault.{ChartFault}
 use Rattle.qp_chart_names.specs.declared.fault.ChartFault.TheVariants.{Memory, At}
-use Rattle.qp_chart_names.specs.Faults.{Fault, fault, fault_if, first_in, IsFault, first_of}
+use Rattle.qp_chart_names.specs.Faults.{Fault, fault, fault_if, first_in, IsChartFault, first_of}
 use Rattle.qp_chart_names.specs.NameFaults.{undeclared, undeclared_key}
 use Rattle.qp_chart_names.specs.Pairs.{Corresponds}
 use Rattle.qp_chart_names.specs.RawNumbers.{Refers}
 use Rattle.qp_chart_names.specs.declared.place.Part.{Part}
 
 -- what is found first is the first fault
-pub found-here : (o later : Option Fault) (e : ChartFault) → IsFault o e → IsFault (option_or o later) e
+pub found-here : (o later : Option Fault) (e : ChartFault) → IsChartFault o e → IsChartFault (option_or o later) e
 found-here o later Memory h = tt
 found-here o later (At c p) h = rw h refl
 
 -- where nothing is found first, what is found later
-pub found-later : (o later : Option Fault) (e : ChartFault) → o ≡ None → IsFault later e → IsFault (option_or o later) e
+pub found-later : (o later : Option Fault) (e : ChartFault) → o ≡ None → IsChartFault later e → IsChartFault (option_or o later) e
 found-later o later Memory none h = tt
 found-later o later (At c p) none h = rw none h
 
 -- the first of some faults
-pub found-first : (o : Option Fault) (os : List (Option Fault)) (e : ChartFault) → IsFault o e → IsFault (first_of (o ∷ os)) e
+pub found-first : (o : Option Fault) (os : List (Option Fault)) (e : ChartFault) → IsChartFault o e → IsChartFault (first_of (o ∷ os)) e
 unfolding first_of
 found-first o os e h = found-here o (first_of os) e h
 
 -- where nothing is found first, what is found later
-pub found-next : (o : Option Fault) (os : List (Option Fault)) (e : ChartFault) → o ≡ None → IsFault (first_of os) e → IsFault (first_of (o ∷ os)) e
+pub found-next : (o : Option Fault) (os : List (Option Fault)) (e : ChartFault) → o ≡ None → IsChartFault (first_of os) e → IsChartFault (first_of (o ∷ os)) e
 unfolding first_of
 found-next o os e none h = found-later o (first_of os) e none h
 
@@ -48,7 +48,7 @@ undeclared_key-None number (Some name) None place h = absurd h
 undeclared_key-None number (Some name) (Some n) place h = undeclared-None place h
 
 -- a test that holds gives its fault, and one that fails none
-pub fault_if-true : (test : Bool) (code : ℕ) (path : List Part) (e : ChartFault) → true ≡ test → IsFault (fault code path) e → IsFault (fault_if test code path) e
+pub fault_if-true : (test : Bool) (code : ℕ) (path : List Part) (e : ChartFault) → true ≡ test → IsChartFault (fault code path) e → IsChartFault (fault_if test code path) e
 fault_if-true test code path e holds h = rw (← holds) h
 
 pub fault_if-false : (test : Bool) (code : ℕ) (path : List Part) → false ≡ test → fault_if test code path ≡ None
@@ -71,7 +71,7 @@ module _ {A : Type 0} (f : ℕ → A → Option Fault) (xs : List A) where
   pub passed-one : (i : ℕ) (x : A) → Passed i → i < length xs → x ≡ get_or xs i x → f (i + 1) x ≡ None → Passed (i + 1)
   passed-one i x passed inside is none = passed ∙ first_in-next i x inside is ∙ ap (λ o. option_or o (first_in f ((i + 1) + 1) (drop (i + 1) xs))) none
 
-  pub found-at : (i : ℕ) (x : A) (e : ChartFault) → Passed i → i < length xs → x ≡ get_or xs i x → IsFault (f (i + 1) x) e → IsFault (first_in f 1 xs) e
+  pub found-at : (i : ℕ) (x : A) (e : ChartFault) → Passed i → i < length xs → x ≡ get_or xs i x → IsChartFault (f (i + 1) x) e → IsChartFault (first_in f 1 xs) e
   found-at i x e passed inside is h = rw (passed ∙ first_in-next i x inside is) (found-here _ _ e h)
 
   pub passed-all : (i : ℕ) → Passed i → length xs ≤ i → first_in f 1 xs ≡ None

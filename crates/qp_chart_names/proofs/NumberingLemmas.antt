@@ -9,7 +9,7 @@ use Rattle.std.proofs.lemmas.Option.{none-some}
 use Rattle.std.specs.List.{list_any}
 use Rattle.qp_chart_names.specs.Known.{words}
 use Rattle.qp_chart_names.specs.declared.places.NumbersByName.{NumbersByName}
-use Rattle.qp_chart_names.specs.Numbering.{number_in, number_at, IsNumbering, AddsName}
+use Rattle.qp_chart_names.specs.Numbering.{number_in, number_of_name, IsNumbering, AddsName}
 
 -- a test, with what it answers
 pub bool_cases : (b : Bool) → (b ≡ true) ⊎ (b ≡ false)
@@ -101,7 +101,7 @@ number_in-below k (x ∷ names) q n e = by_test (λ h. number_in-below (k + 1) n
     by_test later false h = omega (arith, later h)
 
 -- a table without names numbers none
-pub IsNumbering-none : (k : ℕ) (places : NumbersByName) → ((name : List ℕ) → number_at places name ≡ None) → IsNumbering k [] places
+pub IsNumbering-none : (k : ℕ) (places : NumbersByName) → ((name : List ℕ) → number_of_name places name ≡ None) → IsNumbering k [] places
 unfolding number_in
 IsNumbering-none k places empty = empty
 
@@ -118,7 +118,7 @@ IsNumbering-more name_of k xs i x old new n added inside is number known adds =
 -- a name was new where none of those numbered has it
 pub Adds-fresh : (k : ℕ) (names : List (List ℕ)) (old new : NumbersByName) (name : List ℕ) (n : ℕ) (added : Bool) → IsNumbering k names old → AddsName old new name n added → list_any (bytes_eq name) names ≡ not added
 Adds-fresh k names old new name n added known adds =
-    sym (is_some-number_in k names name) ∙ ap is_some (sym (known name)) ∙ twice (is_some (number_at old name)) ∙ ap not (sym adds.fresh)
+    sym (is_some-number_in k names name) ∙ ap is_some (sym (known name)) ∙ twice (is_some (number_of_name old name)) ∙ ap not (sym adds.fresh)
   where
     twice : (b : Bool) → b ≡ not (not b)
     twice true = refl
@@ -136,7 +136,7 @@ number_in-above k (x ∷ names) q n e = by_test (λ h. number_in-above (k + 1) n
 
 -- what a table gives is at least the first number, and below it and the count
 pub number_at-range : {A : Type 0} (name_of : A → List ℕ) (k : ℕ) (xs : List A) (places : NumbersByName) (q : List ℕ) (n : ℕ)
-    → IsNumbering k (map name_of xs) places → Some n ≡ number_at places q → (k ≤ n) × (n < k + length xs)
+    → IsNumbering k (map name_of xs) places → Some n ≡ number_of_name places q → (k ≤ n) × (n < k + length xs)
 number_at-range name_of k xs places q n known e =
     let is : number_in k (map name_of xs) q ≡ Some n = sym (known q) ∙ sym e in
     (number_in-above k (map name_of xs) q n is, omega (arith, number_in-below k (map name_of xs) q n is, length-map xs name_of))

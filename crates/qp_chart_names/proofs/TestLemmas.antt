@@ -9,7 +9,7 @@ use Rattle.qp_chart_text.specs.declared.trees.PlainAction.{PlainAction}
 use Rattle.qp_chart_names.specs.declared.raw.Names.{Names}
 use Rattle.qp_chart_text.specs.Terms.{term_of, order_of}
 use Rattle.qp_chart_names.specs.Known.{reaches}
-use Rattle.qp_chart_names.specs.ActionFaults.{term_known, IsSound, order_known, order_in_range, order_fits, IsAllowed}
+use Rattle.qp_chart_names.specs.ActionFaults.{term_known, IsTermSound, order_known, order_in_range, order_fits, IsAllowed}
 
 -- a test that holds leaves the other to decide
 pub and-both : (a b c : Bool) → a ≡ true → c ≡ b → c ≡ (a && b)
@@ -17,10 +17,10 @@ and-both a b c holds same = same ∙ sym (ap (λ (x : Bool). x && b) holds)
 
 -- expressions without a fault
 pub All-sound : (chart : RawChart) (params : ℕ) (es : List Expr) → list_all (λ e. term_known chart e) (map term_of es) ≡ true → list_all (λ e. reaches params e) (map term_of es) ≡ true
-    → All (λ e. IsSound chart params (term_of e)) es
-All-sound chart params [] known reached = All-nil (λ e. IsSound chart params (term_of e))
+    → All (λ e. IsTermSound chart params (term_of e)) es
+All-sound chart params [] known reached = All-nil (λ e. IsTermSound chart params (term_of e))
 All-sound chart params (e ∷ es) known reached =
-    All-cons (λ e. IsSound chart params (term_of e)) e es (record { known = (and_parts _ _ known).0; reached = (and_parts _ _ reached).0 })
+    All-cons (λ e. IsTermSound chart params (term_of e)) e es (record { known = (and_parts _ _ known).0; reached = (and_parts _ _ reached).0 })
     (All-sound chart params es (and_parts _ _ known).1 (and_parts _ _ reached).1)
 
 -- plain actions without a fault

@@ -13,7 +13,7 @@ use Rattle.qp_chart_text.specs.Reading.{term_of_text}
 use Rattle.qp_chart_text.specs.ReadingActions.{command_of_text}
 use Rattle.qp_chart_names.specs.Known.{knows, reaches}
 use Rattle.qp_chart_names.specs.Faults.{Fault, fault, fault_if, first_of, first_in}
-use Rattle.qp_chart_names.specs.RawNumbers.{variable_names, variable_number, timer_number, signal_number, signal_named, object_named}
+use Rattle.qp_chart_names.specs.RawNumbers.{variable_names, variable_number, timer_by_name, signal_number, signal_named, object_named}
 
 -- the variables in the expression are declared
 abbrev pub term_known : RawChart → Term → Bool
@@ -23,25 +23,25 @@ abbrev pub receiver_known : Names → Address → Bool
 receiver_known names ToMe = true
 receiver_known names (ToObject name) = is_some (object_named names name)
 
-abbrev pub event_known : Names → RawChart → EventTerm → Bool
-event_known names chart event = is_some (signal_number names event.signal) && list_all (λ e. term_known chart e) event.pars
+abbrev pub is_event_known : Names → RawChart → EventTerm → Bool
+is_event_known names chart event = is_some (signal_number names event.signal) && list_all (λ e. term_known chart e) event.pars
 
 -- each name of the action is declared
 unfoldable pub order_known : Names → RawChart → Order → Bool
 order_known names chart (Set var value) = is_some (variable_number chart var) && term_known chart value
 order_known names chart (Say value) = term_known chart value
-order_known names chart (Post to event margin reserve) = receiver_known names to && event_known names chart event
-order_known names chart (Lifo event reserve) = event_known names chart event
+order_known names chart (Post to event margin reserve) = receiver_known names to && is_event_known names chart event
+order_known names chart (Lifo event reserve) = is_event_known names chart event
 order_known names chart (Forward to margin) = receiver_known names to
-order_known names chart (Publish event reserve) = event_known names chart event
+order_known names chart (Publish event reserve) = is_event_known names chart event
 order_known names chart Defer = true
 order_known names chart Recall = true
 order_known names chart Flush = true
 order_known names chart (Subscribe signal) = is_some (signal_number names signal)
 order_known names chart (Unsubscribe signal) = is_some (signal_number names signal)
-order_known names chart (Arm timer ticks interval) = is_some (timer_number chart timer) && term_known chart ticks && term_known chart interval
-order_known names chart (Rearm timer ticks) = is_some (timer_number chart timer) && term_known chart ticks
-order_known names chart (Disarm timer) = is_some (timer_number chart timer)
+order_known names chart (Arm timer ticks interval) = is_some (timer_by_name chart timer) && term_known chart ticks && term_known chart interval
+order_known names chart (Rearm timer ticks) = is_some (timer_by_name chart timer) && term_known chart ticks
+order_known names chart (Disarm timer) = is_some (timer_by_name chart timer)
 
 -- a number from this to that
 abbrev pub is_between : ℕ → ℕ → ℤ → Bool
@@ -52,12 +52,12 @@ abbrev pub is_byte : Option ℤ → Bool
 is_byte None = true
 is_byte (Some z) = is_between 0 255 z
 
-abbrev pub is_static : Names → List ℕ → Bool
-is_static names signal = unwrap_or (option_map (λ s. s.fixed) (signal_named names signal)) false
+abbrev pub is_static_name : Names → List ℕ → Bool
+is_static_name names signal = unwrap_or (option_map (λ s. s.fixed) (signal_named names signal)) false
 
 -- a reserve is in range, and stands on no static signal
 abbrev pub reserve_allowed : Names → EventTerm → Option ℤ → Bool
-reserve_allowed names event reserve = is_byte reserve && not (is_some reserve && is_static names event.signal)
+reserve_allowed names event reserve = is_byte reserve && not (is_some reserve && is_static_name names event.signal)
 
 -- each number of the action is in its range
 unfoldable pub order_in_range : Names → Order → Bool
@@ -68,15 +68,15 @@ order_in_range names (Publish event reserve) = reserve_allowed names event reser
 order_in_range names order = true
 
 -- how many parameters the signal has
-abbrev pub params_of : Names → List ℕ → ℕ
-params_of names signal = unwrap_or (option_map (λ s. s.params) (signal_named names signal)) 0
+abbrev pub params_of_name : Names → List ℕ → ℕ
+params_of_name names signal = unwrap_or (option_map (λ s. s.params) (signal_named names signal)) 0
 
 -- how many parameters an expression may use: those of the row's signal, and none outside a row
 abbrev pub params_in : Option ℕ → ℕ
 params_in inside = unwrap_or inside 0
 
 abbrev pub event_fits : Names → ℕ → EventTerm → Bool
-event_fits names params event = (length event.pars == params_of names event.signal) && list_all (λ e. reaches params e) event.pars
+event_fits names params event = (length event.pars == params_of_name names event.signal) && list_all (λ e. reaches params e) event.pars
 
 -- events have as many parameters as their signals, parameters are within reach, and only a row forwards or defers
 unfoldable pub order_fits : Names → Option ℕ → Order → Bool
@@ -135,7 +135,7 @@ pub record IsAllowed (names : Names) (chart : RawChart) (inside : Option ℕ) (o
   pub fits : order_fits names inside order ≡ true
 
 -- an expression without a fault
-pub record IsSound (chart : RawChart) (params : ℕ) (e : Term) : Type 0 where
+pub record IsTermSound (chart : RawChart) (params : ℕ) (e : Term) : Type 0 where
   pub known : term_known chart e ≡ true
   pub reached : reaches params e ≡ true
 

@@ -62,7 +62,7 @@ abbrev pub NO_POOL : ℕ
 NO_POOL = 15
 
 -- all codes, in their order
-abbrev pub codes : List ℕ
-codes =
+abbrev pub chart_codes : List ℕ
+chart_codes =
     NOT_TOML ∷ WRONG_KIND ∷ MISSING ∷ UNKNOWN ∷ RANGE ∷ DOUBLE ∷ NO_SUCH_NAME ∷ BAD_TEXT
     ∷ WRONG_ARITY ∷ PARENT_LOOP ∷ TOO_DEEP ∷ INIT_NOT_BELOW ∷ TWO_ROWS ∷ TOO_MANY ∷ NO_POOL ∷ []

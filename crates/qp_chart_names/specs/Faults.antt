@@ -30,6 +30,6 @@ first_in f k [] = None
 first_in f k (x ∷ xs) = option_or (f k x) (first_in f (k + 1) xs)
 
 -- the refusal is want of memory, or carries this fault
-abbrev pub IsFault : Option Fault → ChartFault → Type 0
-IsFault first Memory = Unit {0}
-IsFault first (At c p) = first ≡ fault c p.0.items
+abbrev pub IsChartFault : Option Fault → ChartFault → Type 0
+IsChartFault first Memory = Unit {0}
+IsChartFault first (At c p) = first ≡ fault c p.0.items

@@ -9,17 +9,17 @@ abbrev pub words : List (List ℕ) → List Word
 words names = map (λ n. n) names
 
 -- the name has these bytes
-abbrev pub is_named : Word → (List ℕ) → Bool
-is_named name v = pointwise nat_eq v name
+abbrev pub has_name : Word → (List ℕ) → Bool
+has_name name v = pointwise nat_eq v name
 
 -- the word stands in the list
-abbrev pub has_word : List Word → Word → Bool
-has_word vars name = list_any (λ v. pointwise nat_eq v name) vars
+abbrev pub is_among : List Word → Word → Bool
+is_among vars name = list_any (λ v. pointwise nat_eq v name) vars
 
 -- each variable of the expression is one of these
 unfoldable pub knows : List Word → Term → Bool
 knows vars (Num n) = true
-knows vars (Var name) = has_word vars name
+knows vars (Var name) = is_among vars name
 knows vars Ok = true
 knows vars Me = true
 knows vars (Par j) = true

@@ -35,8 +35,8 @@ abbrev pub state_number : RawChart → List ℕ → Option ℕ
 state_number chart name = number_in 1 (state_names chart.state) name
 
 -- the time events of a chart are numbered from 1
-abbrev pub timer_number : RawChart → List ℕ → Option ℕ
-timer_number chart name = number_in 1 (timer_names chart.timer) name
+abbrev pub timer_by_name : RawChart → List ℕ → Option ℕ
+timer_by_name chart name = number_in 1 (timer_names chart.timer) name
 
 -- variables are numbered from 0, in ascending name
 abbrev pub variable_number : RawChart → List ℕ → Option ℕ
@@ -47,12 +47,12 @@ abbrev pub signal_number : Names → List ℕ → Option ℕ
 signal_number names name = number_in 4 (signal_names names.signals) name
 
 -- a signal by its number
-abbrev pub signal_at : Names → ℕ → Option SigName
-signal_at names number = slice_get names.signals (number - 4)
+abbrev pub signal_numbered : Names → ℕ → Option SigName
+signal_numbered names number = slice_get names.signals (number - 4)
 
 -- a signal by its name
 unfoldable pub signal_named : Names → List ℕ → Option SigName
-signal_named names name = option_and_then (λ number. signal_at names number) (signal_number names name)
+signal_named names name = option_and_then (λ number. signal_numbered names number) (signal_number names name)
 
 -- an object by its name
 unfoldable pub object_named : Names → List ℕ → Option ObjName

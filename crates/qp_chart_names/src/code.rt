@@ -1,7 +1,7 @@
 //! The codes of faults of a system file.
 
 ghost use Rattle.std.specs.Prelude.{◌≡◌, [], ◌∷◌};
-ghost use Rattle.qp_chart_names.specs.Codes.{codes};
+ghost use Rattle.qp_chart_names.specs.Codes.{chart_codes};
 
 /// The bytes are no TOML.
 pub const NOT_TOML: u8 = 1;
@@ -37,5 +37,5 @@ pub const NO_POOL: u8 = 15;
 /// The constants of this module are the codes of `specs/Codes`.
 pub fn constants_are_the_table()
     ensures { NOT_TOML ∷ WRONG_KIND ∷ MISSING ∷ UNKNOWN ∷ RANGE ∷ DOUBLE ∷ NO_SUCH_NAME ∷ BAD_TEXT ∷ WRONG_ARITY ∷ PARENT_LOOP ∷ TOO_DEEP ∷
-        INIT_NOT_BELOW ∷ TWO_ROWS ∷ TOO_MANY ∷ NO_POOL ∷ [] ≡ codes }
+        INIT_NOT_BELOW ∷ TWO_ROWS ∷ TOO_MANY ∷ NO_POOL ∷ [] ≡ chart_codes }
 {}

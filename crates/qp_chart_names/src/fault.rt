@@ -1,6 +1,6 @@
 //! Why a chart is refused.
 ghost use Rattle.std.specs.Prelude.{◌+◌, ◌≤◌, ◌++◌, length};
-ghost use Rattle.qp_chart_names.specs.Faults.{fault, IsFault};
+ghost use Rattle.qp_chart_names.specs.Faults.{fault, IsChartFault};
 
 use crate::place::{Part, Path};
 use std::alloc::{AllocError, AllocFailed};
@@ -18,7 +18,7 @@ impl ChartFault {
     /// The fault of this code at the place that `rest` leads to from the place `at`.
     pub fn below(code: u8, at: &[Part], rest: &[Part]) -> ChartFault
         requires { length at.now + length rest.now ≤ 8 }
-        ensures { IsFault (fault code (at.now ++ rest.now)) result }
+        ensures { IsChartFault (fault code (at.now ++ rest.now)) result }
     {
         ChartFault::At {
             code,

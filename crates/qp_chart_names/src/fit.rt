@@ -3,7 +3,7 @@ ghost use Rattle.std.specs.Prelude.{◌≡◌, ◌&&◌, not, is_some};
 ghost use Rattle.std.specs.List.{list_all};
 ghost use Rattle.qp_chart_text.specs.Terms.{term_of, event_of_tree, order_of, command_of, address_of};
 ghost use Rattle.qp_chart_names.specs.Known.{reaches};
-ghost use Rattle.qp_chart_names.specs.ActionFaults.{term_known, receiver_known, event_known, order_known, command_known, is_between, is_byte, is_static, reserve_allowed, order_in_range, command_in_range, params_of, params_in, event_fits, order_fits, command_fits};
+ghost use Rattle.qp_chart_names.specs.ActionFaults.{term_known, receiver_known, is_event_known, order_known, command_known, is_between, is_byte, is_static_name, reserve_allowed, order_in_range, command_in_range, params_of_name, params_in, event_fits, order_fits, command_fits};
 
 use crate::scope::Scope;
 use qp_chart_text::{Action, EventTree, Expr, Name, PlainAction, Receiver};
@@ -67,7 +67,7 @@ fn receiver_is_known(scope: &Scope<'_>, to: &Receiver) -> bool
 
 #[tactic(auto, unfolding(qp_chart_text::specs::Terms::event_of_tree))]
 fn event_is_known(scope: &Scope<'_>, event: &EventTree) -> bool
-    ensures { result ≡ event_known scope.now.names.now scope.now.chart.now (event_of_tree event.now) }
+    ensures { result ≡ is_event_known scope.now.names.now scope.now.chart.now (event_of_tree event.now) }
 {
     scope.signal_number(&event.signal).is_some() && all_known(scope, event.pars.as_slice())
 }
@@ -141,13 +141,13 @@ fn fits_byte(number: Option<i64>) -> bool
 
 /// Whether a reserve is in range, and stands on no static signal.
 fn may_reserve(scope: &Scope<'_>, signal: &Name, reserve: Option<i64>) -> bool
-    ensures { result ≡ (is_byte reserve && not (is_some reserve && is_static scope.now.names.now signal.now)) }
+    ensures { result ≡ (is_byte reserve && not (is_some reserve && is_static_name scope.now.names.now signal.now)) }
 {
     fits_byte(reserve) && !(reserve.is_some() && signal_is_static(scope, signal))
 }
 
 pub fn signal_is_static(scope: &Scope<'_>, signal: &Name) -> bool
-    ensures { result ≡ is_static scope.now.names.now signal.now }
+    ensures { result ≡ is_static_name scope.now.names.now signal.now }
 {
     match scope.signal_named(signal) {
         Some(signal) => signal.fixed,
@@ -209,7 +209,7 @@ fn event_is_fit(scope: &Scope<'_>, params: u8, event: &EventTree) -> bool
 
 /// How many parameters the signal has.
 pub fn count_of(scope: &Scope<'_>, signal: &Name) -> u8
-    ensures { result ≡ params_of scope.now.names.now signal.now }
+    ensures { result ≡ params_of_name scope.now.names.now signal.now }
 {
     match scope.signal_named(signal) {
         Some(signal) => signal.params,

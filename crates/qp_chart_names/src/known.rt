@@ -3,7 +3,7 @@
 ghost use Rattle.std.specs.Prelude.{◌≡◌};
 ghost use Rattle.std.specs.List.{list_any};
 ghost use Rattle.qp_chart_text.specs.Terms.{term_of};
-ghost use Rattle.qp_chart_names.specs.Known.{is_named, words, knows};
+ghost use Rattle.qp_chart_names.specs.Known.{has_name, words, knows};
 
 use qp_chart_text::{Expr, Name};
 
@@ -25,7 +25,7 @@ pub fn is_known(e: &Expr, vars: &[Name]) -> bool
 
 // Whether a name is among the variables.
 fn has_name(name: &Name, vars: &[Name]) -> bool
-    ensures { result ≡ list_any (is_named name.now) vars.now }
+    ensures { result ≡ list_any (has_name name.now) vars.now }
 {
     vars.iter().any(|v| v == name)
 }

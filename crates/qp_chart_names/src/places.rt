@@ -12,10 +12,10 @@ pub struct NumbersByName {
 
 impl NumbersByName {
     ghost use Rattle.std.specs.Prelude.{◌≡◌, ℕ, List, None, IfOk};
-    ghost use Rattle.qp_chart_names.specs.Numbering.{number_at, AddsName};
+    ghost use Rattle.qp_chart_names.specs.Numbering.{number_of_name, AddsName};
 
     pub fn new(alloc: Global) -> NumbersByName
-        ensures { (name : List ℕ) → number_at result name ≡ None }
+        ensures { (name : List ℕ) → number_of_name result name ≡ None }
     {
         NumbersByName {
             map: BTreeMap::new(alloc),
@@ -23,7 +23,7 @@ impl NumbersByName {
     }
 
     pub fn get(&self, name: &Name) -> Option<u16>
-        ensures { result ≡ number_at self.now name.now }
+        ensures { result ≡ number_of_name self.now name.now }
     {
         self.map.get(name).copied()
     }

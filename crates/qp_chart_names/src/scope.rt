@@ -4,9 +4,9 @@ ghost use Rattle.std.specs.Option.{option_copied};
 ghost use Rattle.qp_chart_names.specs.declared.place.Part.TheVariants.{Key};
 ghost use Rattle.qp_chart_names.specs.TablesOf.{IsTablesOf};
 ghost use Rattle.qp_chart_text.specs.Terms.{term_of};
-ghost use Rattle.qp_chart_names.specs.RawNumbers.{signal_number, signal_named, object_named, state_number, timer_number, variable_number};
+ghost use Rattle.qp_chart_names.specs.RawNumbers.{signal_number, signal_named, object_named, state_number, timer_by_name, variable_number};
 ghost use Rattle.qp_chart_names.specs.ActionFaults.{term_known};
-ghost use Rattle.qp_chart_names.specs.Faults.{IsFault};
+ghost use Rattle.qp_chart_names.specs.Faults.{IsChartFault};
 ghost use Rattle.qp_chart_names.specs.NameFaults.{undeclared, undeclared_key};
 ghost use Rattle.qp_chart_names.specs.RawNumbers.{Refers};
 
@@ -59,7 +59,7 @@ impl Scope<'_> {
 
     /// The number of the time event of this name.
     pub fn timer_number(&self, name: &Name) -> Option<u8>
-        ensures { result ≡ timer_number self.now.chart.now name.now }
+        ensures { result ≡ timer_by_name self.now.chart.now name.now }
     {
         match self.tables.timers.get(name) {
             Some(number) => Some(number as u8),
@@ -98,7 +98,7 @@ impl Scope<'_> {
     pub fn signal(&self, name: &Name, at: &[Part], key: u8) -> Result<u16, ChartFault>
         requires { length at.now < 8 }
         ensures ok { IfOk result (λ n. signal_number self.now.names.now name.now ≡ Some n) }
-        ensures fault { IfErr result (IsFault (undeclared (signal_number self.now.names.now name.now) (at.now ++ Key key ∷ []))) }
+        ensures fault { IfErr result (IsChartFault (undeclared (signal_number self.now.names.now name.now) (at.now ++ Key key ∷ []))) }
     {
         match self.signal_number(name) {
             Some(number) => Ok(number),
@@ -110,7 +110,7 @@ impl Scope<'_> {
     pub fn state(&self, name: &Name, at: &[Part], key: u8) -> Result<u8, ChartFault>
         requires { length at.now < 8 }
         ensures ok { IfOk result (λ n. state_number self.now.chart.now name.now ≡ Some n) }
-        ensures fault { IfErr result (IsFault (undeclared (state_number self.now.chart.now name.now) (at.now ++ Key key ∷ []))) }
+        ensures fault { IfErr result (IsChartFault (undeclared (state_number self.now.chart.now name.now) (at.now ++ Key key ∷ []))) }
     {
         match self.state_number(name) {
             Some(number) => Ok(number),
@@ -127,7 +127,7 @@ impl Scope<'_> {
     ) -> Result<Option<u8>, ChartFault>
         requires { length at.now < 8 }
         ensures ok { IfOk result (λ to. Refers (state_number self.now.chart.now) name.now to) }
-        ensures fault { IfErr result (IsFault (undeclared_key (state_number self.now.chart.now) name.now (at.now ++ Key key ∷ []))) }
+        ensures fault { IfErr result (IsChartFault (undeclared_key (state_number self.now.chart.now) name.now (at.now ++ Key key ∷ []))) }
     {
         match name {
             Some(name) => Ok(Some(self.state(name, at, key)?)),

@@ -2,7 +2,7 @@
 ghost use Rattle.std.specs.Prelude.{◌≡◌, ◌+◌, ◌^◌, ◌<◌, ◌≤◌, length, map, None, IfOk, IfErr};
 ghost use Rattle.qp_chart_names.specs.Numbering.{IsNumbering};
 ghost use Rattle.qp_chart_names.specs.Known.{words};
-ghost use Rattle.qp_chart_names.specs.Faults.{IsFault};
+ghost use Rattle.qp_chart_names.specs.Faults.{IsChartFault};
 ghost use Rattle.qp_chart_names.specs.NameFaults.{double_fault, doubles_fault};
 ghost use Rattle.qp_chart_names.specs.Readable.{IsReadable};
 ghost use Rattle.qp_chart_names.specs.TablesOf.{IsTablesOf};
@@ -31,7 +31,7 @@ pub struct Tables {
 pub fn tables_of(alloc: Global, raw: &RawChart, names: &Names) -> Result<Tables, ChartFault>
     requires { IsReadable names.now raw.now }
     ensures ok { IfOk result (λ tables. (doubles_fault raw.now ≡ None) × IsTablesOf names.now raw.now tables) }
-    ensures fault { IfErr result (IsFault (doubles_fault raw.now)) }
+    ensures fault { IfErr result (IsChartFault (doubles_fault raw.now)) }
 {
     let (timers, states) = distinct_names(alloc, raw)?;
     let signals = names_of_signals(alloc, names.signals.as_slice())?;
@@ -56,7 +56,7 @@ fn distinct_names(
     requires states { length raw.now.state ≤ 64 }
     ensures ok { IfOk result (λ tables. (doubles_fault raw.now ≡ None) × IsNumbering 1 (timer_names raw.now.timer) tables.0 × IsNumbering 1
         (state_names raw.now.state) tables.1) }
-    ensures fault { IfErr result (IsFault (doubles_fault raw.now)) }
+    ensures fault { IfErr result (IsChartFault (doubles_fault raw.now)) }
 {
     let timers = names_of_timers(alloc, raw.timer.as_slice())?;
     let timers = distinct(alloc, key::TIMER, timers.as_slice())?;
@@ -81,7 +81,7 @@ fn numbered(alloc: Global, first: u16, names: &[Name]) -> Result<NumbersByName, 
 fn distinct(alloc: Global, list: u8, names: &[Name]) -> Result<NumbersByName, ChartFault>
     requires { length names.now < 2 ^ 15 }
     ensures ok { IfOk result (λ places. (double_fault list (words names.now) ≡ None) × IsNumbering 1 (words names.now) places) }
-    ensures fault { IfErr result (IsFault (double_fault list (words names.now))) }
+    ensures fault { IfErr result (IsChartFault (double_fault list (words names.now))) }
 {
     let mut places = NumbersByName::new(alloc);
     for (i, name) in names.iter().enumerate() {

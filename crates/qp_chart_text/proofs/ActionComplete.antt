@@ -6,7 +6,7 @@ use Rattle.qp_chart_text.specs.Terms.{Word, Term, Address, ToMe, ToObject, Event
 use Rattle.qp_chart_text.specs.Tokens.{Tok}
 use Rattle.qp_chart_text.specs.Tokens as tok
 use Rattle.qp_chart_text.specs.Reading.{operator_at, expr_at, after_close}
-use Rattle.qp_chart_text.specs.ReadingActions.{after_open, after_comma, after_assign, after_semicolon, after_open_list, after_close_list, name_at, number_at, receiver_at, margin_at, reserve_at, plain_command_at, more_terms, terms_at, pars_at, event_tree_at, set_at, say_at, post_at, lifo_at, forward_at, publish_at, arm_at, rearm_at, behind, plain_at, more_orders, orders_at, locked_at, command_at}
+use Rattle.qp_chart_text.specs.ReadingActions.{after_open, after_comma, after_assign, after_semicolon, after_open_list, after_close_list, name_at, number_token_at, receiver_at, margin_at, reserve_at, plain_command_at, more_terms, terms_at, pars_at, event_tree_at, assignment_at, say_at, post_at, lifo_at, forward_at, publish_at, arm_at, rearm_at, behind_keyword, plain_at, more_orders, orders_at, locked_at, command_at}
 use Rattle.qp_chart_text.specs.ActionGrammar.{IsTerm, IsTerms, one_term, one_more_term, IsPars, IsEventText, receiver_token, option_tokens, IsOrder, IsOrders, one_order, one_more_order, IsCommand}
 use Rattle.qp_chart_text.proofs.GrammarLemmas.{Stops, expr_complete}
 use Rattle.qp_chart_text.proofs.ActionLemmas.{terms_stop, orders_stop}
@@ -93,12 +93,12 @@ receiver_complete ToMe rest = refl
 receiver_complete (ToObject name) rest = refl
 
 margin_complete : (m : Option ℤ) (rest : List Tok) → margin_at rest ≡ Some (None, rest) → margin_at (option_tokens key.Margin m ++ rest) ≡ Some (m, rest)
-unfolding margin_at number_at
+unfolding margin_at number_token_at
 margin_complete None rest h = h
 margin_complete (Some n) rest h = refl
 
 reserve_complete : (m : Option ℤ) (rest : List Tok) → reserve_at rest ≡ Some (None, rest) → reserve_at (option_tokens key.Reserve m ++ rest) ≡ Some (m, rest)
-unfolding reserve_at number_at
+unfolding reserve_at number_token_at
 reserve_complete None rest h = h
 reserve_complete (Some n) rest h = refl
 
@@ -163,7 +163,7 @@ unfolding rearm_at name_at after_open after_close
 rearm_complete timer us x rest ix = rw (closes us x rest ix) refl
 
 plain_complete : (ts : List Tok) (o : Order) (rest : List Tok) → IsOrder ts o → Ends rest → Reads ts o rest
-unfolding IsOrder plain_at behind set_at say_at after_assign name_at Reads
+unfolding IsOrder plain_at behind_keyword assignment_at say_at after_assign name_at Reads
 plain_complete ts (Set name x) rest (us, e, is) ends = reads ts _ (Set name x) rest e (rw (expr_complete us x rest is ends.stops) refl)
 plain_complete ts (Say x) rest (us, e, is) ends = reads ts _ (Say x) rest e (rw (expr_complete us x rest is ends.stops) refl)
 plain_complete ts (Post to event m r) rest (us, e, is) ends = reads ts _ (Post to event m r) rest e (post_complete us to event m r rest is ends)
@@ -214,13 +214,13 @@ from_plain : (ts : List Tok) (o : Order) (rest : List Tok) → plain_at ts ≡ S
 from_plain ts o rest h = rw h refl
 
 as_plain : (ts : List Tok) (o : Order) (rest : List Tok) → plain_at ts ≡ Some (o, rest) → command_at ts ≡ Some (Plain o, rest)
-unfolding command_at plain_at behind
+unfolding command_at plain_at behind_keyword
 as_plain [] o rest h = cc
 as_plain (tok.Key key.Locked ∷ ts) o rest h = cc
 as_plain (t ∷ ts) o rest h = from_plain (t ∷ ts) o rest h
 
 as_locked : (ceiling : ℤ) (us : List Tok) (orders : List Order) → IsOrders us orders → command_at (tok.Key key.Locked ∷ tok.Num ceiling ∷ tok.OpenList ∷ (us ++ tok.CloseList ∷ [])) ≡ Some (Locked ceiling orders, [])
-unfolding command_at locked_at number_at after_open_list after_close_list after_semicolon
+unfolding command_at locked_at number_token_at after_open_list after_close_list after_semicolon
 as_locked ceiling us orders is = rw (orders_complete us orders (tok.CloseList ∷ []) is (ends_close_list []) refl) refl
 
 -- what is in the grammar is read

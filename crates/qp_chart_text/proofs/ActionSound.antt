@@ -6,7 +6,7 @@ use Rattle.qp_chart_text.specs.Terms.{Word, Term, Address, ToMe, ToObject, Event
 use Rattle.qp_chart_text.specs.Tokens.{Tok}
 use Rattle.qp_chart_text.specs.Tokens as tok
 use Rattle.qp_chart_text.specs.Reading.{expr_at, after_close}
-use Rattle.qp_chart_text.specs.ReadingActions.{after_open, after_comma, after_assign, after_semicolon, after_open_list, after_close_list, name_at, number_at, receiver_at, margin_at, reserve_at, number_behind, plain_command_at, next_term, more_terms, terms_at, pars_in, pars_at, event_tree_at, set_at, say_at, post_at, lifo_at, forward_at, publish_at, arm_at, rearm_at, named_at, behind, plain_at, next_order, more_orders, orders_at, locked_at, command_at}
+use Rattle.qp_chart_text.specs.ReadingActions.{after_open, after_comma, after_assign, after_semicolon, after_open_list, after_close_list, name_at, number_token_at, receiver_at, margin_at, reserve_at, number_behind, plain_command_at, next_term, more_terms, terms_at, pars_in, pars_at, event_tree_at, assignment_at, say_at, post_at, lifo_at, forward_at, publish_at, arm_at, rearm_at, named_at, behind_keyword, plain_at, next_order, more_orders, orders_at, locked_at, command_at}
 use Rattle.qp_chart_text.specs.ActionGrammar.{IsTerms, one_term, one_more_term, IsPars, IsEventText, receiver_token, option_tokens, IsOrder, IsOrders, one_order, one_more_order, IsCommand}
 use Rattle.qp_chart_text.proofs.GrammarLemmas.{expr_sound, bind_ok, some_pair, close_sound}
 
@@ -61,8 +61,8 @@ name_sound [] name rest h = cc
 name_sound (tok.Name w ∷ ts) name rest h = let p = some_pair w name ts rest h in same_front (tok.Name w) (tok.Name name) ts rest (ap (λ w. tok.Name w) p.0) p.1
 name_sound (t ∷ ts) name rest h = cc
 
-number_sound : (ts : List Tok) (n : ℤ) (rest : List Tok) → number_at ts ≡ Some (n, rest) → ts ≡ tok.Num n ∷ rest
-unfolding number_at
+number_sound : (ts : List Tok) (n : ℤ) (rest : List Tok) → number_token_at ts ≡ Some (n, rest) → ts ≡ tok.Num n ∷ rest
+unfolding number_token_at
 number_sound [] n rest h = cc
 number_sound (tok.Num m ∷ ts) n rest h = let p = some_pair m n ts rest h in same_front (tok.Num m) (tok.Num n) ts rest (ap (λ m. tok.Num m) p.0) p.1
 number_sound (t ∷ ts) n rest h = cc
@@ -79,7 +79,7 @@ nothing word m ts rest e f = subst (λ m. ts ≡ option_tokens word m ++ rest) e
 
 something : (word : Keyword) (ts : List Tok) (m : Option ℤ) (rest : List Tok) → number_behind ts ≡ Some (m, rest) → (tok.Key word ∷ ts) ≡ option_tokens word m ++ rest
 something word ts m rest h =
-    let i = bind_ok (number_at ts) _ _ h in
+    let i = bind_ok (number_token_at ts) _ _ h in
     let p = some_pair (Some i.0.0) m i.0.1 rest i.2 in
     subst (λ m. (tok.Key word ∷ ts) ≡ option_tokens word m ++ rest) p.0 (ap (λ t. tok.Key word ∷ t) (number_sound ts i.0.0 i.0.1 i.1 ∙ ap (λ r. tok.Num i.0.0 ∷ r) p.1))
 
@@ -158,8 +158,8 @@ Orders t ts o rest = Cut (λ f. IsOrder f o) (t ∷ ts) rest
 made : (t : Tok) (ts front end rest : List Tok) (o o' : Order) → ts ≡ front ++ end → end ≡ rest → o ≡ o' → IsOrder (t ∷ front) o → Orders t ts o' rest
 made t ts front end rest o o' e f g is = record { front = t ∷ front; splits = ap (λ r. t ∷ r) (e ∙ ap (λ r. front ++ r) f); is = subst (λ o. IsOrder (t ∷ front) o) g is }
 
-set_sound : (name : Word) (ts : List Tok) (o : Order) (rest : List Tok) → set_at name ts ≡ Some (o, rest) → Orders (tok.Name name) ts o rest
-unfolding set_at IsOrder
+set_sound : (name : Word) (ts : List Tok) (o : Order) (rest : List Tok) → assignment_at name ts ≡ Some (o, rest) → Orders (tok.Name name) ts o rest
+unfolding assignment_at IsOrder
 set_sound name ts o rest h =
     let a = bind_ok (after_assign ts) _ _ h in
     let i = bind_ok (expr_at a.0) _ _ a.2 in
@@ -269,8 +269,8 @@ alone_sound : (word : Keyword) (o' : Order) (ts : List Tok) (o : Order) (rest : 
 alone_sound word o' ts o rest is h =
     let p = some_pair o' o ts rest h in made (tok.Key word) ts [] ts rest o' o refl p.1 p.0 is
 
-behind_sound : (word : Keyword) (ts : List Tok) (o : Order) (rest : List Tok) → behind word ts ≡ Some (o, rest) → Orders (tok.Key word) ts o rest
-unfolding behind IsOrder
+behind_sound : (word : Keyword) (ts : List Tok) (o : Order) (rest : List Tok) → behind_keyword word ts ≡ Some (o, rest) → Orders (tok.Key word) ts o rest
+unfolding behind_keyword IsOrder
 behind_sound key.Locked ts o rest h = cc
 behind_sound key.Say ts o rest h = say_sound ts o rest h
 behind_sound key.Post ts o rest h = post_sound ts o rest h
@@ -323,7 +323,7 @@ orders_sound ts xs rest h =
 locked_sound : (ts : List Tok) (c : Command) (rest : List Tok) → locked_at ts ≡ Some (c, rest) → Cut (λ f. IsCommand f c) (tok.Key key.Locked ∷ ts) rest
 unfolding locked_at IsCommand
 locked_sound ts c rest h =
-    let i = bind_ok (number_at ts) _ _ h in
+    let i = bind_ok (number_token_at ts) _ _ h in
     let a = bind_ok (after_open_list i.0.1) _ _ i.2 in
     let x = bind_ok (orders_at a.0) _ _ a.2 in
     let z = bind_ok (after_close_list x.0.1) _ _ x.2 in

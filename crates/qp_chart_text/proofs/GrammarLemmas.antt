@@ -17,7 +17,7 @@ use Rattle.qp_chart_text.specs.Terms.{Term, term_of}
 use Rattle.qp_chart_text.specs.Terms as term
 use Rattle.qp_chart_text.specs.Tokens.{Tok, ◌>>=◌, tokens_of_text}
 use Rattle.qp_chart_text.specs.Tokens as tok
-use Rattle.qp_chart_text.specs.Reading.{Gives, Reader, rank_of, operator_at, step, more_at, level_at, atom_at, prefix_at, after_close, nested_at, operand_at, unary_at, expr_at, all_of, term_of_text}
+use Rattle.qp_chart_text.specs.Reading.{Gives, Reader, rank_of, operator_at, step, more_at, level_at, atom_at, prefix_at, after_close, nested_at, term_operand_at, unary_at, expr_at, all_of, term_of_text}
 use Rattle.qp_chart_text.specs.Grammar.{IsExpr, number, variable, ok, me, parameter, sign, parens, tighter, joined, compared, sign_token, IsExprText}
 use Rattle.qp_chart_text.proofs.ParserLemmas.{ends}
 
@@ -296,7 +296,7 @@ unary_sound : (d : ℕ) → Sound zero d (unary_at d)
 unfolding unary_at
 unary_sound zero = atom_sound zero
 unary_sound (suc d) = λ ts x rest h.
-    elim (prefix_at ts) as (λ o. prefix_at ts ≡ o → operand_at (unary_at d) ts o ≡ Some (x, rest) → Takes zero (suc d) ts x rest) [
+    elim (prefix_at ts) as (λ o. prefix_at ts ≡ o → term_operand_at (unary_at d) ts o ≡ Some (x, rest) → Takes zero (suc d) ts x rest) [
       | None ↦ λ e g. atom_sound (suc d) ts x rest g
       | Some p ↦ λ e g. nested_sound d ts p.1 p.0 x rest (unary_sound d) (prefix_sound ts p.0 p.1 e) g
     ] refl h

@@ -11,7 +11,7 @@ use Rattle.qp_chart_text.specs.Terms as term
 use Rattle.qp_chart_text.specs.declared.tokens.Token.{Token}
 use Rattle.qp_chart_text.specs.Tokens.{Tok, tok_of, ◌>>=◌}
 use Rattle.qp_chart_text.specs.Tokens as tok
-use Rattle.qp_chart_text.specs.Reading.{Fails, Gives, Part, Reader, rank_of, operator_at, step, more_at, level_at, atom_at, prefix_at, operand_at, unary_at, all_of}
+use Rattle.qp_chart_text.specs.Reading.{Fails, Gives, Part, Reader, rank_of, operator_at, step, more_at, level_at, atom_at, prefix_at, term_operand_at, unary_at, all_of}
 
 -- nothing is found where a part isn't
 pub fails_on : {A B : Type 0} (e : ExprFault) (part : Option A) (k : A → Option B) → Fails e part → Fails e (part >>= k)
@@ -90,7 +90,7 @@ unfolding unary_at
 unary_zero zero ts h = refl
 unary_zero (suc d) ts h = absurd (omega arith)
 
-pub unary_up : (d : ℕ) (ts : List Tok) → 0 < d → unary_at d ts ≡ operand_at (unary_at (d - 1)) ts (prefix_at ts)
+pub unary_up : (d : ℕ) (ts : List Tok) → 0 < d → unary_at d ts ≡ term_operand_at (unary_at (d - 1)) ts (prefix_at ts)
 unfolding unary_at
 unary_up zero ts h = absurd (omega arith)
 unary_up (suc d) ts h = let e : suc d - 1 ≡ d = omega arith in rw e refl

@@ -5,7 +5,7 @@ use Rattle.std.proofs.lemmas.List.Sums.{prefix_len_passes}
 use Rattle.std.proofs.lemmas.List.{get_or-take, get_or_past, length-take}
 use Rattle.std.specs.List.{prefix_len}
 use Rattle.std.specs.Str.{IsAscii}
-use Rattle.qp_chart_text.specs.Tokens.{value_after, number_within, is_letter, is_word_byte, Tok, Lexed, lexed_before, or_else, ◌>>=◌, word_token, number_token, mark_of, mark_at, token_at, is_space, tokens_of}
+use Rattle.qp_chart_text.specs.Tokens.{value_after, number_within, is_letter, is_word_byte, Tok, Lexed, lexed_before, or_else, ◌>>=◌, word_token, number_token, mark_token, read_mark, token_at, is_space, tokens_of}
 use Rattle.std.specs.Char.{is_ascii_digit}
 use Rattle.std.proofs.Common.{length-drop, append_assoc, append-nil}
 
@@ -46,13 +46,13 @@ drops n b bs = omega (arith, length-drop (suc n) (b ∷ bs))
 passes_one : (p : ℕ → Bool) (b : ℕ) (bs : List ℕ) → p b ≡ true → length (drop (prefix_len p (b ∷ bs)) (b ∷ bs)) < length (b ∷ bs)
 passes_one p b bs h = rw h (omega (arith, length-drop (1 + prefix_len p bs) (b ∷ bs)))
 
-mark_shorter : (bs : List ℕ) (found : Lexed) → mark_at bs ≡ Some found → length found.1 < length bs
-unfolding mark_at mark_of
+mark_shorter : (bs : List ℕ) (found : Lexed) → read_mark bs ≡ Some found → length found.1 < length bs
+unfolding read_mark mark_token
 mark_shorter [] found h = cc
 mark_shorter (b ∷ bs) found h =
-    elim (one_of (lexed_before (drop 2 (b ∷ bs)) (mark_of (take 2 (b ∷ bs)))) (lexed_before (drop 1 (b ∷ bs)) (mark_of (take 1 (b ∷ bs)))) found h) [
-      | inl two ↦ rw (before_rest (drop 2 (b ∷ bs)) (mark_of (take 2 (b ∷ bs))) found two) (drops 1 b bs)
-      | inr one ↦ rw (before_rest (drop 1 (b ∷ bs)) (mark_of (take 1 (b ∷ bs))) found one) (drops 0 b bs)
+    elim (one_of (lexed_before (drop 2 (b ∷ bs)) (mark_token (take 2 (b ∷ bs)))) (lexed_before (drop 1 (b ∷ bs)) (mark_token (take 1 (b ∷ bs)))) found h) [
+      | inl two ↦ rw (before_rest (drop 2 (b ∷ bs)) (mark_token (take 2 (b ∷ bs))) found two) (drops 1 b bs)
+      | inr one ↦ rw (before_rest (drop 1 (b ∷ bs)) (mark_token (take 1 (b ∷ bs))) found one) (drops 0 b bs)
     ]
 
 letter_token : ℕ → List ℕ → Option Lexed
@@ -61,19 +61,19 @@ letter_token b bs = let n = prefix_len is_word_byte (b ∷ bs) in lexed_before (
 digit_token : ℕ → List ℕ → Option Lexed
 digit_token b bs = let n = prefix_len is_ascii_digit (b ∷ bs) in lexed_before (drop n (b ∷ bs)) (number_token (take n (b ∷ bs)))
 
-digit_shorter : (b : ℕ) (bs : List ℕ) (found : Lexed) (is : Bool) → is_ascii_digit b ≡ is → cond is (digit_token b bs) (mark_at (b ∷ bs)) ≡ Some found → length found.1 < length (b ∷ bs)
+digit_shorter : (b : ℕ) (bs : List ℕ) (found : Lexed) (is : Bool) → is_ascii_digit b ≡ is → cond is (digit_token b bs) (read_mark (b ∷ bs)) ≡ Some found → length found.1 < length (b ∷ bs)
 unfolding digit_token
 digit_shorter b bs found true d h = rw (before_rest (drop (prefix_len is_ascii_digit (b ∷ bs)) (b ∷ bs)) (number_token (take (prefix_len is_ascii_digit (b ∷ bs)) (b ∷ bs))) found h) (passes_one is_ascii_digit b bs d)
 digit_shorter b bs found false d h = mark_shorter (b ∷ bs) found h
 
-letter_shorter : (b : ℕ) (bs : List ℕ) (found : Lexed) (is : Bool) → is_letter b ≡ is → cond is (letter_token b bs) (cond (is_ascii_digit b) (digit_token b bs) (mark_at (b ∷ bs))) ≡ Some found → length found.1 < length (b ∷ bs)
+letter_shorter : (b : ℕ) (bs : List ℕ) (found : Lexed) (is : Bool) → is_letter b ≡ is → cond is (letter_token b bs) (cond (is_ascii_digit b) (digit_token b bs) (read_mark (b ∷ bs))) ≡ Some found → length found.1 < length (b ∷ bs)
 unfolding letter_token
 letter_shorter b bs found true l h = rw (before_rest (drop (prefix_len is_word_byte (b ∷ bs)) (b ∷ bs)) (word_token (take (prefix_len is_word_byte (b ∷ bs)) (b ∷ bs))) found h) (passes_one is_word_byte b bs (or_left (is_letter b) (is_ascii_digit b) l))
 letter_shorter b bs found false l h = digit_shorter b bs found (is_ascii_digit b) refl h
 
 -- a token takes at least one byte
 pub token_shorter : (bs : List ℕ) (found : Lexed) → token_at bs ≡ Some found → length found.1 < length bs
-unfolding token_at mark_at mark_of letter_token digit_token
+unfolding token_at read_mark mark_token letter_token digit_token
 token_shorter [] found h = cc
 token_shorter (b ∷ bs) found h = letter_shorter b bs found (is_letter b) refl h
 

@@ -97,15 +97,15 @@ abbrev pub nested_at : Reader → Prefix → Reader
 nested_at reader (prefix.Sign op) ts = reader ts >>= (λ x. Some (term.One op x.0, x.1))
 nested_at reader prefix.Parens ts = level_at reader 5 ts >>= (λ x. after_close x.1 >>= (λ rest. Some (x.0, rest)))
 
-abbrev pub operand_at : Reader → List Tok → Part Prefix → Part Term
-operand_at reader ts None = atom_at ts
-operand_at reader ts (Some (p, us)) = nested_at reader p us
+abbrev pub term_operand_at : Reader → List Tok → Part Prefix → Part Term
+term_operand_at reader ts None = atom_at ts
+term_operand_at reader ts (Some (p, us)) = nested_at reader p us
 
 -- an operand in which signs and parentheses nest at most so deep
 unfoldable pub unary_at : ℕ → Reader
 unfolding level_at atom_at prefix_at after_close
 unary_at zero ts = atom_at ts
-unary_at (suc d) ts = operand_at (unary_at d) ts (prefix_at ts)
+unary_at (suc d) ts = term_operand_at (unary_at d) ts (prefix_at ts)
 
 -- an expression that begins the tokens
 unfoldable pub expr_at : Reader

@@ -36,9 +36,9 @@ unfoldable pub name_at : List Tok → Part Word
 name_at (tok.Name name ∷ ts) = Some (name, ts)
 name_at ts = None
 
-unfoldable pub number_at : List Tok → Part ℤ
-number_at (tok.Num n ∷ ts) = Some (n, ts)
-number_at ts = None
+unfoldable pub number_token_at : List Tok → Part ℤ
+number_token_at (tok.Num n ∷ ts) = Some (n, ts)
+number_token_at ts = None
 
 unfoldable pub receiver_at : List Tok → Part Address
 receiver_at (tok.Name name ∷ ts) = Some (ToObject name, ts)
@@ -46,16 +46,16 @@ receiver_at (tok.Me ∷ ts) = Some (ToMe, ts)
 receiver_at ts = None
 
 abbrev pub number_behind : List Tok → Part (Option ℤ)
-number_behind ts = number_at ts >>= (λ n. Some (Some n.0, n.1))
+number_behind ts = number_token_at ts >>= (λ n. Some (Some n.0, n.1))
 
 -- a number behind its word, or none
 unfoldable pub margin_at : List Tok → Part (Option ℤ)
-unfolding number_at
+unfolding number_token_at
 margin_at (tok.Key key.Margin ∷ ts) = number_behind ts
 margin_at ts = Some (None, ts)
 
 unfoldable pub reserve_at : List Tok → Part (Option ℤ)
-unfolding number_at
+unfolding number_token_at
 reserve_at (tok.Key key.Reserve ∷ ts) = number_behind ts
 reserve_at ts = Some (None, ts)
 
@@ -87,9 +87,9 @@ unfoldable pub event_tree_at : List Tok → Part EventTerm
 unfolding name_at pars_at
 event_tree_at ts = name_at ts >>= (λ name. pars_at name.1 >>= (λ pars. Some (record { signal = name.0; pars = pars.0 }, pars.1)))
 
-unfoldable pub set_at : Word → List Tok → Part Order
+unfoldable pub assignment_at : Word → List Tok → Part Order
 unfolding expr_at after_assign
-set_at name ts = after_assign ts >>= (λ us. expr_at us >>= (λ x. Some (Set name x.0, x.1)))
+assignment_at name ts = after_assign ts >>= (λ us. expr_at us >>= (λ x. Some (Set name x.0, x.1)))
 
 unfoldable pub say_at : List Tok → Part Order
 unfolding expr_at
@@ -128,30 +128,30 @@ abbrev pub named_at : (Word → Order) → List Tok → Part Order
 named_at make ts = name_at ts >>= (λ name. Some (make name.0, name.1))
 
 -- what stands behind the word that begins a plain action
-unfoldable pub behind : Keyword → List Tok → Part Order
+unfoldable pub behind_keyword : Keyword → List Tok → Part Order
 unfolding say_at post_at lifo_at forward_at publish_at arm_at rearm_at name_at
-behind key.Locked ts = None
-behind key.Say ts = say_at ts
-behind key.Post ts = post_at ts
-behind key.Lifo ts = lifo_at ts
-behind key.Forward ts = forward_at ts
-behind key.Publish ts = publish_at ts
-behind key.Defer ts = Some (Defer, ts)
-behind key.Recall ts = Some (Recall, ts)
-behind key.Flush ts = Some (Flush, ts)
-behind key.Subscribe ts = named_at Subscribe ts
-behind key.Unsubscribe ts = named_at Unsubscribe ts
-behind key.Arm ts = arm_at ts
-behind key.Rearm ts = rearm_at ts
-behind key.Disarm ts = named_at Disarm ts
-behind key.Margin ts = None
-behind key.Reserve ts = None
+behind_keyword key.Locked ts = None
+behind_keyword key.Say ts = say_at ts
+behind_keyword key.Post ts = post_at ts
+behind_keyword key.Lifo ts = lifo_at ts
+behind_keyword key.Forward ts = forward_at ts
+behind_keyword key.Publish ts = publish_at ts
+behind_keyword key.Defer ts = Some (Defer, ts)
+behind_keyword key.Recall ts = Some (Recall, ts)
+behind_keyword key.Flush ts = Some (Flush, ts)
+behind_keyword key.Subscribe ts = named_at Subscribe ts
+behind_keyword key.Unsubscribe ts = named_at Unsubscribe ts
+behind_keyword key.Arm ts = arm_at ts
+behind_keyword key.Rearm ts = rearm_at ts
+behind_keyword key.Disarm ts = named_at Disarm ts
+behind_keyword key.Margin ts = None
+behind_keyword key.Reserve ts = None
 
 -- a plain action
 unfoldable pub plain_at : List Tok → Part Order
-unfolding behind set_at
-plain_at (tok.Name name ∷ ts) = set_at name ts
-plain_at (tok.Key word ∷ ts) = behind word ts
+unfolding behind_keyword assignment_at
+plain_at (tok.Name name ∷ ts) = assignment_at name ts
+plain_at (tok.Key word ∷ ts) = behind_keyword word ts
 plain_at ts = None
 
 -- behind these, at most n more plain actions, each behind a semicolon
@@ -171,9 +171,9 @@ orders_at ts = plain_at ts >>= (λ x. more_orders (length x.1) (x.0 ∷ []) x.1)
 
 -- a ceiling and the actions under it
 unfoldable pub locked_at : List Tok → Part Command
-unfolding number_at after_open_list orders_at after_close_list
+unfolding number_token_at after_open_list orders_at after_close_list
 locked_at ts =
-    number_at ts >>= (λ ceiling. after_open_list ceiling.1 >>= (λ us. orders_at us >>= (λ orders. after_close_list orders.1 >>= (λ rest.
+    number_token_at ts >>= (λ ceiling. after_open_list ceiling.1 >>= (λ us. orders_at us >>= (λ orders. after_close_list orders.1 >>= (λ rest.
     Some (Locked ceiling.0 orders.0, rest)))))
 
 abbrev pub plain_command_at : List Tok → Part Command

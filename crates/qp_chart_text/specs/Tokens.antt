@@ -53,43 +53,43 @@ None >>= f = None
 (Some x) >>= f = f x
 
 -- the two words are spelled alike
-abbrev pub is_word : Word → Word → Bool
-is_word a b = pointwise nat_eq a b
+abbrev pub is_spelled : Word → Word → Bool
+is_spelled a b = pointwise nat_eq a b
 
 -- the reserved word that is spelled so
 unfoldable pub keyword_of : Word → Option Keyword
 keyword_of w =
-    if is_word w (codes "locked") then Some key.Locked
-    else (if is_word w (codes "say") then Some key.Say
-    else (if is_word w (codes "post") then Some key.Post
-    else (if is_word w (codes "lifo") then Some key.Lifo
-    else (if is_word w (codes "forward") then Some key.Forward
-    else (if is_word w (codes "publish") then Some key.Publish
-    else (if is_word w (codes "defer") then Some key.Defer
-    else (if is_word w (codes "recall") then Some key.Recall
-    else (if is_word w (codes "flush") then Some key.Flush
-    else (if is_word w (codes "subscribe") then Some key.Subscribe
-    else (if is_word w (codes "unsubscribe") then Some key.Unsubscribe
-    else (if is_word w (codes "arm") then Some key.Arm
-    else (if is_word w (codes "rearm") then Some key.Rearm
-    else (if is_word w (codes "disarm") then Some key.Disarm
-    else (if is_word w (codes "margin") then Some key.Margin
-    else (if is_word w (codes "reserve") then Some key.Reserve
+    if is_spelled w (codes "locked") then Some key.Locked
+    else (if is_spelled w (codes "say") then Some key.Say
+    else (if is_spelled w (codes "post") then Some key.Post
+    else (if is_spelled w (codes "lifo") then Some key.Lifo
+    else (if is_spelled w (codes "forward") then Some key.Forward
+    else (if is_spelled w (codes "publish") then Some key.Publish
+    else (if is_spelled w (codes "defer") then Some key.Defer
+    else (if is_spelled w (codes "recall") then Some key.Recall
+    else (if is_spelled w (codes "flush") then Some key.Flush
+    else (if is_spelled w (codes "subscribe") then Some key.Subscribe
+    else (if is_spelled w (codes "unsubscribe") then Some key.Unsubscribe
+    else (if is_spelled w (codes "arm") then Some key.Arm
+    else (if is_spelled w (codes "rearm") then Some key.Rearm
+    else (if is_spelled w (codes "disarm") then Some key.Disarm
+    else (if is_spelled w (codes "margin") then Some key.Margin
+    else (if is_spelled w (codes "reserve") then Some key.Reserve
     else None)))))))))))))))
 
 -- the words that stand for a value: `ok`, `me`, `p1` to `p8`
 unfoldable pub atom_of : Word → Option Tok
 atom_of w =
-    if is_word w (codes "ok") then Some Ok
-    else (if is_word w (codes "me") then Some Me
-    else (if is_word w (codes "p1") then Some (Par 1)
-    else (if is_word w (codes "p2") then Some (Par 2)
-    else (if is_word w (codes "p3") then Some (Par 3)
-    else (if is_word w (codes "p4") then Some (Par 4)
-    else (if is_word w (codes "p5") then Some (Par 5)
-    else (if is_word w (codes "p6") then Some (Par 6)
-    else (if is_word w (codes "p7") then Some (Par 7)
-    else (if is_word w (codes "p8") then Some (Par 8)
+    if is_spelled w (codes "ok") then Some Ok
+    else (if is_spelled w (codes "me") then Some Me
+    else (if is_spelled w (codes "p1") then Some (Par 1)
+    else (if is_spelled w (codes "p2") then Some (Par 2)
+    else (if is_spelled w (codes "p3") then Some (Par 3)
+    else (if is_spelled w (codes "p4") then Some (Par 4)
+    else (if is_spelled w (codes "p5") then Some (Par 5)
+    else (if is_spelled w (codes "p6") then Some (Par 6)
+    else (if is_spelled w (codes "p7") then Some (Par 7)
+    else (if is_spelled w (codes "p8") then Some (Par 8)
     else None)))))))))
 
 -- any other word of at most 24 bytes is a name
@@ -123,29 +123,29 @@ number_token digits =
     else number_within (value_after 0 digits) >>= (λ n. Some (Num n))
 
 -- operators and marks
-unfoldable pub mark_of : List ℕ → Option Tok
-mark_of w =
-    if is_word w (codes "||") then Some (Op binary.Or)
-    else (if is_word w (codes "&&") then Some (Op binary.And)
-    else (if is_word w (codes "==") then Some (Op binary.Equal)
-    else (if is_word w (codes "!=") then Some (Op binary.Differs)
-    else (if is_word w (codes "<=") then Some (Op binary.AtMost)
-    else (if is_word w (codes ">=") then Some (Op binary.AtLeast)
-    else (if is_word w (codes "<") then Some (Op binary.Below)
-    else (if is_word w (codes ">") then Some (Op binary.Above)
-    else (if is_word w (codes "+") then Some (Op binary.Plus)
-    else (if is_word w (codes "-") then Some (Op binary.Minus)
-    else (if is_word w (codes "*") then Some (Op binary.Times)
-    else (if is_word w (codes "/") then Some (Op binary.Over)
-    else (if is_word w (codes "%") then Some (Op binary.Rest)
-    else (if is_word w (codes "!") then Some Bang
-    else (if is_word w (codes "=") then Some Assign
-    else (if is_word w (codes "(") then Some Open
-    else (if is_word w (codes ")") then Some Close
-    else (if is_word w (codes "[") then Some OpenList
-    else (if is_word w (codes "]") then Some CloseList
-    else (if is_word w (codes ",") then Some Comma
-    else (if is_word w (codes ";") then Some Semicolon
+unfoldable pub mark_token : List ℕ → Option Tok
+mark_token w =
+    if is_spelled w (codes "||") then Some (Op binary.Or)
+    else (if is_spelled w (codes "&&") then Some (Op binary.And)
+    else (if is_spelled w (codes "==") then Some (Op binary.Equal)
+    else (if is_spelled w (codes "!=") then Some (Op binary.Differs)
+    else (if is_spelled w (codes "<=") then Some (Op binary.AtMost)
+    else (if is_spelled w (codes ">=") then Some (Op binary.AtLeast)
+    else (if is_spelled w (codes "<") then Some (Op binary.Below)
+    else (if is_spelled w (codes ">") then Some (Op binary.Above)
+    else (if is_spelled w (codes "+") then Some (Op binary.Plus)
+    else (if is_spelled w (codes "-") then Some (Op binary.Minus)
+    else (if is_spelled w (codes "*") then Some (Op binary.Times)
+    else (if is_spelled w (codes "/") then Some (Op binary.Over)
+    else (if is_spelled w (codes "%") then Some (Op binary.Rest)
+    else (if is_spelled w (codes "!") then Some Bang
+    else (if is_spelled w (codes "=") then Some Assign
+    else (if is_spelled w (codes "(") then Some Open
+    else (if is_spelled w (codes ")") then Some Close
+    else (if is_spelled w (codes "[") then Some OpenList
+    else (if is_spelled w (codes "]") then Some CloseList
+    else (if is_spelled w (codes ",") then Some Comma
+    else (if is_spelled w (codes ";") then Some Semicolon
     else None))))))))))))))))))))
 
 abbrev pub is_letter : ℕ → Bool
@@ -162,17 +162,17 @@ abbrev pub lexed_before : List ℕ → Option Tok → Option Lexed
 lexed_before rest token = token >>= (λ t. Some (t, rest))
 
 -- of the marks the longer is read
-unfoldable pub mark_at : List ℕ → Option Lexed
-unfolding mark_of
-mark_at bytes = or_else (lexed_before (drop 2 bytes) (mark_of (take 2 bytes))) (lexed_before (drop 1 bytes) (mark_of (take 1 bytes)))
+unfoldable pub read_mark : List ℕ → Option Lexed
+unfolding mark_token
+read_mark bytes = or_else (lexed_before (drop 2 bytes) (mark_token (take 2 bytes))) (lexed_before (drop 1 bytes) (mark_token (take 1 bytes)))
 
 -- the first token: words and numbers are read as long as possible
 unfoldable pub token_at : List ℕ → Option Lexed
-unfolding word_token number_token mark_at
+unfolding word_token number_token read_mark
 token_at bytes =
     if is_letter (slice_index bytes 0) then (let n = prefix_len is_word_byte bytes in lexed_before (drop n bytes) (word_token (take n bytes)))
     else (if is_ascii_digit (slice_index bytes 0) then (let n = prefix_len is_ascii_digit bytes in lexed_before (drop n bytes) (number_token (take n bytes)))
-    else mark_at bytes)
+    else read_mark bytes)
 
 abbrev pub is_space : ℕ → Bool
 is_space b = b == 32

@@ -4,7 +4,7 @@ ghost use Rattle.std.specs.Prelude.{◌≡◌, ℕ, ◌<◌, ◌≤◌, length, 
 ghost use Rattle.qp_chart_text.specs.Terms.{Command, term_of, event_of_tree, order_of, command_of};
 ghost use Rattle.qp_chart_text.specs.Tokens.{tok_of};
 ghost use Rattle.qp_chart_text.specs.Reading.{Gives};
-ghost use Rattle.qp_chart_text.specs.ReadingActions.{more_terms, terms_at, pars_at, event_tree_at, set_at, say_at, post_at, lifo_at, forward_at, publish_at, arm_at, rearm_at, behind, plain_at, more_orders, orders_at, locked_at, command_at, command_of_text};
+ghost use Rattle.qp_chart_text.specs.ReadingActions.{more_terms, terms_at, pars_at, event_tree_at, assignment_at, say_at, post_at, lifo_at, forward_at, publish_at, arm_at, rearm_at, behind_keyword, plain_at, more_orders, orders_at, locked_at, command_at, command_of_text};
 ghost use Rattle.qp_chart_text.specs.ActionGrammar.{IsActionText};
 
 use crate::names::Name;
@@ -123,13 +123,13 @@ fn plain_at(alloc: Global, tokens: &[Token]) -> Result<(PlainAction, &[Token]), 
 }
 
 // What stands behind the word that begins a plain action.
-#[tactic(auto, unfolding(crate::specs::ReadingActions::behind, crate::specs::Terms::order_of))]
+#[tactic(auto, unfolding(crate::specs::ReadingActions::behind_keyword, crate::specs::Terms::order_of))]
 fn behind(
     alloc: Global,
     word: Keyword,
     tokens: &[Token],
 ) -> Result<(PlainAction, &[Token]), ExprFault>
-    ensures exact { Gives (λ x. (order_of x.0, map tok_of x.1.now)) result (behind word (map tok_of tokens.now)) }
+    ensures exact { Gives (λ x. (order_of x.0, map tok_of x.1.now)) result (behind_keyword word (map tok_of tokens.now)) }
     ensures no_longer { IfOk result (λ x. length x.1.now ≤ length tokens.now) }
 {
     match word {
@@ -160,9 +160,9 @@ fn behind(
 }
 
 // What stands behind the name of a variable.
-#[tactic(auto, unfolding(crate::specs::ReadingActions::set_at, crate::specs::Terms::order_of))]
+#[tactic(auto, unfolding(crate::specs::ReadingActions::assignment_at, crate::specs::Terms::order_of))]
 fn set_at(alloc: Global, var: Name, tokens: &[Token]) -> Result<(PlainAction, &[Token]), ExprFault>
-    ensures exact { Gives (λ x. (order_of x.0, map tok_of x.1.now)) result (set_at var (map tok_of tokens.now)) }
+    ensures exact { Gives (λ x. (order_of x.0, map tok_of x.1.now)) result (assignment_at var (map tok_of tokens.now)) }
     ensures no_longer { IfOk result (λ x. length x.1.now ≤ length tokens.now) }
 {
     let Some(rest) = after_assign(tokens) else {

@@ -5,7 +5,7 @@ ghost use Rattle.std.specs.Option.{option_map};
 ghost use Rattle.qp_chart_text.specs.Terms.{address_of};
 ghost use Rattle.qp_chart_text.specs.Tokens.{tok_of};
 ghost use Rattle.qp_chart_text.specs.Reading.{Gives, after_close};
-ghost use Rattle.qp_chart_text.specs.ReadingActions.{after_open, after_comma, after_assign, after_semicolon, after_open_list, after_close_list, name_at, number_at, receiver_at, margin_at, reserve_at};
+ghost use Rattle.qp_chart_text.specs.ReadingActions.{after_open, after_comma, after_assign, after_semicolon, after_open_list, after_close_list, name_at, number_token_at, receiver_at, margin_at, reserve_at};
 
 use crate::names::Name;
 use crate::tokens::{Keyword, Token};
@@ -108,9 +108,9 @@ pub fn name_at(tokens: &[Token]) -> Option<(Name, &[Token])>
 }
 
 /// A number.
-#[tactic(auto, unfolding(crate::specs::ReadingActions::number_at))]
+#[tactic(auto, unfolding(crate::specs::ReadingActions::number_token_at))]
 pub fn number_at(tokens: &[Token]) -> Result<(i64, &[Token]), ExprFault>
-    ensures exact { Gives (λ x. (x.0, map tok_of x.1.now)) result (number_at (map tok_of tokens.now)) }
+    ensures exact { Gives (λ x. (x.0, map tok_of x.1.now)) result (number_token_at (map tok_of tokens.now)) }
     ensures no_longer { IfOk result (λ x. length x.1.now ≤ length tokens.now) }
 {
     match tokens {

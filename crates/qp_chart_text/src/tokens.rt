@@ -5,7 +5,7 @@ ghost use Rattle.std.specs.List.{prefix_len};
 ghost use Rattle.std.specs.Char.{is_ascii_digit};
 ghost use Rattle.std.specs.Option.{option_map};
 ghost use Rattle.std.specs.Str.{IsAscii};
-ghost use Rattle.qp_chart_text.specs.Tokens.{tok_of, keyword_of, atom_of, word_token, number_token, number_within, value_after, name_token, mark_of, mark_at, token_at, tokens_of_text, is_letter, is_word_byte, is_space};
+ghost use Rattle.qp_chart_text.specs.Tokens.{tok_of, keyword_of, atom_of, word_token, number_token, number_within, value_after, name_token, mark_token, read_mark, token_at, tokens_of_text, is_letter, is_word_byte, is_space};
 ghost use Rattle.qp_chart_text.specs.Reading.{Gives};
 
 use crate::names::Name;
@@ -251,9 +251,9 @@ fn with_digit(value: u64, digit: u8) -> Option<u64>
 }
 
 // An operator or a mark; of two the longer.
-#[tactic(auto, unfolding(crate::specs::Tokens::mark_at))]
+#[tactic(auto, unfolding(crate::specs::Tokens::read_mark))]
 fn first_mark(bytes: &[u8]) -> Option<(Token, &[u8])>
-    ensures { option_map (λ x. (tok_of x.0, x.1.now)) result ≡ mark_at bytes.now }
+    ensures { option_map (λ x. (tok_of x.0, x.1.now)) result ≡ read_mark bytes.now }
 {
     let (two, after) = cut(bytes, 2);
     if let Some(token) = mark(two) {
@@ -272,9 +272,9 @@ fn cut(bytes: &[u8], n: usize) -> (&[u8], &[u8])
 }
 
 // The operator or mark that is spelled so.
-#[tactic(auto, unfolding(crate::specs::Tokens::mark_of))]
+#[tactic(auto, unfolding(crate::specs::Tokens::mark_token))]
 fn mark(text: &[u8]) -> Option<Token>
-    ensures { option_map tok_of result ≡ mark_of text.now }
+    ensures { option_map tok_of result ≡ mark_token text.now }
 {
     match text {
         b"||" => Some(Token::Op(Binary::Or)),

@@ -19,8 +19,8 @@ use Rattle.qp_model.specs.Points.{is_look}
 use Rattle.qp_check.specs.declared.pieces_rows.ObjectPieces.{ObjectPieces}
 
 -- the pieces of an object
-abbrev pub pieces_of : ObjectPieces → ℕ → List Piece
-pieces_of x p = unwrap_or (get nat_cmp x.rows p) []
+abbrev pub pieces_of_object : ObjectPieces → ℕ → List Piece
+pieces_of_object x p = unwrap_or (get nat_cmp x.rows p) []
 
 -- a record as a piece of its own object, but for a turn without a step
 unfoldable pub own_piece : Facts → ℕ → Item → Option Piece
@@ -47,4 +47,4 @@ listed (Some p) = p ∷ []
 
 -- each object's are those that the definition of points reads off lane 0
 abbrev pub ArePiecesOf : System → Journal → ObjectPieces → Type 0
-ArePiecesOf sys j x = (o : ℕ) → pieces_of x o ≡ lane_pieces (facts_of sys j) (setting_of sys j) o (lane_items (lane_at j 0))
+ArePiecesOf sys j x = (o : ℕ) → pieces_of_object x o ≡ lane_pieces (facts_of sys j) (setting_of sys j) o (lane_items (lane_at j 0))

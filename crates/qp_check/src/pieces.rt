@@ -10,8 +10,8 @@ ghost use Rattle.qp_model.specs.Points.{is_look, lane_pieces, pieces_at};
 ghost use Rattle.qp_model.specs.Record.{item_of};
 ghost use Rattle.qp_check_calls.specs.AsPiece.{as_piece};
 ghost use Rattle.qp_check_kernel.specs.LaneState.{as_reading, as_setting};
-ghost use Rattle.qp_check_knowledge.specs.Knowledge.{IsKnown, facts_in};
-ghost use Rattle.qp_check.specs.ObjectPieces.{own_piece, pieces_of, point_of, stepping};
+ghost use Rattle.qp_check_knowledge.specs.Knowledge.{HasItsTables, known_facts};
+ghost use Rattle.qp_check.specs.ObjectPieces.{own_piece, pieces_of_object, point_of, stepping};
 
 use crate::pieces_rows::ObjectPieces;
 use qp_check_calls::{Piece, Told};
@@ -30,8 +30,8 @@ fn own_piece(
     ceiling: u64,
     r: &Rec,
 ) -> Result<Option<Piece>, AllocError>
-    requires { IsKnown knowledge.now }
-    ensures { IfOk result (λ x. option_map as_piece x ≡ own_piece (facts_in knowledge.now) ceiling (item_of r.now)) }
+    requires { HasItsTables knowledge.now }
+    ensures { IfOk result (λ x. option_map as_piece x ≡ own_piece (known_facts knowledge.now) ceiling (item_of r.now)) }
 {
     let body = r.body();
     if is_turn_mark(&body) {
@@ -78,8 +78,8 @@ fn put_record(
     reading: &LaneReading,
     r: &Rec,
 ) -> Result<(), AllocError>
-    requires { IsKnown knowledge.now }
-    ensures { OnOk result ((o : ℕ) → pieces_of pieces.new o ≡ pieces_of pieces.old o ++ pieces_at (facts_in knowledge.now) o
+    requires { HasItsTables knowledge.now }
+    ensures { OnOk result ((o : ℕ) → pieces_of_object pieces.new o ≡ pieces_of_object pieces.old o ++ pieces_at (known_facts knowledge.now) o
         (as_reading reading.now) (item_of r.now)) }
 {
     let own = own_piece(alloc, knowledge, reading.ceiling, r)?;
@@ -95,10 +95,10 @@ fn pieces_in(
     rules: &Rules,
     lane: &[Rec],
 ) -> Result<ObjectPieces, AllocError>
-    requires known { IsKnown knowledge.now }
+    requires known { HasItsTables knowledge.now }
     requires same { rules.now.sys.now ≡ knowledge.now.sys.now }
     requires stands { IsSome (lane_read (as_setting rules.now) (lane_items lane.now)) }
-    ensures { IfOk result (λ x. (o : ℕ) → pieces_of x o ≡ lane_pieces (facts_in knowledge.now) (as_setting rules.now) o
+    ensures { IfOk result (λ x. (o : ℕ) → pieces_of_object x o ≡ lane_pieces (known_facts knowledge.now) (as_setting rules.now) o
         (lane_items lane.now)) }
 {
     let mut pieces = ObjectPieces::none(alloc);
@@ -112,10 +112,10 @@ fn pieces_in(
 
 /// The pieces of each object in lane 0, where it reads as a kernel lane. It takes one pass over the lane.
 pub fn lane_pieces(alloc: Global, knowledge: &Knowledge) -> Result<ObjectPieces, AllocError>
-    requires known { IsKnown knowledge.now }
+    requires known { HasItsTables knowledge.now }
     requires stands { IsSome (lane_read (setting_of knowledge.now.sys.now knowledge.now.journal.now)
         (lane_items (lane_of knowledge.now.journal.now 0))) }
-    ensures { IfOk result (λ x. (o : ℕ) → pieces_of x o ≡ lane_pieces (facts_in knowledge.now)
+    ensures { IfOk result (λ x. (o : ℕ) → pieces_of_object x o ≡ lane_pieces (known_facts knowledge.now)
         (setting_of knowledge.now.sys.now knowledge.now.journal.now) o (lane_items (lane_of knowledge.now.journal.now 0))) }
 {
     let rules = Rules::of(alloc, knowledge.sys, knowledge.journal)?;

@@ -4,7 +4,7 @@ ghost use Rattle.std.specs.Prelude.{◌≡◌, ◌==◌, ◌++◌, ◌∷◌, []
 ghost use Rattle.std.specs.Option.{option_map};
 ghost use Rattle.qp_model.specs.Pieces.{Point};
 ghost use Rattle.qp_check_calls.specs.AsPiece.{as_piece};
-ghost use Rattle.qp_check.specs.ObjectPieces.{is_it, listed, pieces_of};
+ghost use Rattle.qp_check.specs.ObjectPieces.{is_it, listed, pieces_of_object};
 
 use qp_check_calls::Piece;
 use std::alloc::{AllocError, Global};
@@ -52,7 +52,7 @@ pub struct ObjectPieces {
 
 impl ObjectPieces {
     pub(crate) fn none(alloc: Global) -> Self
-        ensures { (q : ℕ) → pieces_of result q ≡ [] }
+        ensures { (q : ℕ) → pieces_of_object result q ≡ [] }
     {
         ObjectPieces {
             rows: BTreeMap::new(alloc),
@@ -60,7 +60,7 @@ impl ObjectPieces {
     }
 
     fn put(&mut self, alloc: Global, p: u8, piece: Piece) -> Result<(), AllocError>
-        ensures { OnOk result ((q : ℕ) → pieces_of self.new q ≡ (if q == p then pieces_of self.old q ++ as_piece piece ∷ [] else pieces_of
+        ensures { OnOk result ((q : ℕ) → pieces_of_object self.new q ≡ (if q == p then pieces_of_object self.old q ++ as_piece piece ∷ [] else pieces_of_object
             self.old q)) }
     {
         match self.rows.get_mut(&p) {
@@ -81,7 +81,7 @@ impl ObjectPieces {
         p: u8,
         piece: Option<Piece>,
     ) -> Result<(), AllocError>
-        ensures { OnOk result ((q : ℕ) → pieces_of self.new q ≡ pieces_of self.old q ++
+        ensures { OnOk result ((q : ℕ) → pieces_of_object self.new q ≡ pieces_of_object self.old q ++
             (if q == p then listed (option_map as_piece piece) else [])) }
     {
         match piece {
@@ -92,7 +92,7 @@ impl ObjectPieces {
 
     /// Puts a point at the end of the pieces of an object, if there is one.
     pub(crate) fn put_point(&mut self, alloc: Global, p: Option<u8>) -> Result<(), AllocError>
-        ensures { OnOk result ((q : ℕ) → pieces_of self.new q ≡ pieces_of self.old q ++ (if is_it q p then Point ∷ [] else [])) }
+        ensures { OnOk result ((q : ℕ) → pieces_of_object self.new q ≡ pieces_of_object self.old q ++ (if is_it q p then Point ∷ [] else [])) }
     {
         match p {
             Some(p) => self.put(alloc, p, Piece::Point),
@@ -102,7 +102,7 @@ impl ObjectPieces {
 
     /// The pieces of an object.
     pub fn of(&self, p: u8) -> &[Piece]
-        ensures { map as_piece result.now ≡ pieces_of self.now p }
+        ensures { map as_piece result.now ≡ pieces_of_object self.now p }
     {
         match self.rows.get(&p) {
             Some(row) => &row.items,

@@ -17,7 +17,7 @@ use Rattle.qp_check_calls.specs.declared.pieces.Piece.TheVariants as piece
 use Rattle.qp_check_calls.specs.AsPiece.{as_piece}
 use Rattle.qp_model.specs.Course.{Cut, FollowsTo, actor, chart_at, first_config}
 use Rattle.qp_check_calls.specs.Decides.{Decides}
-use Rattle.qp_check_course.specs.Machine.{State, start_state, run}
+use Rattle.qp_check_course.specs.Machine.{State, start_state, state_after}
 use Rattle.qp_check_course.specs.Passing.{run_told, is_none_told, told_well, asserts_where_cut, told_to}
 use Rattle.qp_check_course.specs.Decided.{ends_well, reads_to}
 use Rattle.qp_check_course.specs.Followable.{with_eight, IsFollowable}
@@ -73,14 +73,14 @@ module _ (sys : System) (d : ObjectDef) (f : IsFollowable sys d) (chart : Chart)
 
   -- the same of pieces
   pub pieces-answer : (own : System) (a : Actor) → own ≡ sys → a ≡ actor d chart → (cut : Cut) (ps : List Piece) → asserts_where_cut cut (records_in ps) ≡ true → (b : Bool)
-      → b ≡ ends_well cut (ends_at_point ps) (run own a (start_state a (first_config d)) ps) → Decides b (FollowsTo sys d cut ps)
+      → b ≡ ends_well cut (ends_at_point ps) (state_after own a (start_state a (first_config d)) ps) → Decides b (FollowsTo sys d cut ps)
   unfolding reads_to
   pieces-answer own a same is cut ps quiet b ends = subst (λ x. Decides x (FollowsTo sys d cut ps)) (sym whole) (pieces-decided sys d f cut ps)
     where
       whole : b ≡ reads_to sys d f.its cut ps
       whole =
-          ends ∙ ap (λ x. ends_well cut (ends_at_point ps) (run x a (start_state a (first_config d)) ps)) same
-          ∙ ap (λ x. ends_well cut (ends_at_point ps) (run sys x (start_state x (first_config d)) ps)) (is ∙ ap (actor d) (sym its))
+          ends ∙ ap (λ x. ends_well cut (ends_at_point ps) (state_after x a (start_state a (first_config d)) ps)) same
+          ∙ ap (λ x. ends_well cut (ends_at_point ps) (state_after sys x (start_state x (first_config d)) ps)) (is ∙ ap (actor d) (sym its))
           ∙ sym (and-is _ (asserts_where_cut cut (records_in ps)) quiet)
 
 -- pieces without an assertion

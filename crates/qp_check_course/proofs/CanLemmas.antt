@@ -20,7 +20,7 @@ use Rattle.qp_check_calls.proofs.BeginLemmas.{reads-begin}
 use Rattle.qp_check_calls.proofs.OpenLemmas.{open-begin, open-next}
 use Rattle.qp_check_calls.proofs.ReadLemmas.{reads-next}
 use Rattle.qp_check_course.specs.Goes.{Way, Starting, Stepping, moment_of}
-use Rattle.qp_check_course.specs.Machine.{State, settle, step_state, start_state, next}
+use Rattle.qp_check_course.specs.Machine.{State, tasks_state, step_state, start_state, state_next}
 use Rattle.qp_check_course.specs.Followable.{with_eight}
 use Rattle.qp_check_course.specs.Ready.{IsWithin, CanGoOn}
 use Rattle.qp_check_course.specs.FewLeft.{AreFew}
@@ -49,15 +49,15 @@ few-first chart plan few is = subst (λ (p : Plan). AreFew Starting p.tasks) (sy
 
 -- a step in which they are left
 pub step-begins : (a : Actor) (ev : Event) (e : Entry) (c : Config) (names : Names) (plan : Plan) → names ≡ names_of a c ev → plan ≡ step_plan a.chart c.leaf names ev.sig
-    → settle a (Stepping ev e) plan.leaf plan.tasks c ≡ step_state a e ev c
+    → tasks_state a (Stepping ev e) plan.leaf plan.tasks c ≡ step_state a e ev c
 unfolding step_state
 step-begins a ev e c names plan called is =
-    ap (λ (p : Plan). settle a (Stepping ev e) p.leaf p.tasks c) (is ∙ ap (λ (x : Names). step_plan a.chart c.leaf x ev.sig) called)
+    ap (λ (p : Plan). tasks_state a (Stepping ev e) p.leaf p.tasks c) (is ∙ ap (λ (x : Names). step_plan a.chart c.leaf x ev.sig) called)
 
 -- and a start
-pub start-begins : (a : Actor) (first : Config) (plan : Plan) → plan ≡ start_plan a.chart → settle a Starting plan.leaf plan.tasks first ≡ start_state a first
+pub start-begins : (a : Actor) (first : Config) (plan : Plan) → plan ≡ start_plan a.chart → tasks_state a Starting plan.leaf plan.tasks first ≡ start_state a first
 unfolding start_state
-start-begins a first plan is = ap (λ (p : Plan). settle a Starting p.leaf p.tasks first) is
+start-begins a first plan is = ap (λ (p : Plan). tasks_state a Starting p.leaf p.tasks first) is
 
 module _ (sys : System) (a : Actor) (can : IsAble sys a) where
   -- a record of a call leaves it so that it can go on
@@ -72,7 +72,7 @@ module _ (sys : System) (a : Actor) (can : IsAble sys a) where
   }
 
   -- and so it runs on
-  pub run-next : (s : State) (p : Piece) (later : State) → next sys a s p ≡ Some later → CanRun sys a s → CanRun sys a later
+  pub run-next : (s : State) (p : Piece) (later : State) → state_next sys a s p ≡ Some later → CanRun sys a s → CanRun sys a later
   run-next s p later is run = record {
     ready = ready-next reads-begin reads-next open-begin open-next sys a can.able s p later is run.ready;
     few = few-next sys a can.few s p later is run.few;

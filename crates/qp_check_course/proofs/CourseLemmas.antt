@@ -8,11 +8,11 @@ use Rattle.qp_model.specs.Pieces.{Piece, Tell, records_in, tell}
 use Rattle.qp_model.specs.Acts.{Config, Actor, Does, names_of}
 use Rattle.qp_model.specs.Step.{Closes, StepBehind, Step, at_leaf, moment}
 use Rattle.qp_model.specs.Course.{Starts, Steps, Course, at_start}
-use Rattle.qp_check_course.specs.Goes.{Aim, anywhere, Meets, Starting, Stepping, TasksGo, StepsGo, Closing, LeftGoes, StepGoes, CourseGoes}
+use Rattle.qp_check_course.specs.Goes.{Aim, anywhere, MeetsAim, Starting, Stepping, TasksGo, StepsGo, Closing, LeftGoes, StepGoes, CourseGoes}
 use Rattle.qp_check_course.proofs.GoesLemmas.{does-go, go-does, Outcome}
 
 -- where nothing is asked, each end does
-pub any-end : (end : Option Config) → Meets anywhere end
+pub any-end : (end : Option Config) → MeetsAim anywhere end
 any-end None = tt
 any-end (Some c) = tt
 
@@ -25,7 +25,7 @@ module _ (sys : System) (a : Actor) (aim : Aim) where
 
   -- a step over an entry, and the steps after it
   pub step-goes : (ev : Event) (e : Entry) (c : Config) (one rest : List Piece) (mid : Option Config) (es : List Entry) (end : Option Config)
-      → StepBehind sys a ev e c one mid → Steps sys a es mid rest end → Meets aim end
+      → StepBehind sys a ev e c one mid → Steps sys a es mid rest end → MeetsAim aim end
       → StepGoes sys a aim ev e c (one ++ rest)
   unfolding StepBehind StepGoes LeftGoes Closes Closing StepsGo
   step-goes ev e c one rest mid es end h k met = by h.0 h.1 h.2 h.3 h.4 h.5 (subst (λ o. Steps sys a es o rest end) h.6 k)
@@ -45,14 +45,14 @@ module _ (sys : System) (a : Actor) (aim : Aim) where
   -- and back
   pub goes-step : (ev : Event) (e : Entry) (c : Config) (ps : List Piece)
       → StepGoes sys a aim ev e c ps
-      → (one rest : List Piece) × (mid : Option Config) × (es : List Entry) × (end : Option Config) × (ps ≡ one ++ rest) × StepBehind sys a ev e c one mid × Steps sys a es mid rest end × Meets aim end
+      → (one rest : List Piece) × (mid : Option Config) × (es : List Entry) × (end : Option Config) × (ps ≡ one ++ rest) × StepBehind sys a ev e c one mid × Steps sys a es mid rest end × MeetsAim aim end
   unfolding StepBehind StepGoes LeftGoes Closes Closing StepsGo Steps
   goes-step ev e c ps h = let split = go-does sys a (Stepping ev e) (Closing sys a aim (Stepping ev e) (step_plan a.chart c.leaf (names_of a c ev) ev.sig).leaf) (step_plan a.chart c.leaf (names_of a c ev) ev.sig).tasks c ps h in by split.0 split.1 split.2 split.3 split.4 split.5
     where
       by : (body : List Piece) (mid : Option Config) (after : List Piece)
           → Does sys a (moment ev e) (step_plan a.chart c.leaf (names_of a c ev) ev.sig).tasks c body mid
           → Outcome (Closing sys a aim (Stepping ev e) (step_plan a.chart c.leaf (names_of a c ev) ev.sig).leaf) mid after → ps ≡ body ++ after
-          → (one rest : List Piece) × (mid : Option Config) × (es : List Entry) × (end : Option Config) × (ps ≡ one ++ rest) × StepBehind sys a ev e c one mid × Steps sys a es mid rest end × Meets aim end
+          → (one rest : List Piece) × (mid : Option Config) × (es : List Entry) × (end : Option Config) × (ps ≡ one ++ rest) × StepBehind sys a ev e c one mid × Steps sys a es mid rest end × MeetsAim aim end
       by body None after does nothing is =
           (body, [], None, [], None, is ∙ ap (λ zs. body ++ zs) nothing, (body, [], None, does, refl, sym (append-nil body), refl), (refl, refl), tt)
       by body (Some d) after does (rel, rest, drops, split, (es, end, steps, met)) is =
@@ -74,7 +74,7 @@ module _ (sys : System) (a : Actor) (aim : Aim) where
   unfolding StepsGo Steps Step
   goes-took c f l m e ev ps h = by (goes-step ev e c ps h)
     where
-      by : ((one rest : List Piece) × (mid : Option Config) × (es : List Entry) × (end : Option Config) × (ps ≡ one ++ rest) × StepBehind sys a ev e c one mid × Steps sys a es mid rest end × Meets aim end)
+      by : ((one rest : List Piece) × (mid : Option Config) × (es : List Entry) × (end : Option Config) × (ps ≡ one ++ rest) × StepBehind sys a ev e c one mid × Steps sys a es mid rest end × MeetsAim aim end)
           → StepsGo sys a aim c (Tell (told_took f l m e ev) ∷ ps)
       by (one, rest, mid, es, end, is, step, steps, met) =
           (e ∷ es, end, (Tell (told_took f l m e ev) ∷ one, rest, mid, ap (λ zs. Tell (told_took f l m e ev) ∷ zs) is, (f, l, m, ev, one, refl, step), steps), met)
@@ -85,7 +85,7 @@ module _ (sys : System) (a : Actor) (aim : Aim) where
   steps-none c met = ([], Some c, (refl, refl), met)
 
   -- a whole course
-  pub course-goes : (first : Config) (es : List Entry) (ps : List Piece) (end : Option Config) → Course sys a first es ps end → Meets aim end → CourseGoes sys a aim first ps
+  pub course-goes : (first : Config) (es : List Entry) (ps : List Piece) (end : Option Config) → Course sys a first es ps end → MeetsAim aim end → CourseGoes sys a aim first ps
   unfolding Course Starts CourseGoes LeftGoes Closing StepsGo
   course-goes first es ps end (start, rest, mid, split, (all, inner, does, is, leaves), steps) met =
       by inner does (subst (λ o. Steps sys a es o rest end) leaves steps)
@@ -100,13 +100,13 @@ module _ (sys : System) (a : Actor) (aim : Aim) where
           (does-go sys a Starting (Closing sys a aim Starting (start_plan a.chart).leaf) (start_plan a.chart).tasks first all (Some d) rest does (es, end, steps, met))
 
   -- and back
-  pub goes-course : (first : Config) (ps : List Piece) → CourseGoes sys a aim first ps → (es : List Entry) × (end : Option Config) × Course sys a first es ps end × Meets aim end
+  pub goes-course : (first : Config) (ps : List Piece) → CourseGoes sys a aim first ps → (es : List Entry) × (end : Option Config) × Course sys a first es ps end × MeetsAim aim end
   unfolding Course Starts CourseGoes LeftGoes Closing StepsGo Steps
   goes-course first ps h = let split = go-does sys a Starting (Closing sys a aim Starting (start_plan a.chart).leaf) (start_plan a.chart).tasks first ps h in by split.0 split.1 split.2 split.3 split.4 split.5
     where
       by : (body : List Piece) (mid : Option Config) (after : List Piece) → Does sys a at_start (start_plan a.chart).tasks first body mid
           → Outcome (Closing sys a aim Starting (start_plan a.chart).leaf) mid after → ps ≡ tell (records_in body) ++ after
-          → (es : List Entry) × (end : Option Config) × Course sys a first es ps end × Meets aim end
+          → (es : List Entry) × (end : Option Config) × Course sys a first es ps end × MeetsAim aim end
       by body None after does nothing is =
           ([], None, (tell (records_in body), after, None, is, (body, None, does, refl, refl), (nothing, refl)), tt)
       by body (Some d) after does (es, end, steps, met) is =

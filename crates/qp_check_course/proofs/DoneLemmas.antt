@@ -23,11 +23,11 @@ use Rattle.qp_model.specs.OutputSummary.{is_took, is_done_record}
 use Rattle.qp_model.proofs.BlockLemmas.{Block, Exits, Enters, Inits, Acts, Locks, spread, Blocks, step-blocks, start-blocks}
 use Rattle.qp_check_calls.specs.CallState.{CallStage, Whole, CallState}
 use Rattle.qp_check_calls.specs.CallStateNext.{call_state_begin, call_state_next, stage_answer}
-use Rattle.qp_check_course.specs.Note.{Note, Run, Unhandled, Done, body_of, tells, raised_from, entry_and_event_taken, dropped_by, comes_back}
+use Rattle.qp_check_course.specs.Note.{Note, Run, Unhandled, Done, body_of_note, tells, raised_from, entry_and_event_taken, dropped_by, comes_back}
 use Rattle.qp_check_course.specs.Goes.{Way, Starting, Stepping, moment_of}
-use Rattle.qp_check_course.specs.Machine.{State, Between, Telling, Raising, AtPoint, InCall, AtPost, Releasing, Returning, Asserted, has_inner, done, answered, resumed, resume, deed_state, task_state, closed, closing, settle, noted, posted, step_state, start_state, left_over, tell_next}
+use Rattle.qp_check_course.specs.Machine.{State, Between, Telling, Raising, AtPoint, InCall, AtPost, Releasing, Returning, Asserted, has_inner, action_done, answered, resumed, resume, deed_state, task_state, step_closed, closing, tasks_state, behind_note, call_told, step_state, start_state, behind_dec, tell_next}
 use Rattle.qp_check_course.specs.Passing.{through, settle_past, pass_actions, pass, run_told}
-use Rattle.qp_check_course.specs.Standing.{left_in}
+use Rattle.qp_check_course.specs.Standing.{config_left_in}
 use Rattle.qp_check_course.proofs.NoteLemmas.{tells-is, raised-is, taken-is, dropped-is, back-is}
 use Rattle.qp_check_course.proofs.PassLemmas.{Shape, settle-shape, through-none}
 use Rattle.qp_check_course.proofs.QuietLemmas.{call-plain}
@@ -81,16 +81,16 @@ open_of None = 1
 open_of (Some c) = 0
 
 abbrev pub open_in : State → ℕ
-open_in s = open_of (left_in s)
+open_in s = open_of (config_left_in s)
 
 abbrev pub IsUnder : State → Type 0
 IsUnder s = WillEnd s × (open_in s ≡ 1)
 
 module _ (a : Actor) (way : Way) (leaf : ℕ) (ts : List Task) (go : Config → State) where
-  done-under : ends_once ts ≡ true → ((d : Config) → IsUnder (go d)) → (d : Config) → IsUnder (done way leaf ts go d)
+  done-under : ends_once ts ≡ true → ((d : Config) → IsUnder (go d)) → (d : Config) → IsUnder (action_done way leaf ts go d)
   done-under h more d = by way
     where
-      by : (way : Way) → IsUnder (done way leaf ts go d)
+      by : (way : Way) → IsUnder (action_done way leaf ts go d)
       by Starting = more d
       by (Stepping ev e) = (h, refl)
 
@@ -116,11 +116,11 @@ last-ends [] h = refl
 last-ends (t ∷ ts) h = absurd (cc)
 
 -- the state in which such tasks are left is one of a start or a step that is under way
-pub settle-under : (a : Actor) (way : Way) (leaf : ℕ) (ts : List Task) (c : Config) → ends_once ts ≡ true → IsUnder (settle a way leaf ts c)
-unfolding settle task_state
+pub settle-under : (a : Actor) (way : Way) (leaf : ℕ) (ts : List Task) (c : Config) → ends_once ts ≡ true → IsUnder (tasks_state a way leaf ts c)
+unfolding tasks_state task_state
 settle-under a way leaf [] c h = absurd (cc)
 settle-under a way leaf (task.Do p ∷ ts) c h =
-    deed-under a way leaf ts (λ d. settle a way leaf ts d) h (λ d. settle-under a way leaf ts d h) (deed_of (names_of a c (moment_of way).event) p) c
+    deed-under a way leaf ts (λ d. tasks_state a way leaf ts d) h (λ d. settle-under a way leaf ts d h) (deed_of (names_of a c (moment_of way).event) p) c
 settle-under a way leaf (task.Done ∷ ts) c h = (last-ends ts h, refl)
 settle-under a way leaf _ c h = (h, refl)
 
@@ -142,20 +142,20 @@ step-under a e ev c =
     headed head ts (inl is) h = ap (λ t. ends_once (t ∷ (ts ++ task.Done ∷ []))) is ∙ h
     headed head ts (inr (s, k, is)) h = ap (λ t. ends_once (t ∷ (ts ++ task.Done ∷ []))) is ∙ h
 
-noted-under : (a : Actor) (way : Way) (ends : Bool) (leaf : ℕ) (ts : List Task) (c : Config) → ends_once ts ≡ true → IsUnder (noted a way ends leaf ts c)
-noted-under a way true leaf ts c h = done-under a way leaf ts (settle a way leaf ts) h (λ d. settle-under a way leaf ts d h) c
+noted-under : (a : Actor) (way : Way) (ends : Bool) (leaf : ℕ) (ts : List Task) (c : Config) → ends_once ts ≡ true → IsUnder (behind_note a way ends leaf ts c)
+noted-under a way true leaf ts c h = done-under a way leaf ts (tasks_state a way leaf ts) h (λ d. settle-under a way leaf ts d h) c
 noted-under a way false leaf ts c h = settle-under a way leaf ts c h
 
-posted-under : (b : Bool) (a : Actor) (way : Way) (inner : Bool) (rest : CallState) (leaf : ℕ) (ts : List Task) (c : Config) → ends_once ts ≡ true → IsUnder (posted b a way inner rest leaf ts c)
+posted-under : (b : Bool) (a : Actor) (way : Way) (inner : Bool) (rest : CallState) (leaf : ℕ) (ts : List Task) (c : Config) → ends_once ts ≡ true → IsUnder (call_told b a way inner rest leaf ts c)
 posted-under true a way inner rest leaf ts c h = (h, refl)
-posted-under false a way inner rest leaf ts c h = resume-under a way leaf ts (settle a way leaf ts) h (λ d. settle-under a way leaf ts d h) inner rest c
+posted-under false a way inner rest leaf ts c h = resume-under a way leaf ts (tasks_state a way leaf ts) h (λ d. settle-under a way leaf ts d h) inner rest c
 
 -- points that are passed leave it so
 past-under : (a : Actor) (ev : Event) (e : Entry) (leaf : ℕ) (ts : List Task) (c : Config) → ends_once ts ≡ true → IsUnder (settle_past a ev e leaf ts c)
 unfolding settle_past
 past-under a ev e leaf [] c h = absurd (cc)
 past-under a ev e leaf (t ∷ ts) c h =
-    by (λ d k. past-under a ev e leaf ts d k) (settle a (Stepping ev e) leaf (t ∷ ts) c) (settle-shape a ev e leaf t ts c) (settle-under a (Stepping ev e) leaf (t ∷ ts) c h)
+    by (λ d k. past-under a ev e leaf ts d k) (tasks_state a (Stepping ev e) leaf (t ∷ ts) c) (settle-shape a ev e leaf t ts c) (settle-under a (Stepping ev e) leaf (t ∷ ts) c h)
   where
     by : ((d : Config) → ends_once ts ≡ true → IsUnder (settle_past a ev e leaf ts d)) → (s : State) → Shape ev e leaf ts s → IsUnder s
         → IsUnder (through s (λ d. settle_past a ev e leaf ts d))
@@ -176,8 +176,8 @@ actions-keep a _ h = (h, refl)
 pass-keeps : (a : Actor) (s : State) → WillEnd s → Keeps s (pass a s)
 unfolding pass
 pass-keeps a (AtPost way rest ts leaf c) h =
-    let under = resume-under a way leaf ts (settle a way leaf ts) h (λ d. settle-under a way leaf ts d h) true rest c in
-    let on = actions-keep a (resume way true rest leaf ts (settle a way leaf ts) c) under.0 in
+    let under = resume-under a way leaf ts (tasks_state a way leaf ts) h (λ d. settle-under a way leaf ts d h) true rest c in
+    let on = actions-keep a (resume way true rest leaf ts (tasks_state a way leaf ts) c) under.0 in
     (on.0, on.1 ∙ under.1)
 pass-keeps a other h = actions-keep a other h
 
@@ -214,7 +214,7 @@ abbrev is_final : Note → Bool
 is_final Done = true
 is_final n = false
 
-note-plain : (n : Note) → is_final n ≡ false → IsPlain (body_of n)
+note-plain : (n : Note) → is_final n ≡ false → IsPlain (body_of_note n)
 note-plain Done h = absurd (cc)
 note-plain _ h = record { done = refl; took = refl }
 
@@ -223,7 +223,7 @@ note-left Done ends ts h k = absurd (cc)
 note-left _ ends ts h k = k
 
 -- the end of a start or of a step
-closed-rests : (p : ℕ) (e : Entry) (c : Config) → WillEnd (closed p e c) × (open_in (closed p e c) ≡ 0)
+closed-rests : (p : ℕ) (e : Entry) (c : Config) → WillEnd (step_closed p e c) × (open_in (step_closed p e c) ≡ 0)
 closed-rests zero e c = (tt, refl)
 closed-rests (suc p) e c = (tt, refl)
 
@@ -232,25 +232,25 @@ closing-rests Starting leaf c = (tt, refl)
 closing-rests (Stepping ev e) leaf c = closed-rests e.pool e (record c { leaf = leaf })
 
 last-counts : (a : Actor) (way : Way) (ends : Bool) (ts : List Task) (leaf : ℕ) (c : Config) → note_ends Done ends ts ≡ true
-    → Counts (Telling way Done ends ts leaf c) item.Done (noted a way ends leaf ts c)
-unfolding settle
+    → Counts (Telling way Done ends ts leaf c) item.Done (behind_note a way ends leaf ts c)
+unfolding tasks_state
 last-counts a way true ts leaf c h = absurd (cc)
 last-counts a way false [] leaf c h =
     let at = closing-rests way leaf c in record { ends = at.0; counts = rw at.1 refl; loud = λ h. absurd (cc) }
 last-counts a way false (t ∷ ts) leaf c h = absurd (cc)
 
 telling-counts : (a : Actor) (way : Way) (n : Note) (ends : Bool) (ts : List Task) (leaf : ℕ) (c : Config) → note_ends n ends ts ≡ true
-    → Counts (Telling way n ends ts leaf c) (body_of n) (noted a way ends leaf ts c)
+    → Counts (Telling way n ends ts leaf c) (body_of_note n) (behind_note a way ends leaf ts c)
 telling-counts a way Done ends ts leaf c h = last-counts a way ends ts leaf c h
 telling-counts a way n ends ts leaf c h = by (is_final n) refl
   where
-    by : (b : Bool) → is_final n ≡ b → Counts (Telling way n ends ts leaf c) (body_of n) (noted a way ends leaf ts c)
+    by : (b : Bool) → is_final n ≡ b → Counts (Telling way n ends ts leaf c) (body_of_note n) (behind_note a way ends leaf ts c)
     by true is = absurd (final n is)
       where
         final : (n : Note) → is_final n ≡ true → ⊥
         final n h = cc
     by false is =
-        under-counts (Telling way n ends ts leaf c) (noted a way ends leaf ts c) (body_of n) refl (note-plain n is)
+        under-counts (Telling way n ends ts leaf c) (behind_note a way ends leaf ts c) (body_of_note n) refl (note-plain n is)
         (noted-under a way ends leaf ts c (note-left n ends ts is h))
 
 same-body : {t u : Told} → t ≡ u → t.body ≡ u.body
@@ -267,28 +267,28 @@ module _ (sys : System) (a : Actor) where
       subst (λ b. Counts (Between c) b later) (sym body) (subst (λ s. Counts (Between c) (item.Took took.0 took.1 took.2 at.0.0) s) at.2
       (record { ends = under.0; counts = rw under.1 refl; loud = λ k. under.1 }))
   next-counts (Telling way n ends ts leaf c) t later e h =
-      let at = granted (tells n t.body t.known) (noted a way ends leaf ts c) later e in
-      let body : t.body ≡ body_of n = same-body (tells-is n t.body t.known at.0) in
-      subst (λ b. Counts (Telling way n ends ts leaf c) b later) (sym body) (subst (λ s. Counts (Telling way n ends ts leaf c) (body_of n) s) at.1 (telling-counts a way n ends ts leaf c h))
+      let at = granted (tells n t.body t.known) (behind_note a way ends leaf ts c) later e in
+      let body : t.body ≡ body_of_note n = same-body (tells-is n t.body t.known at.0) in
+      subst (λ b. Counts (Telling way n ends ts leaf c) b later) (sym body) (subst (λ s. Counts (Telling way n ends ts leaf c) (body_of_note n) s) at.1 (telling-counts a way n ends ts leaf c h))
   next-counts (Raising way ceiling ts leaf c) t later e h =
-      let at = mapped (λ former. settle a way leaf ts (record c { former = former })) (raised_from ceiling t.body t.known) later e in
+      let at = mapped (λ former. tasks_state a way leaf ts (record c { former = former })) (raised_from ceiling t.body t.known) later e in
       let body = same-body (raised-is ceiling at.0 t.body t.known at.1) in
       under-counts (Raising way ceiling ts leaf c) later t.body refl (record { done = ap is_done_record body; took = ap is_took body })
       (subst IsUnder at.2 (settle-under a way leaf ts (record c { former = at.0 }) h))
   next-counts (AtPoint ev x ts leaf c) t later e h = absurd (none-some _ e)
   next-counts (InCall way inner rest ts leaf c) t later e h =
-      let at = mapped (λ more. posted (inner && is_post t.body) a way inner more leaf ts (record c { kept = more.kept })) (call_state_next sys a.o (moment_of way).entry rest t) later e in
+      let at = mapped (λ more. call_told (inner && is_post t.body) a way inner more leaf ts (record c { kept = more.kept })) (call_state_next sys a.o (moment_of way).entry rest t) later e in
       let is = call-plain sys a.o (moment_of way).entry rest t at.0 at.1 in
       under-counts (InCall way inner rest ts leaf c) later t.body refl (record { done = is.0; took = is.1 })
       (subst IsUnder at.2 (posted-under (inner && is_post t.body) a way inner at.0 leaf ts (record c { kept = at.0.kept }) h))
   next-counts (AtPost way rest ts leaf c) t later e h = absurd (none-some _ e)
   next-counts (Releasing x c) t later e h =
-      let at = mapped (λ (y : ℕ × ℕ). left_over x y.0 y.1 c) (dropped_by x t.body t.known) later e in
+      let at = mapped (λ (y : ℕ × ℕ). behind_dec x y.0 y.1 c) (dropped_by x t.body t.known) later e in
       let body = same-body (dropped-is x at.0 t.body t.known at.1) in
       let rests = over at.0.0 at.0.1 in
       rests-count (Releasing x c) later t.body refl (ap open_in (sym at.2) ∙ rests.1) (subst WillEnd at.2 rests.0) (record { done = ap is_done_record body; took = ap is_took body }) (ap is_assert body)
     where
-      over : (d left : ℕ) → WillEnd (left_over x d left c) × (open_in (left_over x d left c) ≡ 0)
+      over : (d left : ℕ) → WillEnd (behind_dec x d left c) × (open_in (behind_dec x d left c) ≡ 0)
       over d zero = (tt, refl)
       over d (suc left) = (tt, refl)
   next-counts (Returning p b d c) t later e h =

@@ -16,10 +16,10 @@ use Rattle.qp_check_calls.specs.CallState.{CallState}
 use Rattle.qp_check_calls.specs.CallStateNext.{stage_answer}
 use Rattle.qp_check_calls.specs.Reads.{IsRestOfCall}
 use Rattle.qp_check_calls.specs.CallStateLaws.{OpenReads}
-use Rattle.qp_check_course.specs.Note.{body_of}
+use Rattle.qp_check_course.specs.Note.{body_of_note}
 use Rattle.qp_check_course.specs.Goes.{anywhere, Way, Starting, Stepping, moment_of, Ends, LeftGoes}
-use Rattle.qp_check_course.specs.Machine.{State, Between, Telling, Raising, AtPoint, InCall, AtPost, Releasing, Returning, Asserted, inner_pieces, CallStateGoes, NoteEnds, Goes, is_end}
-use Rattle.qp_check_course.specs.Ready.{AreAble, IsWithin, CanGoOn, MayGoOnFrom}
+use Rattle.qp_check_course.specs.Machine.{State, Between, Telling, Raising, AtPoint, InCall, AtPost, Releasing, Returning, Asserted, inner_pieces, CallStateGoes, NoteEnds, Goes, is_course_end}
+use Rattle.qp_check_course.specs.Ready.{AreTasksAble, IsWithin, CanGoOn, MayGoOnFrom}
 use Rattle.qp_check_course.proofs.CourseLemmas.{steps-none}
 use Rattle.qp_check_course.proofs.SomeLemmas.{left-some}
 use Rattle.qp_check_course.proofs.NextLemmas.{inner-first}
@@ -44,7 +44,7 @@ rest-some sys a way inner rest later c part (answer, t ∷ g, kept, reads, k) = 
     by false (zs, e) (more, k, ends) = let wrong : [] ≡ Tell t ∷ (zs ++ more) = k ∙ ap (λ us. us ++ more) e in cc
 
 -- nothing comes only where the course may end
-pub goes-end : (sys : System) (a : Actor) (s : State) → MayGoOnFrom sys a s → Goes sys a anywhere s [] → is_end s ≡ true
+pub goes-end : (sys : System) (a : Actor) (s : State) → MayGoOnFrom sys a s → Goes sys a anywhere s [] → is_course_end s ≡ true
 unfolding Goes
 goes-end sys a (Between c) ready h = refl
 goes-end sys a (Telling way n ends ts leaf c) ready (rest, e, k) = absurd (cc)
@@ -60,7 +60,7 @@ goes-end sys a (Returning p b d c) ready (n, (rest, is, k)) = absurd (cc)
 goes-end sys a Asserted ready h = refl
 
 -- and there it may
-pub end-goes : (sys : System) (a : Actor) (s : State) → is_end s ≡ true → Goes sys a anywhere s []
+pub end-goes : (sys : System) (a : Actor) (s : State) → is_course_end s ≡ true → Goes sys a anywhere s []
 unfolding Goes
 end-goes sys a (Between c) h = steps-none sys a anywhere c tt
 end-goes sys a Asserted h = refl
@@ -68,19 +68,19 @@ end-goes sys a s h = absurd (false≢true h)
 
 module _ (open_reads : OpenReads) (sys : System) (a : Actor) where
   -- what comes after the end of an action
-  ends-some : (way : Way) (ts : List Task) (leaf : ℕ) (c : Config) → AreAble sys way ts → IsWithin a c → (ps : List Piece) × Ends way (LeftGoes sys a anywhere way ts leaf c) ps
+  ends-some : (way : Way) (ts : List Task) (leaf : ℕ) (c : Config) → AreTasksAble sys way ts → IsWithin a c → (ps : List Piece) × Ends way (LeftGoes sys a anywhere way ts leaf c) ps
   ends-some way ts leaf c able within = by way (left-some sys a way ts leaf c able within)
     where
       by : (w : Way) → (ps : List Piece) × LeftGoes sys a anywhere way ts leaf c ps → (ps : List Piece) × Ends w (LeftGoes sys a anywhere way ts leaf c) ps
       by Starting h = h
       by (Stepping ev e) h = (Point ∷ h.0, (h.0, refl, h.1))
 
-  note-some : (way : Way) (ends : Bool) (ts : List Task) (leaf : ℕ) (c : Config) → AreAble sys way ts → IsWithin a c
+  note-some : (way : Way) (ends : Bool) (ts : List Task) (leaf : ℕ) (c : Config) → AreTasksAble sys way ts → IsWithin a c
       → (ps : List Piece) × NoteEnds way ends (LeftGoes sys a anywhere way ts leaf c) ps
   note-some way true ts leaf c able within = ends-some way ts leaf c able within
   note-some way false ts leaf c able within = left-some sys a way ts leaf c able within
 
-  rest-goes : (way : Way) (inner : Bool) (rest : CallState) (ts : List Task) (leaf : ℕ) (c : Config) → AreAble sys way ts → CanGoOn sys a way rest
+  rest-goes : (way : Way) (inner : Bool) (rest : CallState) (ts : List Task) (leaf : ℕ) (c : Config) → AreTasksAble sys way ts → CanGoOn sys a way rest
       → (ps : List Piece) × CallStateGoes sys a way inner rest (LeftGoes sys a anywhere way ts leaf) c ps
   unfolding CallStateGoes
   rest-goes way inner rest ts leaf c able can =
@@ -99,7 +99,7 @@ module _ (open_reads : OpenReads) (sys : System) (a : Actor) where
   unfolding Goes
   goes-some (Between c) ready = ([], steps-none sys a anywhere c tt)
   goes-some (Telling way n ends ts leaf c) ready =
-      let rest = note-some way ends ts leaf c ready.0 ready.1 in (Tell (plain (body_of n)) ∷ rest.0, (rest.0, refl, rest.1))
+      let rest = note-some way ends ts leaf c ready.0 ready.1 in (Tell (plain (body_of_note n)) ∷ rest.0, (rest.0, refl, rest.1))
   goes-some (Raising way ceiling ts leaf c) ready =
       let rest = left-some sys a way ts leaf (record c { former = 0 }) ready.0 ready.1 in (Tell (raised (max 0 ceiling) 0) ∷ rest.0, (0, (rest.0, refl, rest.1)))
   goes-some (AtPoint ev e ts leaf c) ready =

@@ -17,7 +17,7 @@ use Rattle.qp_check_calls.specs.declared.pieces.Piece.{Piece}
 use Rattle.qp_check_calls.specs.declared.pieces.Piece.TheVariants as piece
 use Rattle.qp_check_calls.specs.AsPiece.{as_piece}
 use Rattle.qp_check_course.specs.Goes.{Way, Starting, Stepping}
-use Rattle.qp_check_course.specs.Machine.{State, AtPoint, AtPost, answered, resumed, resume, closed, settle, tell_next, point_next, next, run, expects_point}
+use Rattle.qp_check_course.specs.Machine.{State, AtPoint, AtPost, answered, resumed, resume, step_closed, tasks_state, tell_next, point_next, state_next, state_after, expects_point}
 use Rattle.qp_check_course.specs.Passing.{pass, run_told}
 use Rattle.qp_check_course.specs.Runs.{IsAble, CanRun, is_point}
 use Rattle.qp_check_course.proofs.PassLemmas.{Shape, pass-none, resume-shape, settle-shape, start-none}
@@ -40,30 +40,30 @@ shaped ev e leaf ts s (inl (c, is)) = let same : points_left s ≡ suc (length t
 shaped ev e leaf ts s (inr none) = omega (arith, none-left s none)
 
 module _ (a : Actor) where
-  settled : (ev : Event) (e : Entry) (leaf : ℕ) (ts : List Task) (c : Config) → points_left (settle a (Stepping ev e) leaf ts c) ≤ length ts
-  unfolding settle
+  settled : (ev : Event) (e : Entry) (leaf : ℕ) (ts : List Task) (c : Config) → points_left (tasks_state a (Stepping ev e) leaf ts c) ≤ length ts
+  unfolding tasks_state
   settled ev e leaf [] c = by e.pool
     where
-      by : (p : ℕ) → points_left (closed p e (record c { leaf = leaf })) ≤ 0
+      by : (p : ℕ) → points_left (step_closed p e (record c { leaf = leaf })) ≤ 0
       by zero = omega arith
       by (suc p) = omega arith
-  settled ev e leaf (t ∷ ts) c = shaped ev e leaf ts (settle a (Stepping ev e) leaf (t ∷ ts) c) (settle-shape a ev e leaf t ts c)
+  settled ev e leaf (t ∷ ts) c = shaped ev e leaf ts (tasks_state a (Stepping ev e) leaf (t ∷ ts) c) (settle-shape a ev e leaf t ts c)
 
-  started : (inner : Bool) (rest : CallState) (leaf : ℕ) (ts : List Task) (c : Config) → points_left (resume Starting inner rest leaf ts (settle a Starting leaf ts) c) ≡ 0
+  started : (inner : Bool) (rest : CallState) (leaf : ℕ) (ts : List Task) (c : Config) → points_left (resume Starting inner rest leaf ts (tasks_state a Starting leaf ts) c) ≡ 0
   started inner rest leaf ts c = by rest.stage
     where
-      ended : (b : Bool) (d : Config) → points_left (answered b Starting leaf ts (settle a Starting leaf ts) d) ≡ 0
+      ended : (b : Bool) (d : Config) → points_left (answered b Starting leaf ts (tasks_state a Starting leaf ts) d) ≡ 0
       ended true d = refl
-      ended false d = none-left (settle a Starting leaf ts d) (start-none a leaf ts d)
+      ended false d = none-left (tasks_state a Starting leaf ts d) (start-none a leaf ts d)
 
-      by : (s : CallStage) → points_left (resumed (stage_answer s) Starting inner rest leaf ts (settle a Starting leaf ts) c) ≡ 0
+      by : (s : CallStage) → points_left (resumed (stage_answer s) Starting inner rest leaf ts (tasks_state a Starting leaf ts) c) ≡ 0
       by (Whole own) = ended (is_assertion own) (record c { ok = ok_after own c.ok; kept = rest.kept })
       by s = refl
 
-  resumes : (way : Way) (rest : CallState) (leaf : ℕ) (ts : List Task) (c : Config) → points_left (resume way true rest leaf ts (settle a way leaf ts) c) ≤ suc (length ts)
+  resumes : (way : Way) (rest : CallState) (leaf : ℕ) (ts : List Task) (c : Config) → points_left (resume way true rest leaf ts (tasks_state a way leaf ts) c) ≤ suc (length ts)
   resumes Starting rest leaf ts c = omega (arith, started true rest leaf ts c)
   resumes (Stepping ev e) rest leaf ts c =
-      shaped ev e leaf ts (resume (Stepping ev e) true rest leaf ts (settle a (Stepping ev e) leaf ts) c) (resume-shape a ev e leaf ts (settle a (Stepping ev e) leaf ts) true rest c)
+      shaped ev e leaf ts (resume (Stepping ev e) true rest leaf ts (tasks_state a (Stepping ev e) leaf ts) c) (resume-shape a ev e leaf ts (tasks_state a (Stepping ev e) leaf ts) true rest c)
 
   -- a point leaves fewer of them
   pub point-fewer : (s later : State) → point_next a s ≡ Some later → points_left later < points_left s
@@ -85,12 +85,12 @@ module _ (a : Actor) where
 module _ (sys : System) (a : Actor) where
   -- the course can run on behind a point
   pub point-can : IsAble sys a → (s later : State) → point_next a s ≡ Some later → CanRun sys a s → CanRun sys a later
-  unfolding next
+  unfolding state_next
   point-can able s later is can = run-next sys a able s Point later is can
 
   -- and behind a record
   pub tell-can : IsAble sys a → (s later : State) (t : Told) → Some later ≡ tell_next sys a s t → CanRun sys a s → CanRun sys a later
-  unfolding next
+  unfolding state_next
   tell-can able s later t is can = run-next sys a able s (Tell t) later (sym is) can
 
   told-first : (i : ℕ) (g : List Told) (t : Told) (s : State) → i < length g → t ≡ get_or g i t
@@ -103,14 +103,14 @@ module _ (sys : System) (a : Actor) where
   -- a record may come
   pub told-on : (i : ℕ) (g : List Told) (t : Told) (s later : State) (whole : Option State) → i < length g → t ≡ get_or g i t
       → Some later ≡ tell_next sys a (pass a s) t → run_told sys a s (drop i g) ≡ whole → run_told sys a later (drop (i + 1) g) ≡ whole
-  told-on i g t s later whole h is next k =
-      ap (λ o. option_and_then (λ later. run_told sys a later (drop (i + 1) g)) o) next ∙ sym (told-first i g t s h is) ∙ k
+  told-on i g t s later whole h is state_next k =
+      ap (λ o. option_and_then (λ later. run_told sys a later (drop (i + 1) g)) o) state_next ∙ sym (told-first i g t s h is) ∙ k
 
   -- or it may not
   pub told-off : (i : ℕ) (g : List Told) (t : Told) (s : State) (whole : Option State) → i < length g → t ≡ get_or g i t
       → None ≡ tell_next sys a (pass a s) t → run_told sys a s (drop i g) ≡ whole → whole ≡ None
-  told-off i g t s whole h is next k =
-      sym k ∙ told-first i g t s h is ∙ ap (λ o. option_and_then (λ later. run_told sys a later (drop (i + 1) g)) o) (sym next)
+  told-off i g t s whole h is state_next k =
+      sym k ∙ told-first i g t s h is ∙ ap (λ o. option_and_then (λ later. run_told sys a later (drop (i + 1) g)) o) (sym state_next)
 
   -- all were read
   pub told-end : (i : ℕ) (g : List Told) (s : State) (whole : Option State) → length g ≤ i → run_told sys a s (drop i g) ≡ whole → whole ≡ Some s
@@ -118,26 +118,26 @@ module _ (sys : System) (a : Actor) where
   told-end i g s whole h k = sym k ∙ ap (λ zs. run_told sys a s zs) (drop_all i g h)
 
   piece-first : (i : ℕ) (ps : List Piece) (p : Piece) (s : State) → i < length ps → p ≡ get_or ps i p
-      → run sys a s (map as_piece (drop i ps)) ≡ option_and_then (λ later. run sys a later (map as_piece (drop (i + 1) ps))) (next sys a s (as_piece p))
-  unfolding run
+      → state_after sys a s (map as_piece (drop i ps)) ≡ option_and_then (λ later. state_after sys a later (map as_piece (drop (i + 1) ps))) (state_next sys a s (as_piece p))
+  unfolding state_after
   piece-first i ps p s h is =
       let rest : drop i ps ≡ p ∷ drop (i + 1) ps = rw add-one (drop-cons ps i p h ∙ ap (λ y. y ∷ drop (suc i) ps) (sym is)) in
-      ap (λ zs. run sys a s (map as_piece zs)) rest
+      ap (λ zs. state_after sys a s (map as_piece zs)) rest
 
   -- the same of pieces
   pub piece-on : (i : ℕ) (ps : List Piece) (p : Piece) (s later : State) (whole : Option State) → i < length ps → p ≡ get_or ps i p
-      → Some later ≡ next sys a s (as_piece p) → run sys a s (map as_piece (drop i ps)) ≡ whole → run sys a later (map as_piece (drop (i + 1) ps)) ≡ whole
-  piece-on i ps p s later whole h is next k =
-      ap (λ o. option_and_then (λ later. run sys a later (map as_piece (drop (i + 1) ps))) o) next ∙ sym (piece-first i ps p s h is) ∙ k
+      → Some later ≡ state_next sys a s (as_piece p) → state_after sys a s (map as_piece (drop i ps)) ≡ whole → state_after sys a later (map as_piece (drop (i + 1) ps)) ≡ whole
+  piece-on i ps p s later whole h is state_next k =
+      ap (λ o. option_and_then (λ later. state_after sys a later (map as_piece (drop (i + 1) ps))) o) state_next ∙ sym (piece-first i ps p s h is) ∙ k
 
   pub piece-off : (i : ℕ) (ps : List Piece) (p : Piece) (s : State) (whole : Option State) → i < length ps → p ≡ get_or ps i p
-      → None ≡ next sys a s (as_piece p) → run sys a s (map as_piece (drop i ps)) ≡ whole → None ≡ whole
-  piece-off i ps p s whole h is next k =
-      ap (λ o. option_and_then (λ later. run sys a later (map as_piece (drop (i + 1) ps))) o) next ∙ sym (piece-first i ps p s h is) ∙ k
+      → None ≡ state_next sys a s (as_piece p) → state_after sys a s (map as_piece (drop i ps)) ≡ whole → None ≡ whole
+  piece-off i ps p s whole h is state_next k =
+      ap (λ o. option_and_then (λ later. state_after sys a later (map as_piece (drop (i + 1) ps))) o) state_next ∙ sym (piece-first i ps p s h is) ∙ k
 
-  pub piece-end : (i : ℕ) (ps : List Piece) (s : State) (whole : Option State) → length ps ≤ i → run sys a s (map as_piece (drop i ps)) ≡ whole → Some s ≡ whole
-  unfolding run
-  piece-end i ps s whole h k = sym (ap (λ zs. run sys a s (map as_piece zs)) (drop_all i ps h)) ∙ k
+  pub piece-end : (i : ℕ) (ps : List Piece) (s : State) (whole : Option State) → length ps ≤ i → state_after sys a s (map as_piece (drop i ps)) ≡ whole → Some s ≡ whole
+  unfolding state_after
+  piece-end i ps s whole h k = sym (ap (λ zs. state_after sys a s (map as_piece zs)) (drop_all i ps h)) ∙ k
 
 last-one : (p q : Piece) (ps : List Piece) → slice_get (p ∷ q ∷ ps) (length (p ∷ q ∷ ps) - 1) ≡ slice_get (q ∷ ps) (length (q ∷ ps) - 1)
 last-one p q ps =

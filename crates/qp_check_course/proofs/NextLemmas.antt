@@ -17,9 +17,9 @@ use Rattle.qp_check_calls.specs.CallState.{CallState}
 use Rattle.qp_check_calls.specs.CallStateNext.{call_state_next, stage_answer}
 use Rattle.qp_check_calls.specs.Reads.{IsRestOfCall}
 use Rattle.qp_check_calls.specs.CallStateLaws.{ReadsBegin, ReadsWhole, ReadsNext}
-use Rattle.qp_check_course.specs.Note.{body_of}
+use Rattle.qp_check_course.specs.Note.{body_of_note}
 use Rattle.qp_check_course.specs.Goes.{Aim, Way, Stepping, moment_of, Ends, StepsGo, LeftGoes, StepGoes}
-use Rattle.qp_check_course.specs.Machine.{State, Between, Telling, Raising, AtPoint, InCall, AtPost, Releasing, Returning, Asserted, inner_pieces, CallStateGoes, NoteEnds, Goes, resume, settle, noted, posted, step_state, tell_next, point_next, next, IsUnderWay}
+use Rattle.qp_check_course.specs.Machine.{State, Between, Telling, Raising, AtPoint, InCall, AtPost, Releasing, Returning, Asserted, inner_pieces, CallStateGoes, NoteEnds, Goes, resume, tasks_state, behind_note, call_told, step_state, tell_next, point_next, state_next, IsCallUnderWay}
 use Rattle.qp_check_course.proofs.NoteLemmas.{is-tells, is-raised, is-dropped, is-back}
 use Rattle.qp_check_course.proofs.CourseLemmas.{took-goes}
 use Rattle.qp_check_course.proofs.SettleLemmas.{into-settle, back-settle, into-resume, back-resume, into-done, back-done}
@@ -27,7 +27,7 @@ use Rattle.qp_model.proofs.CutLemmas.{first-same, rest-same}
 
 -- the state behind a piece, and what may come from there
 abbrev pub Behind : System → Actor → Aim → State → Piece → List Piece → Type 0
-Behind sys a aim s p ps = (later : State) × (next sys a s p ≡ Some later) × Goes sys a aim later ps
+Behind sys a aim s p ps = (later : State) × (state_next sys a s p ≡ Some later) × Goes sys a aim later ps
 
 -- a record of a call, and its point where it is a post of a publication
 pub inner-first : (inner : Bool) (t : Told) (g : List Told)
@@ -130,30 +130,30 @@ module _ (reads_next : ReadsNext) (sys : System) (a : Actor) (way : Way) (inner 
 
 module _ (begin : ReadsBegin) (whole : ReadsWhole) (reads_next : ReadsNext) (sys : System) (a : Actor) (aim : Aim) where
   into-noted : (way : Way) (ends : Bool) (leaf : ℕ) (ts : List Task) (c : Config) (ps : List Piece)
-      → NoteEnds way ends (LeftGoes sys a aim way ts leaf c) ps → Goes sys a aim (noted a way ends leaf ts c) ps
-  into-noted way true leaf ts c ps h = into-done sys a aim way leaf ts (settle a way leaf ts) (λ d zs k. into-settle begin whole sys a aim way leaf ts d zs k) c ps h
+      → NoteEnds way ends (LeftGoes sys a aim way ts leaf c) ps → Goes sys a aim (behind_note a way ends leaf ts c) ps
+  into-noted way true leaf ts c ps h = into-done sys a aim way leaf ts (tasks_state a way leaf ts) (λ d zs k. into-settle begin whole sys a aim way leaf ts d zs k) c ps h
   into-noted way false leaf ts c ps h = into-settle begin whole sys a aim way leaf ts c ps h
 
   pub back-noted : (way : Way) (ends : Bool) (leaf : ℕ) (ts : List Task) (c : Config) (ps : List Piece)
-      → Goes sys a aim (noted a way ends leaf ts c) ps → NoteEnds way ends (LeftGoes sys a aim way ts leaf c) ps
-  back-noted way true leaf ts c ps h = back-done sys a aim way leaf ts (settle a way leaf ts) (λ d zs k. back-settle begin sys a aim way leaf ts d zs k) c ps h
+      → Goes sys a aim (behind_note a way ends leaf ts c) ps → NoteEnds way ends (LeftGoes sys a aim way ts leaf c) ps
+  back-noted way true leaf ts c ps h = back-done sys a aim way leaf ts (tasks_state a way leaf ts) (λ d zs k. back-settle begin sys a aim way leaf ts d zs k) c ps h
   back-noted way false leaf ts c ps h = back-settle begin sys a aim way leaf ts c ps h
 
   into-posted : (b : Bool) (way : Way) (inner : Bool) (rest : CallState) (leaf : ℕ) (ts : List Task) (c : Config) (ps : List Piece)
       → MatchBool b ((more : List Piece) × (ps ≡ Point ∷ more) × CallStateGoes sys a way true rest (LeftGoes sys a aim way ts leaf) c more) (CallStateGoes sys a way inner rest (LeftGoes sys a aim way ts leaf) c ps)
-      → Goes sys a aim (posted b a way inner rest leaf ts c) ps
+      → Goes sys a aim (call_told b a way inner rest leaf ts c) ps
   unfolding Goes
   into-posted true way inner rest leaf ts c ps h = h
   into-posted false way inner rest leaf ts c ps h =
-      into-resume sys a aim way leaf ts (settle a way leaf ts) whole (λ d zs k. into-settle begin whole sys a aim way leaf ts d zs k) inner rest c ps h
+      into-resume sys a aim way leaf ts (tasks_state a way leaf ts) whole (λ d zs k. into-settle begin whole sys a aim way leaf ts d zs k) inner rest c ps h
 
   pub back-posted : (b : Bool) (way : Way) (inner : Bool) (rest : CallState) (leaf : ℕ) (ts : List Task) (c : Config) (ps : List Piece)
-      → Goes sys a aim (posted b a way inner rest leaf ts c) ps
+      → Goes sys a aim (call_told b a way inner rest leaf ts c) ps
       → MatchBool b ((more : List Piece) × (ps ≡ Point ∷ more) × CallStateGoes sys a way true rest (LeftGoes sys a aim way ts leaf) c more) (CallStateGoes sys a way inner rest (LeftGoes sys a aim way ts leaf) c ps)
   unfolding Goes
   back-posted true way inner rest leaf ts c ps h = h
   back-posted false way inner rest leaf ts c ps h =
-      back-resume sys a aim way leaf ts (settle a way leaf ts) (λ d zs k. back-settle begin sys a aim way leaf ts d zs k) inner rest c ps h
+      back-resume sys a aim way leaf ts (tasks_state a way leaf ts) (λ d zs k. back-settle begin sys a aim way leaf ts d zs k) inner rest c ps h
 
   into-step : (e : Entry) (ev : Event) (c : Config) (ps : List Piece) → StepGoes sys a aim ev e c ps → Goes sys a aim (step_state a e ev c) ps
   unfolding StepGoes step_state
@@ -166,27 +166,27 @@ module _ (begin : ReadsBegin) (whole : ReadsWhole) (reads_next : ReadsNext) (sys
       back-settle begin sys a aim (Stepping ev e) (step_plan a.chart c.leaf (names_of a c ev) ev.sig).leaf (step_plan a.chart c.leaf (names_of a c ev) ev.sig).tasks c ps h
 
   -- what comes first is what a piece makes of the state
-  pub goes-next : (s : State) (p : Piece) (ps : List Piece) → IsUnderWay s → Goes sys a aim s (p ∷ ps) → Behind sys a aim s p ps
-  unfolding Goes next tell_next point_next
+  pub goes-next : (s : State) (p : Piece) (ps : List Piece) → IsCallUnderWay s → Goes sys a aim s (p ∷ ps) → Behind sys a aim s p ps
+  unfolding Goes state_next tell_next point_next
   goes-next (Between c) p ps under h = by (took-goes sys a aim c p ps h)
     where
       by : (f l m : ℕ) × (e : Entry) × (ev : Event) × (p ≡ Tell (told_took f l m e ev)) × StepGoes sys a aim ev e c ps → Behind sys a aim (Between c) p ps
       by (f, l, m, e, ev, is, k) =
           subst (λ q. Behind sys a aim (Between c) q ps) (sym is) (step_state a e ev c, refl, into-step e ev c ps k)
   goes-next (Telling way n ends ts leaf c) p ps under (rest, e, k) =
-      let is : p ≡ Tell (plain (body_of n)) = first-same e in
+      let is : p ≡ Tell (plain (body_of_note n)) = first-same e in
       let others : ps ≡ rest = rest-same e in
       subst (λ q. Behind sys a aim (Telling way n ends ts leaf c) q ps) (sym is)
-      (noted a way ends leaf ts c, rw (is-tells n) refl, into-noted way ends leaf ts c ps (subst (NoteEnds way ends (LeftGoes sys a aim way ts leaf c)) (sym others) k))
+      (behind_note a way ends leaf ts c, rw (is-tells n) refl, into-noted way ends leaf ts c ps (subst (NoteEnds way ends (LeftGoes sys a aim way ts leaf c)) (sym others) k))
   goes-next (Raising way ceiling ts leaf c) p ps under (former, (rest, e, k)) =
       let is : p ≡ Tell (raised (max former ceiling) former) = first-same e in
       let others : ps ≡ rest = rest-same e in
       subst (λ q. Behind sys a aim (Raising way ceiling ts leaf c) q ps) (sym is)
-      (settle a way leaf ts (record c { former = former }), rw (is-raised ceiling former) refl, into-settle begin whole sys a aim way leaf ts (record c { former = former }) ps (subst (LeftGoes sys a aim way ts leaf (record c { former = former })) (sym others) k))
+      (tasks_state a way leaf ts (record c { former = former }), rw (is-raised ceiling former) refl, into-settle begin whole sys a aim way leaf ts (record c { former = former }) ps (subst (LeftGoes sys a aim way ts leaf (record c { former = former })) (sym others) k))
   goes-next (AtPoint ev e ts leaf c) p ps under (rest, is, k) =
       let others : ps ≡ rest = rest-same is in
       subst (λ q. Behind sys a aim (AtPoint ev e ts leaf c) q ps) (sym (first-same is))
-      (settle a (Stepping ev e) leaf ts c, refl, into-settle begin whole sys a aim (Stepping ev e) leaf ts c ps (subst (LeftGoes sys a aim (Stepping ev e) ts leaf c) (sym others) k))
+      (tasks_state a (Stepping ev e) leaf ts c, refl, into-settle begin whole sys a aim (Stepping ev e) leaf ts c ps (subst (LeftGoes sys a aim (Stepping ev e) ts leaf c) (sym others) k))
   goes-next (InCall way inner rest ts leaf c) p ps under h =
       by (rest-first reads_next sys a way inner rest (LeftGoes sys a aim way ts leaf) c p ps under h)
     where
@@ -194,16 +194,16 @@ module _ (begin : ReadsBegin) (whole : ReadsWhole) (reads_next : ReadsNext) (sys
           × CallStateBehind reads_next sys a way inner rest (LeftGoes sys a aim way ts leaf) c t more ps → Behind sys a aim (InCall way inner rest ts leaf c) p ps
       by (t, more, is, left, k) =
           subst (λ q. Behind sys a aim (InCall way inner rest ts leaf c) q ps) (sym is) (
-            posted (inner && is_post t.body) a way inner more leaf ts (record c { kept = more.kept }),
+            call_told (inner && is_post t.body) a way inner more leaf ts (record c { kept = more.kept }),
             rw left refl,
             into-posted (inner && is_post t.body) way inner more leaf ts (record c { kept = more.kept }) ps k,
           )
   goes-next (AtPost way rest ts leaf c) p ps under (more, is, k) =
       let others : ps ≡ more = rest-same is in
       subst (λ q. Behind sys a aim (AtPost way rest ts leaf c) q ps) (sym (first-same is)) (
-        resume way true rest leaf ts (settle a way leaf ts) c,
+        resume way true rest leaf ts (tasks_state a way leaf ts) c,
         refl,
-        into-resume sys a aim way leaf ts (settle a way leaf ts) whole (λ d zs k. into-settle begin whole sys a aim way leaf ts d zs k) true rest c ps
+        into-resume sys a aim way leaf ts (tasks_state a way leaf ts) whole (λ d zs k. into-settle begin whole sys a aim way leaf ts d zs k) true rest c ps
             (subst (CallStateGoes sys a way true rest (LeftGoes sys a aim way ts leaf) c) (sym others) k),
       )
   goes-next (Releasing e c) p ps under (rel, rest, inl (d, left, is), split, k) =

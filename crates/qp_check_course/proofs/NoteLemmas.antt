@@ -7,7 +7,7 @@ use Rattle.qp_model.specs.declared.bodies.Body.{Body}
 use Rattle.qp_model.specs.declared.bodies.Body.TheVariants as item
 use Rattle.qp_model.specs.Told as told
 use Rattle.qp_model.specs.Told.{Told, Event, Known, plain, raised, told_took, dropped}
-use Rattle.qp_check_course.specs.Note.{Note, Begin, Run, Unhandled, Exit, Enter, Init, Done, Say, Unlock, body_of, note_of, same_note, is_noted, tells, raised_from, entry_and_event_taken, dropped_by, comes_back}
+use Rattle.qp_check_course.specs.Note.{Note, Begin, Run, Unhandled, Exit, Enter, Init, Done, Say, Unlock, body_of_note, note_in, same_note, is_noted, tells, raised_from, entry_and_event_taken, dropped_by, comes_back}
 use Rattle.qp_model.proofs.KernelLaneLemmas.{granted}
 use Rattle.qp_model.proofs.LineLemmas.{same_number}
 
@@ -43,21 +43,21 @@ is-same Done = refl
 is-same (Say v) = same_number v
 is-same (Unlock c) = same_number c
 
-note-body : (b : Body) (n : Note) → is_noted (note_of b) n ≡ true → b ≡ body_of n
-unfolding note_of
-note-body item.Begin n h = ap body_of (same-is Begin n h)
-note-body (item.Run s k) n h = ap body_of (same-is (Run s k) n h)
-note-body item.Unhandled n h = ap body_of (same-is Unhandled n h)
-note-body (item.Exit s) n h = ap body_of (same-is (Exit s) n h)
-note-body (item.Enter s) n h = ap body_of (same-is (Enter s) n h)
-note-body (item.Init s) n h = ap body_of (same-is (Init s) n h)
-note-body item.Done n h = ap body_of (same-is Done n h)
-note-body (item.Say v) n h = ap body_of (same-is (Say v) n h)
-note-body (item.Unlock c) n h = ap body_of (same-is (Unlock c) n h)
+note-body : (b : Body) (n : Note) → is_noted (note_in b) n ≡ true → b ≡ body_of_note n
+unfolding note_in
+note-body item.Begin n h = ap body_of_note (same-is Begin n h)
+note-body (item.Run s k) n h = ap body_of_note (same-is (Run s k) n h)
+note-body item.Unhandled n h = ap body_of_note (same-is Unhandled n h)
+note-body (item.Exit s) n h = ap body_of_note (same-is (Exit s) n h)
+note-body (item.Enter s) n h = ap body_of_note (same-is (Enter s) n h)
+note-body (item.Init s) n h = ap body_of_note (same-is (Init s) n h)
+note-body item.Done n h = ap body_of_note (same-is Done n h)
+note-body (item.Say v) n h = ap body_of_note (same-is (Say v) n h)
+note-body (item.Unlock c) n h = ap body_of_note (same-is (Unlock c) n h)
 note-body b n h = absurd (false≢true h)
 
-body-note : (n : Note) → note_of (body_of n) ≡ Some n
-unfolding note_of
+body-note : (n : Note) → note_in (body_of_note n) ≡ Some n
+unfolding note_in
 body-note Begin = refl
 body-note (Run s k) = refl
 body-note Unhandled = refl
@@ -69,12 +69,12 @@ body-note (Say v) = refl
 body-note (Unlock c) = refl
 
 -- a record tells a note exactly where it is the note's record
-pub tells-is : (n : Note) (body : Body) (known : Known) → tells n body known ≡ true → record_of body known ≡ plain (body_of n)
+pub tells-is : (n : Note) (body : Body) (known : Known) → tells n body known ≡ true → record_of body known ≡ plain (body_of_note n)
 unfolding tells
 tells-is n body told.Nothing h = ap plain (note-body body n h)
 tells-is n body known h = absurd (false≢true h)
 
-pub is-tells : (n : Note) → tells n (body_of n) told.Nothing ≡ true
+pub is-tells : (n : Note) → tells n (body_of_note n) told.Nothing ≡ true
 unfolding tells
 is-tells n = rw (body-note n) (is-same n)
 

@@ -14,7 +14,7 @@ use Rattle.qp_check_calls.specs.CallState.{CallStage, Whole, CallState}
 use Rattle.qp_check_calls.specs.CallStateNext.{call_state_begin, stage_answer}
 use Rattle.qp_check_calls.specs.CallStateLaws.{ReadsBegin, ReadsWhole, ReadsNext}
 use Rattle.qp_check_course.specs.Goes.{Aim, Way, Starting, Stepping, moment_of}
-use Rattle.qp_check_course.specs.Machine.{State, AtPoint, InCall, AtPost, Asserted, Goes, has_inner, answered, resumed, resume, deed_state, task_state, closed, closing, settle, point_next, next, expects_point}
+use Rattle.qp_check_course.specs.Machine.{State, AtPoint, InCall, AtPost, Asserted, Goes, has_inner, answered, resumed, resume, deed_state, task_state, step_closed, closing, tasks_state, point_next, state_next, expects_point}
 use Rattle.qp_check_course.specs.Passing.{through, settle_past, pass_actions, pass}
 use Rattle.qp_check_course.proofs.BackLemmas.{next-goes}
 use Rattle.qp_model.proofs.AbleLemmas.{some-same}
@@ -58,9 +58,9 @@ unfolding pass
 at_point a ev e ts leaf d = refl
 
 module _ (a : Actor) where
-  pub settle-shape : (ev : Event) (e : Entry) (leaf : ℕ) (t : Task) (ts : List Task) (c : Config) → Shape ev e leaf ts (settle a (Stepping ev e) leaf (t ∷ ts) c)
-  unfolding settle
-  settle-shape ev e leaf t ts c = task-shape a ev e leaf ts (λ d. settle a (Stepping ev e) leaf ts d) t c
+  pub settle-shape : (ev : Event) (e : Entry) (leaf : ℕ) (t : Task) (ts : List Task) (c : Config) → Shape ev e leaf ts (tasks_state a (Stepping ev e) leaf (t ∷ ts) c)
+  unfolding tasks_state
+  settle-shape ev e leaf t ts c = task-shape a ev e leaf ts (λ d. tasks_state a (Stepping ev e) leaf ts d) t c
 
   pub through-none : (s : State) (go : Config → State) → expects_point s ≡ false → through s go ≡ s
   through-none (AtPoint ev e ts leaf c) go h = absurd (cc)
@@ -68,15 +68,15 @@ module _ (a : Actor) where
   through-none _ go h = refl
 
   -- the end of a step expects no point
-  closed-none : (p : ℕ) (e : Entry) (c : Config) → expects_point (closed p e c) ≡ false
+  closed-none : (p : ℕ) (e : Entry) (c : Config) → expects_point (step_closed p e c) ≡ false
   closed-none zero e c = refl
   closed-none (suc p) e c = refl
 
   -- what tasks of a step come to once their points are passed
-  pub pass-settle : (ev : Event) (e : Entry) (leaf : ℕ) (ts : List Task) (c : Config) → pass a (settle a (Stepping ev e) leaf ts c) ≡ settle_past a ev e leaf ts c
-  unfolding settle_past settle pass pass_actions
+  pub pass-settle : (ev : Event) (e : Entry) (leaf : ℕ) (ts : List Task) (c : Config) → pass a (tasks_state a (Stepping ev e) leaf ts c) ≡ settle_past a ev e leaf ts c
+  unfolding settle_past tasks_state pass pass_actions
   pass-settle ev e leaf [] c = pass-none a (closing (Stepping ev e) leaf c) (closed-none e.pool e (record c { leaf = leaf }))
-  pass-settle ev e leaf (t ∷ ts) c = by (settle a (Stepping ev e) leaf (t ∷ ts) c) (settle-shape ev e leaf t ts c)
+  pass-settle ev e leaf (t ∷ ts) c = by (tasks_state a (Stepping ev e) leaf (t ∷ ts) c) (settle-shape ev e leaf t ts c)
     where
       by : (s : State) → Shape ev e leaf ts s → pass a s ≡ through s (λ d. settle_past a ev e leaf ts d)
       by s (inl (d, is)) = subst (λ x. pass a x ≡ through x (λ d. settle_past a ev e leaf ts d)) (sym is) refl
@@ -89,32 +89,32 @@ module _ (a : Actor) where
   actions-none _ h = refl
 
   -- a start expects no point
-  pub start-none : (leaf : ℕ) (ts : List Task) (c : Config) → expects_point (settle a Starting leaf ts c) ≡ false
-  unfolding settle
+  pub start-none : (leaf : ℕ) (ts : List Task) (c : Config) → expects_point (tasks_state a Starting leaf ts c) ≡ false
+  unfolding tasks_state
   start-none leaf [] c = refl
   start-none leaf (t ∷ ts) c = by_task (λ d. start-none leaf ts d) t
     where
-      ended : ((d : Config) → expects_point (settle a Starting leaf ts d) ≡ false) → (b : Bool) (d : Config) → expects_point (answered b Starting leaf ts (λ d. settle a Starting leaf ts d) d) ≡ false
+      ended : ((d : Config) → expects_point (tasks_state a Starting leaf ts d) ≡ false) → (b : Bool) (d : Config) → expects_point (answered b Starting leaf ts (λ d. tasks_state a Starting leaf ts d) d) ≡ false
       ended none true d = refl
       ended none false d = none d
 
-      by_stage : ((d : Config) → expects_point (settle a Starting leaf ts d) ≡ false) → (inner : Bool) (rest : CallState) (s : CallStage) → expects_point (resumed (stage_answer s) Starting inner rest leaf ts (λ d. settle a Starting leaf ts d) c) ≡ false
+      by_stage : ((d : Config) → expects_point (tasks_state a Starting leaf ts d) ≡ false) → (inner : Bool) (rest : CallState) (s : CallStage) → expects_point (resumed (stage_answer s) Starting inner rest leaf ts (λ d. tasks_state a Starting leaf ts d) c) ≡ false
       by_stage none inner rest (Whole own) = ended none (is_assertion own) (record c { ok = ok_after own c.ok; kept = rest.kept })
       by_stage none inner rest s = refl
 
-      by_deed : ((d : Config) → expects_point (settle a Starting leaf ts d) ≡ false) → (d : Deed) → expects_point (deed_state a Starting leaf ts (λ d. settle a Starting leaf ts d) c d) ≡ false
+      by_deed : ((d : Config) → expects_point (tasks_state a Starting leaf ts d) ≡ false) → (d : Deed) → expects_point (deed_state a Starting leaf ts (λ d. tasks_state a Starting leaf ts d) c d) ≡ false
       by_deed none (Sets var value) = none (record c { vars = slice_set c.vars var value })
       by_deed none (Says value) = refl
       by_deed none (Calls x) = by_stage none (has_inner Starting x) (call_state_begin a.room c.kept x) (call_state_begin a.room c.kept x).stage
 
-      by_task : ((d : Config) → expects_point (settle a Starting leaf ts d) ≡ false) → (t : Task) → expects_point (task_state a Starting leaf ts (λ d. settle a Starting leaf ts d) c t) ≡ false
+      by_task : ((d : Config) → expects_point (tasks_state a Starting leaf ts d) ≡ false) → (t : Task) → expects_point (task_state a Starting leaf ts (λ d. tasks_state a Starting leaf ts d) c t) ≡ false
       by_task none (task.Do p) = by_deed none (deed_of (names_of a c (moment_of Starting).event) p)
       by_task none _ = refl
 
   -- behind a post of a publication an action's point is expected, or none
   resume-plain : (way : Way) (inner : Bool) (rest : CallState) (ts : List Task) (leaf : ℕ) (c : Config)
-      → pass a (resume way inner rest leaf ts (settle a way leaf ts) c) ≡ pass_actions a (resume way inner rest leaf ts (settle a way leaf ts) c)
-  resume-plain (Stepping ev e) inner rest ts leaf c = by (resume (Stepping ev e) inner rest leaf ts (settle a (Stepping ev e) leaf ts) c) (resume-shape a ev e leaf ts (settle a (Stepping ev e) leaf ts) inner rest c)
+      → pass a (resume way inner rest leaf ts (tasks_state a way leaf ts) c) ≡ pass_actions a (resume way inner rest leaf ts (tasks_state a way leaf ts) c)
+  resume-plain (Stepping ev e) inner rest ts leaf c = by (resume (Stepping ev e) inner rest leaf ts (tasks_state a (Stepping ev e) leaf ts) c) (resume-shape a ev e leaf ts (tasks_state a (Stepping ev e) leaf ts) inner rest c)
     where
       at : (d : Config) → pass a (AtPoint ev e ts leaf d) ≡ pass_actions a (AtPoint ev e ts leaf d)
       at d = at_point a ev e ts leaf d
@@ -127,12 +127,12 @@ module _ (a : Actor) where
       none : (s : State) → expects_point s ≡ false → pass a s ≡ pass_actions a s
       none s h = pass-none a s h ∙ sym (actions-none s h)
 
-      ended : (b : Bool) (d : Config) → pass a (answered b Starting leaf ts (settle a Starting leaf ts) d) ≡ pass_actions a (answered b Starting leaf ts (settle a Starting leaf ts) d)
+      ended : (b : Bool) (d : Config) → pass a (answered b Starting leaf ts (tasks_state a Starting leaf ts) d) ≡ pass_actions a (answered b Starting leaf ts (tasks_state a Starting leaf ts) d)
       ended true d = none Asserted refl
-      ended false d = none (settle a Starting leaf ts d) (start-none leaf ts d)
+      ended false d = none (tasks_state a Starting leaf ts d) (start-none leaf ts d)
 
-      by_stage : (s : CallStage) → pass a (resumed (stage_answer s) Starting inner rest leaf ts (settle a Starting leaf ts) c)
-          ≡ pass_actions a (resumed (stage_answer s) Starting inner rest leaf ts (settle a Starting leaf ts) c)
+      by_stage : (s : CallStage) → pass a (resumed (stage_answer s) Starting inner rest leaf ts (tasks_state a Starting leaf ts) c)
+          ≡ pass_actions a (resumed (stage_answer s) Starting inner rest leaf ts (tasks_state a Starting leaf ts) c)
       by_stage (Whole own) = ended (is_assertion own) (record c { ok = ok_after own c.ok; kept = rest.kept })
       by_stage s = none (InCall Starting inner rest ts leaf c) refl
 
@@ -148,31 +148,31 @@ module _ (begin : ReadsBegin) (whole : ReadsWhole) (reads_next : ReadsNext) (sys
   abbrev Unpassed : State → List Piece → Type 0
   Unpassed s zs = (us : List Piece) × (records_in us ≡ []) × Goes sys a aim s (us ++ zs)
 
-  point-before : (s later : State) (zs : List Piece) → next sys a s Point ≡ Some later → Unpassed later zs → Unpassed s zs
+  point-before : (s later : State) (zs : List Piece) → state_next sys a s Point ≡ Some later → Unpassed later zs → Unpassed s zs
   unfolding records_in
   point-before s later zs is (us, none, k) = (Point ∷ us, none, next-goes begin whole reads_next sys a aim s Point (us ++ zs) later is k)
 
   unsettle : (ev : Event) (e : Entry) (leaf : ℕ) (ts : List Task) (c : Config) (zs : List Piece) → Goes sys a aim (settle_past a ev e leaf ts c) zs
-      → Unpassed (settle a (Stepping ev e) leaf ts c) zs
-  unfolding settle_past settle next point_next records_in
+      → Unpassed (tasks_state a (Stepping ev e) leaf ts c) zs
+  unfolding settle_past tasks_state state_next point_next records_in
   unsettle ev e leaf [] c zs h = ([], refl, h)
-  unsettle ev e leaf (t ∷ ts) c zs h = by (λ d k. unsettle ev e leaf ts d zs k) (settle a (Stepping ev e) leaf (t ∷ ts) c) (settle-shape a ev e leaf t ts c) h
+  unsettle ev e leaf (t ∷ ts) c zs h = by (λ d k. unsettle ev e leaf ts d zs k) (tasks_state a (Stepping ev e) leaf (t ∷ ts) c) (settle-shape a ev e leaf t ts c) h
     where
-      by : ((d : Config) → Goes sys a aim (settle_past a ev e leaf ts d) zs → Unpassed (settle a (Stepping ev e) leaf ts d) zs) → (s : State) → Shape ev e leaf ts s
+      by : ((d : Config) → Goes sys a aim (settle_past a ev e leaf ts d) zs → Unpassed (tasks_state a (Stepping ev e) leaf ts d) zs) → (s : State) → Shape ev e leaf ts s
           → Goes sys a aim (through s (λ d. settle_past a ev e leaf ts d)) zs → Unpassed s zs
       by more s (inl (d, is)) k =
           let here : Goes sys a aim (settle_past a ev e leaf ts d) zs = subst (λ x. Goes sys a aim (through x (λ d. settle_past a ev e leaf ts d)) zs) is k in
-          subst (λ x. Unpassed x zs) (sym is) (point-before (AtPoint ev e ts leaf d) (settle a (Stepping ev e) leaf ts d) zs refl (more d here))
+          subst (λ x. Unpassed x zs) (sym is) (point-before (AtPoint ev e ts leaf d) (tasks_state a (Stepping ev e) leaf ts d) zs refl (more d here))
       by more s (inr none) k = ([], refl, subst (λ x. Goes sys a aim x zs) (through-none a s (λ d. settle_past a ev e leaf ts d) none) k)
 
   unpass-actions : (s : State) (zs : List Piece) → Goes sys a aim (pass_actions a s) zs → Unpassed s zs
-  unfolding pass_actions next point_next records_in
-  unpass-actions (AtPoint ev e ts leaf c) zs h = point-before (AtPoint ev e ts leaf c) (settle a (Stepping ev e) leaf ts c) zs refl (unsettle ev e leaf ts c zs h)
+  unfolding pass_actions state_next point_next records_in
+  unpass-actions (AtPoint ev e ts leaf c) zs h = point-before (AtPoint ev e ts leaf c) (tasks_state a (Stepping ev e) leaf ts c) zs refl (unsettle ev e leaf ts c zs h)
   unpass-actions s zs h = ([], refl, h)
 
   pub unpass : (s : State) (zs : List Piece) → Goes sys a aim (pass a s) zs → Unpassed s zs
-  unfolding pass next point_next
+  unfolding pass state_next point_next
   unpass (AtPost way rest ts leaf c) zs h =
-      point-before (AtPost way rest ts leaf c) (resume way true rest leaf ts (settle a way leaf ts) c) zs refl
-      (unpass-actions (resume way true rest leaf ts (settle a way leaf ts) c) zs h)
+      point-before (AtPost way rest ts leaf c) (resume way true rest leaf ts (tasks_state a way leaf ts) c) zs refl
+      (unpass-actions (resume way true rest leaf ts (tasks_state a way leaf ts) c) zs h)
   unpass s zs h = unpass-actions s zs h

@@ -11,7 +11,7 @@ use Rattle.qp_check_course.specs.Followable.{IsFollowable}
 use Rattle.qp_check_course.specs.Machine.{State, start_state, tell_next}
 use Rattle.qp_check_course.specs.Passing.{pass, run_told}
 use Rattle.qp_check_course.specs.Reading.{LeavesOf}
-use Rattle.qp_check_course.specs.Standing.{FollowSomehow, ShowsLeft, StandsAt, left_in}
+use Rattle.qp_check_course.specs.Standing.{FollowSomehow, ShowsLeft, StandsAt, config_left_in}
 use Rattle.qp_check_course.specs.declared.reading.CourseReading.{CourseReading}
 use Rattle.qp_check_course.specs.declared.standing.Standing.{Standing}
 use Rattle.qp_check_course.proofs.StandingLemmas.{are-read, read-at, stands-at}
@@ -52,7 +52,7 @@ module _ (sys : System) (d : ObjectDef) (r : CourseReading) where
       are-read sys d f all follow (sym same ∙ none)
 
   -- where the course stands when no record is left
-  pub leaves-stand : (all : List Told) (x : Option Standing) → ShowsLeft (left_in (as_state r.state)) x → IsFollowable sys d → FollowSomehow sys d all
+  pub leaves-stand : (all : List Told) (x : Option Standing) → ShowsLeft (config_left_in (as_state r.state)) x → IsFollowable sys d → FollowSomehow sys d all
       → LeavesOf sys d r [] all → StandsAt sys d all x
   leaves-stand all x shows f follow h =
       let own = r.who.sys.now in

@@ -25,8 +25,8 @@ use Rattle.qp_check_calls.specs.Reads.{IsRestOfCall, call_able}
 use Rattle.qp_check_calls.specs.CallStateLaws.{ReadsBegin, ReadsNext, OpenBegin, OpenNext}
 use Rattle.qp_check_course.specs.Note.{tells, raised_from, entry_and_event_taken, dropped_by, comes_back}
 use Rattle.qp_check_course.specs.Goes.{Way, Starting, Stepping, moment_of}
-use Rattle.qp_check_course.specs.Machine.{State, Between, Telling, Raising, AtPoint, InCall, AtPost, Releasing, Returning, Asserted, has_inner, done, answered, resumed, resume, deed_state, task_state, closed, settle, noted, posted, step_state, start_state, left_over, tell_next, point_next, next}
-use Rattle.qp_check_course.specs.Ready.{AreAble, IsWithin, CanGoOn, MayGoOnFrom}
+use Rattle.qp_check_course.specs.Machine.{State, Between, Telling, Raising, AtPoint, InCall, AtPost, Releasing, Returning, Asserted, has_inner, action_done, answered, resumed, resume, deed_state, task_state, step_closed, tasks_state, behind_note, call_told, step_state, start_state, behind_dec, tell_next, point_next, state_next}
+use Rattle.qp_check_course.specs.Ready.{AreTasksAble, IsWithin, CanGoOn, MayGoOnFrom}
 use Rattle.qp_check_course.proofs.KeptLemmas.{keeps-within}
 use Rattle.qp_check_course.proofs.FlushedLemmas.{flushed-few}
 use Rattle.qp_model.proofs.KernelLaneLemmas.{granted}
@@ -48,12 +48,12 @@ deed-able sys now names (action.Publish sig pars reserve) h = rw length-map h
 deed-able sys now names action.Defer h = h
 deed-able sys now names _ h = refl
 
-module _ (sys : System) (a : Actor) (way : Way) (leaf : ℕ) (ts : List Task) (able : AreAble sys way ts) (go : Config → State)
+module _ (sys : System) (a : Actor) (way : Way) (leaf : ℕ) (ts : List Task) (able : AreTasksAble sys way ts) (go : Config → State)
     (ready : (d : Config) → IsWithin a d → MayGoOnFrom sys a (go d)) where
-  ready-done : (c : Config) → IsWithin a c → MayGoOnFrom sys a (done way leaf ts go c)
+  ready-done : (c : Config) → IsWithin a c → MayGoOnFrom sys a (action_done way leaf ts go c)
   ready-done c within = by way able
     where
-      by : (w : Way) → AreAble sys w ts → MayGoOnFrom sys a (done w leaf ts go c)
+      by : (w : Way) → AreTasksAble sys w ts → MayGoOnFrom sys a (action_done w leaf ts go c)
       by Starting able = ready c within
       by (Stepping ev e) able = (able, within)
 
@@ -93,18 +93,18 @@ module _ (sys : System) (a : Actor) (way : Way) (leaf : ℕ) (ts : List Task) (a
       ready-deed begin first (deed_of (names_of a c (moment_of way).event) p) c (deed-able sys (moment_of way).entry (names_of a c (moment_of way).event) p asked) within
   ready-task begin first _ c asked within = (able, within)
 
-pub ready-settle : ReadsBegin → OpenBegin → (sys : System) (a : Actor) (way : Way) (leaf : ℕ) (ts : List Task) (c : Config) → AreAble sys way ts → IsWithin a c
-    → MayGoOnFrom sys a (settle a way leaf ts c)
-unfolding settle
+pub ready-settle : ReadsBegin → OpenBegin → (sys : System) (a : Actor) (way : Way) (leaf : ℕ) (ts : List Task) (c : Config) → AreTasksAble sys way ts → IsWithin a c
+    → MayGoOnFrom sys a (tasks_state a way leaf ts c)
+unfolding tasks_state
 ready-settle begin first sys a Starting leaf [] c able within = within
 ready-settle begin first sys a (Stepping ev e) leaf [] c able within = by e.pool
   where
-    by : (p : ℕ) → MayGoOnFrom sys a (closed p e (record c { leaf = leaf }))
+    by : (p : ℕ) → MayGoOnFrom sys a (step_closed p e (record c { leaf = leaf }))
     by zero = within
     by (suc p) = within
 ready-settle begin first sys a way leaf (t ∷ ts) c able within =
     let rest = able-rest (task_able sys (is_some (moment_of way).entry)) t ts able in
-    ready-task sys a way leaf ts rest (settle a way leaf ts) (λ d w. ready-settle begin first sys a way leaf ts d rest w) begin first t c
+    ready-task sys a way leaf ts rest (tasks_state a way leaf ts) (λ d w. ready-settle begin first sys a way leaf ts d rest w) begin first t c
     (able-first (task_able sys (is_some (moment_of way).entry)) t ts able) within
 
 module _ (begin : ReadsBegin) (reads_next : ReadsNext) (first : OpenBegin) (open_next : OpenNext) (sys : System) (a : Actor) (able : chart_able sys a.chart ≡ true) where
@@ -119,15 +119,15 @@ module _ (begin : ReadsBegin) (reads_next : ReadsNext) (first : OpenBegin) (open
   unfolding start_state
   ready-start c within = ready-settle begin first sys a Starting (start_plan a.chart).leaf (start_plan a.chart).tasks c (start-able sys a.chart able) within
 
-  ready-noted : (way : Way) (ends : Bool) (leaf : ℕ) (ts : List Task) (c : Config) → AreAble sys way ts → IsWithin a c → MayGoOnFrom sys a (noted a way ends leaf ts c)
-  ready-noted way true leaf ts c asked within = ready-done sys a way leaf ts asked (settle a way leaf ts) (λ d w. ready-settle begin first sys a way leaf ts d asked w) c within
+  ready-noted : (way : Way) (ends : Bool) (leaf : ℕ) (ts : List Task) (c : Config) → AreTasksAble sys way ts → IsWithin a c → MayGoOnFrom sys a (behind_note a way ends leaf ts c)
+  ready-noted way true leaf ts c asked within = ready-done sys a way leaf ts asked (tasks_state a way leaf ts) (λ d w. ready-settle begin first sys a way leaf ts d asked w) c within
   ready-noted way false leaf ts c asked within = ready-settle begin first sys a way leaf ts c asked within
 
-  ready-posted : (b : Bool) (way : Way) (inner : Bool) (rest : CallState) (leaf : ℕ) (ts : List Task) (c : Config) → AreAble sys way ts → CanGoOn sys a way rest
-      → MayGoOnFrom sys a (posted b a way inner rest leaf ts c)
+  ready-posted : (b : Bool) (way : Way) (inner : Bool) (rest : CallState) (leaf : ℕ) (ts : List Task) (c : Config) → AreTasksAble sys way ts → CanGoOn sys a way rest
+      → MayGoOnFrom sys a (call_told b a way inner rest leaf ts c)
   ready-posted true way inner rest leaf ts c asked can = (can, asked)
   ready-posted false way inner rest leaf ts c asked can =
-      ready-resume sys a way leaf ts asked (settle a way leaf ts) (λ d w. ready-settle begin first sys a way leaf ts d asked w) inner rest c can
+      ready-resume sys a way leaf ts asked (tasks_state a way leaf ts) (λ d w. ready-settle begin first sys a way leaf ts d asked w) inner rest c can
 
   -- a record of a call leaves it so
   pub can-next : (way : Way) (rest more : CallState) (t : Told) → call_state_next sys a.o (moment_of way).entry rest t ≡ Some more → CanGoOn sys a way rest → CanGoOn sys a way more
@@ -137,28 +137,28 @@ module _ (begin : ReadsBegin) (reads_next : ReadsNext) (first : OpenBegin) (open
     flushed = λ n kept g reads. can.flushed n kept (t ∷ g) ((reads_next sys a.o (moment_of way).entry rest (Flushed n) kept t g).1 (more, is, reads));
   }
 
-  pub ready-next : (s : State) (p : Piece) (later : State) → next sys a s p ≡ Some later → MayGoOnFrom sys a s → MayGoOnFrom sys a later
-  unfolding next tell_next point_next
+  pub ready-next : (s : State) (p : Piece) (later : State) → state_next sys a s p ≡ Some later → MayGoOnFrom sys a s → MayGoOnFrom sys a later
+  unfolding state_next tell_next point_next
   ready-next (Between c) (Tell t) later e h =
       let at = mapped (λ (x : Entry × Event). step_state a x.0 x.1 c) (entry_and_event_taken t.body t.known) later e in
       subst (MayGoOnFrom sys a) at.2 (ready-step at.0.0 at.0.1 c h)
   ready-next (Telling way n ends ts leaf c) (Tell t) later e h =
-      let at = granted (tells n t.body t.known) (noted a way ends leaf ts c) later e in
+      let at = granted (tells n t.body t.known) (behind_note a way ends leaf ts c) later e in
       subst (MayGoOnFrom sys a) at.1 (ready-noted way ends leaf ts c h.0 h.1)
   ready-next (Raising way ceiling ts leaf c) (Tell t) later e h =
-      let at = mapped (λ former. settle a way leaf ts (record c { former = former })) (raised_from ceiling t.body t.known) later e in
+      let at = mapped (λ former. tasks_state a way leaf ts (record c { former = former })) (raised_from ceiling t.body t.known) later e in
       let former : ℕ = at.0 in
       subst (MayGoOnFrom sys a) at.2 (ready-settle begin first sys a way leaf ts (record c { former = former }) h.0 h.1)
   ready-next (AtPoint ev x ts leaf c) (Tell t) later e h = absurd (none-some _ e)
   ready-next (InCall way inner rest ts leaf c) (Tell t) later e h =
-      let at = mapped (λ more. posted (inner && is_post t.body) a way inner more leaf ts (record c { kept = more.kept })) (call_state_next sys a.o (moment_of way).entry rest t) later e in
+      let at = mapped (λ more. call_told (inner && is_post t.body) a way inner more leaf ts (record c { kept = more.kept })) (call_state_next sys a.o (moment_of way).entry rest t) later e in
       subst (MayGoOnFrom sys a) at.2 (ready-posted (inner && is_post t.body) way inner at.0 leaf ts (record c { kept = at.0.kept }) h.2 (can-next way rest at.0 t at.1 h.1))
   ready-next (AtPost way rest ts leaf c) (Tell t) later e h = absurd (none-some _ e)
   ready-next (Releasing x c) (Tell t) later e h =
-      let at = mapped (λ (y : ℕ × ℕ). left_over x y.0 y.1 c) (dropped_by x t.body t.known) later e in
+      let at = mapped (λ (y : ℕ × ℕ). behind_dec x y.0 y.1 c) (dropped_by x t.body t.known) later e in
       subst (MayGoOnFrom sys a) at.2 (by at.0.0 at.0.1)
     where
-      by : (d left : ℕ) → MayGoOnFrom sys a (left_over x d left c)
+      by : (d left : ℕ) → MayGoOnFrom sys a (behind_dec x d left c)
       by d zero = h
       by d (suc left) = h
   ready-next (Returning p b d c) (Tell t) later e h =
@@ -169,5 +169,5 @@ module _ (begin : ReadsBegin) (reads_next : ReadsNext) (first : OpenBegin) (open
       subst (MayGoOnFrom sys a) (some-same e) (ready-settle begin first sys a (Stepping ev x) leaf ts c h.0 h.1)
   ready-next (AtPost way rest ts leaf c) Point later e h =
       subst (MayGoOnFrom sys a) (some-same e)
-      (ready-resume sys a way leaf ts h.1 (settle a way leaf ts) (λ d w. ready-settle begin first sys a way leaf ts d h.1 w) true rest c h.0)
+      (ready-resume sys a way leaf ts h.1 (tasks_state a way leaf ts) (λ d w. ready-settle begin first sys a way leaf ts d h.1 w) true rest c h.0)
   ready-next s Point later e h = absurd (none-some _ e)

@@ -17,7 +17,7 @@ use Rattle.qp_check_calls.specs.CallStateNext.{call_state_begin, stage_answer}
 use Rattle.qp_check_calls.specs.Reads.{IsRestOfCall}
 use Rattle.qp_check_calls.specs.CallStateLaws.{ReadsBegin, ReadsWhole}
 use Rattle.qp_check_course.specs.Goes.{Aim, Way, Starting, Stepping, moment_of, Ends, call_pieces, CallGoes, DeedGoes, TaskGoes, TasksGo, Closing, StepsGo, LeftGoes}
-use Rattle.qp_check_course.specs.Machine.{State, inner_pieces, has_inner, CallStateGoes, Goes, done, answered, resumed, resume, deed_state, task_state, closed, settle}
+use Rattle.qp_check_course.specs.Machine.{State, inner_pieces, has_inner, CallStateGoes, Goes, action_done, answered, resumed, resume, deed_state, task_state, step_closed, tasks_state}
 
 -- the pieces of a call, by whether it has points inside
 pub pieces-inner : (way : Way) (x : Call) (g : List Told) → call_pieces way x g ≡ inner_pieces (has_inner way x) g
@@ -49,19 +49,19 @@ module _ (sys : System) (a : Actor) (aim : Aim) (way : Way) (leaf : ℕ) (ts : L
   abbrev pub Back : Type 0
   Back = (d : Config) (ps : List Piece) → Goes sys a aim (go d) ps → LeftGoes sys a aim way ts leaf d ps
 
-  pub into-done : Into → (d : Config) (ps : List Piece) → Ends way (LeftGoes sys a aim way ts leaf d) ps → Goes sys a aim (done way leaf ts go d) ps
+  pub into-done : Into → (d : Config) (ps : List Piece) → Ends way (LeftGoes sys a aim way ts leaf d) ps → Goes sys a aim (action_done way leaf ts go d) ps
   unfolding Goes
   into-done into d ps = by way into
     where
-      by : (way : Way) → ((d : Config) (ps : List Piece) → LeftGoes sys a aim way ts leaf d ps → Goes sys a aim (go d) ps) → Ends way (LeftGoes sys a aim way ts leaf d) ps → Goes sys a aim (done way leaf ts go d) ps
+      by : (way : Way) → ((d : Config) (ps : List Piece) → LeftGoes sys a aim way ts leaf d ps → Goes sys a aim (go d) ps) → Ends way (LeftGoes sys a aim way ts leaf d) ps → Goes sys a aim (action_done way leaf ts go d) ps
       by Starting into h = into d ps h
       by (Stepping ev e) into h = h
 
-  pub back-done : Back → (d : Config) (ps : List Piece) → Goes sys a aim (done way leaf ts go d) ps → Ends way (LeftGoes sys a aim way ts leaf d) ps
+  pub back-done : Back → (d : Config) (ps : List Piece) → Goes sys a aim (action_done way leaf ts go d) ps → Ends way (LeftGoes sys a aim way ts leaf d) ps
   unfolding Goes
   back-done back d ps = by way back
     where
-      by : (way : Way) → ((d : Config) (ps : List Piece) → Goes sys a aim (go d) ps → LeftGoes sys a aim way ts leaf d ps) → Goes sys a aim (done way leaf ts go d) ps → Ends way (LeftGoes sys a aim way ts leaf d) ps
+      by : (way : Way) → ((d : Config) (ps : List Piece) → Goes sys a aim (go d) ps → LeftGoes sys a aim way ts leaf d ps) → Goes sys a aim (action_done way leaf ts go d) ps → Ends way (LeftGoes sys a aim way ts leaf d) ps
       by Starting back h = back d ps h
       by (Stepping ev e) back h = h
 
@@ -179,28 +179,28 @@ module _ (sys : System) (a : Actor) (aim : Aim) (way : Way) (leaf : ℕ) (ts : L
 
 -- the tasks left, and the state in which they are left
 pub into-settle : ReadsBegin → ReadsWhole → (sys : System) (a : Actor) (aim : Aim) (way : Way) (leaf : ℕ) (ts : List Task) (c : Config) (ps : List Piece)
-    → LeftGoes sys a aim way ts leaf c ps → Goes sys a aim (settle a way leaf ts c) ps
-unfolding LeftGoes TasksGo settle Goes Closing Drops
+    → LeftGoes sys a aim way ts leaf c ps → Goes sys a aim (tasks_state a way leaf ts c) ps
+unfolding LeftGoes TasksGo tasks_state Goes Closing Drops
 into-settle begin whole sys a aim Starting leaf [] c ps h = h
 into-settle begin whole sys a aim (Stepping ev e) leaf [] c ps h = by e.pool h
   where
     by : (p : ℕ) → (rel : List Told) × (rest : List Piece) × releases_by p e rel × (ps ≡ tell rel ++ rest) × StepsGo sys a aim (record c { leaf = leaf }) rest
-        → Goes sys a aim (closed p e (record c { leaf = leaf })) ps
+        → Goes sys a aim (step_closed p e (record c { leaf = leaf })) ps
     by zero (rel, rest, drops, is, k) = let same : ps ≡ rest = is ∙ ap (λ zs. tell zs ++ rest) drops in subst (StepsGo sys a aim (record c { leaf = leaf })) (sym same) k
     by (suc p) k = k
 into-settle begin whole sys a aim way leaf (t ∷ ts) c ps h =
-    into-task sys a aim way leaf ts (λ d. settle a way leaf ts d) begin whole (λ d zs k. into-settle begin whole sys a aim way leaf ts d zs k) t c ps h
+    into-task sys a aim way leaf ts (λ d. tasks_state a way leaf ts d) begin whole (λ d zs k. into-settle begin whole sys a aim way leaf ts d zs k) t c ps h
 
 -- and back
 pub back-settle : ReadsBegin → (sys : System) (a : Actor) (aim : Aim) (way : Way) (leaf : ℕ) (ts : List Task) (c : Config) (ps : List Piece)
-    → Goes sys a aim (settle a way leaf ts c) ps → LeftGoes sys a aim way ts leaf c ps
-unfolding LeftGoes TasksGo settle Goes Closing Drops
+    → Goes sys a aim (tasks_state a way leaf ts c) ps → LeftGoes sys a aim way ts leaf c ps
+unfolding LeftGoes TasksGo tasks_state Goes Closing Drops
 back-settle begin sys a aim Starting leaf [] c ps h = h
 back-settle begin sys a aim (Stepping ev e) leaf [] c ps h = by e.pool h
   where
-    by : (p : ℕ) → Goes sys a aim (closed p e (record c { leaf = leaf })) ps
+    by : (p : ℕ) → Goes sys a aim (step_closed p e (record c { leaf = leaf })) ps
         → (rel : List Told) × (rest : List Piece) × releases_by p e rel × (ps ≡ tell rel ++ rest) × StepsGo sys a aim (record c { leaf = leaf }) rest
     by zero k = ([], ps, refl, refl, k)
     by (suc p) k = k
 back-settle begin sys a aim way leaf (t ∷ ts) c ps h =
-    back-task sys a aim way leaf ts (λ d. settle a way leaf ts d) begin (λ d zs k. back-settle begin sys a aim way leaf ts d zs k) t c ps h
+    back-task sys a aim way leaf ts (λ d. tasks_state a way leaf ts d) begin (λ d zs k. back-settle begin sys a aim way leaf ts d zs k) t c ps h

@@ -26,10 +26,10 @@ use Rattle.qp_check_calls.proofs.OpenLemmas.{open-begin, open-next}
 use Rattle.qp_check_calls.proofs.ReadLemmas.{reads-next, reads-whole}
 use Rattle.qp_check_calls.proofs.SomeLemmas.{open-reads}
 use Rattle.qp_check_course.specs.Followable.{IsFollowable}
-use Rattle.qp_check_course.specs.Goes.{Aim, Meets, Starting, CourseGoes}
+use Rattle.qp_check_course.specs.Goes.{Aim, MeetsAim, Starting, CourseGoes}
 use Rattle.qp_check_course.specs.Machine.{State, Between, Releasing, Returning, Goes, start_state}
 use Rattle.qp_check_course.specs.Passing.{run_told, is_none_told, told_well, told_to, asserts_where_cut}
-use Rattle.qp_check_course.specs.Standing.{left_in, ShowsLeft, FollowSomehow, LeavesAt, StandsAt}
+use Rattle.qp_check_course.specs.Standing.{config_left_in, ShowsLeft, FollowSomehow, LeavesAt, StandsAt}
 use Rattle.qp_check_course.specs.declared.standing.Standing.{Standing}
 use Rattle.qp_check_course.proofs.CourseLemmas.{goes-course, steps-none}
 use Rattle.qp_check_course.proofs.DoneLemmas.{open_of, open_in, start-under, told-counts, told-quiet}
@@ -46,7 +46,7 @@ at c = λ d. d ≡ c
 abbrev Stays : System → Actor → State → Config → Type 0
 Stays sys a s c = (back : List Piece) × Goes sys a (at c) s back × (begins_nothing back ≡ true) × (asserts_none (records_in back) ≡ true)
 
-rests : (sys : System) (a : Actor) (s : State) (c : Config) → left_in s ≡ Some c → Stays sys a s c
+rests : (sys : System) (a : Actor) (s : State) (c : Config) → config_left_in s ≡ Some c → Stays sys a s c
 unfolding Goes records_in
 rests sys a (Between d) c h = ([], steps-none sys a (at c) d cc, refl, refl)
 rests sys a (Releasing e d) c h = (
@@ -95,7 +95,7 @@ module _ (sys : System) (d : ObjectDef) (f : IsFollowable sys d) (g : List Told)
     quiet rests = told-quiet sys a g (start_state a (first_config d)) s read (start-under a (first_config d)).0 rests last-asserts
 
     -- the course comes there
-    leaves : (c : Config) → left_in s ≡ Some c → LeavesAt sys d f.its g c
+    leaves : (c : Config) → config_left_in s ≡ Some c → LeavesAt sys d f.its g c
     unfolding LeavesAt CourseGoes start_state
     leaves c is =
         let rest = rests sys a s c is in
@@ -106,7 +106,7 @@ module _ (sys : System) (d : ObjectDef) (f : IsFollowable sys d) (g : List Told)
         ended whole.0 rest.0 whole.1 rest.2 rest.3 course.0 course.1 course.2 course.3
       where
         ended : (ps back : List Piece) → records_in ps ≡ g → begins_nothing back ≡ true → asserts_none (records_in back) ≡ true → (es : List Entry) (end : Option Config)
-            → Course sys a (first_config d) es (ps ++ back) end → Meets (at c) end → LeavesAt sys d f.its g c
+            → Course sys a (first_config d) es (ps ++ back) end → MeetsAim (at c) end → LeavesAt sys d f.its g c
         ended ps back same begins none es None course met =
             let rests : open_in s ≡ 0 = ap open_of is in
             let all : asserts_none (records_in (ps ++ back)) ≡ true =
@@ -116,11 +116,11 @@ module _ (sys : System) (d : ObjectDef) (f : IsFollowable sys d) (g : List Told)
             (ps, back, es, same, begins, subst (λ x. Course sys a (first_config d) es (ps ++ back) (Some x)) met course)
 
     -- what is told of it
-    pub stands-at : (x : Option Standing) → ShowsLeft (left_in s) x → StandsAt sys d g x
+    pub stands-at : (x : Option Standing) → ShowsLeft (config_left_in s) x → StandsAt sys d g x
     unfolding StandsAt
-    stands-at x shows = by (left_in s) refl x shows
+    stands-at x shows = by (config_left_in s) refl x shows
       where
-        by : (o : Option Config) → left_in s ≡ o → (x : Option Standing) → ShowsLeft o x → StandsAt sys d g x
+        by : (o : Option Config) → config_left_in s ≡ o → (x : Option Standing) → ShowsLeft o x → StandsAt sys d g x
         by None is x shows =
             let under : open_in s ≡ 1 = ap open_of is in
             let counts = counted in

@@ -11,13 +11,13 @@ use Rattle.qp_chart.specs.StateTree.{state_at}
 use Rattle.qp_chart.specs.Task.{Enter, Exit, tasks_of, acts_at, exits, entries}
 use Rattle.qp_chart.specs.Drill.{Plan, plan_before, drill}
 use Rattle.qp_check_course.specs.declared.tasks.CourseTask.{CourseTask}
-use Rattle.qp_check_course.specs.AsTask.{as_task, as_tasks}
+use Rattle.qp_check_course.specs.AsTask.{as_course_task, as_tasks}
 use Rattle.qp_chart_tree.specs.Plans.{AddsTasks}
 use Rattle.qp_chart_tree.proofs.PlanLemmas.{made-step, adds-more}
 
 -- a task is pushed
-pub pushed : (xs ys : List CourseTask) (t : CourseTask) → ys ≡ xs ++ t ∷ [] → as_tasks ys ≡ as_tasks xs ++ as_task t ∷ []
-pushed xs ys t e = ap as_tasks e ∙ map-append as_task xs (t ∷ [])
+pub pushed : (xs ys : List CourseTask) (t : CourseTask) → ys ≡ xs ++ t ∷ [] → as_tasks ys ≡ as_tasks xs ++ as_course_task t ∷ []
+pushed xs ys t e = ap as_tasks e ∙ map-append as_course_task xs (t ∷ [])
 
 pub acts-none : tasks_of [] ≡ []
 unfolding tasks_of

@@ -14,8 +14,8 @@ use Rattle.qp_model.specs.Course.{Cut, Whole, Stopped, Anywhere}
 use Rattle.qp_model.proofs.GroupLemmas.{bare-append}
 use Rattle.qp_check_calls.specs.CallStateLaws.{ReadsBegin, ReadsWhole, ReadsNext, OpenBegin, OpenNext, OpenReads}
 use Rattle.qp_check_course.specs.Goes.{Aim, anywhere, Stepping}
-use Rattle.qp_check_course.specs.Machine.{State, Between, Telling, Raising, AtPoint, InCall, AtPost, Releasing, Returning, Asserted, Goes, settle, resume, start_state, tell_next, point_next, next, is_end, expects_point}
-use Rattle.qp_check_course.specs.Ready.{AreAble, IsWithin, MayGoOnFrom}
+use Rattle.qp_check_course.specs.Machine.{State, Between, Telling, Raising, AtPoint, InCall, AtPost, Releasing, Returning, Asserted, Goes, tasks_state, resume, start_state, tell_next, point_next, state_next, is_course_end, expects_point}
+use Rattle.qp_check_course.specs.Ready.{AreTasksAble, IsWithin, MayGoOnFrom}
 use Rattle.qp_check_course.specs.Passing.{through, settle_past, pass_actions, pass, run_told, is_none_told, may_end_told, told_well}
 use Rattle.qp_check_course.proofs.NextLemmas.{goes-next}
 use Rattle.qp_check_course.proofs.BackLemmas.{next-goes}
@@ -27,7 +27,7 @@ use Rattle.qp_model.proofs.AbleLemmas.{some-same}
 use Rattle.qp_model.proofs.CutLemmas.{first-same, rest-same}
 
 -- a course that may end expects no point
-end-none : (s : State) → is_end s ≡ true → expects_point s ≡ false
+end-none : (s : State) → is_course_end s ≡ true → expects_point s ≡ false
 end-none (Between c) h = refl
 end-none Asserted h = refl
 end-none s h = absurd (false≢true h)
@@ -53,13 +53,13 @@ point-left t (Tell u ∷ us) e h = absurd (cc)
 
 module _ (begin : ReadsBegin) (whole : ReadsWhole) (reads_next : ReadsNext) (first : OpenBegin) (open_next : OpenNext) (open_reads : OpenReads)
     (sys : System) (a : Actor) (able : chart_able sys a.chart ≡ true) where
-  ready-past : (ev : Event) (e : Entry) (leaf : ℕ) (ts : List Task) (c : Config) → AreAble sys (Stepping ev e) ts → IsWithin a c → MayGoOnFrom sys a (settle_past a ev e leaf ts c)
-  unfolding settle_past settle
+  ready-past : (ev : Event) (e : Entry) (leaf : ℕ) (ts : List Task) (c : Config) → AreTasksAble sys (Stepping ev e) ts → IsWithin a c → MayGoOnFrom sys a (settle_past a ev e leaf ts c)
+  unfolding settle_past tasks_state
   ready-past ev e leaf [] c asked within = ready-settle begin first sys a (Stepping ev e) leaf [] c asked within
   ready-past ev e leaf (t ∷ ts) c asked within =
-      by (λ d asked within. ready-past ev e leaf ts d asked within) (settle a (Stepping ev e) leaf (t ∷ ts) c) (settle-shape a ev e leaf t ts c) (ready-settle begin first sys a (Stepping ev e) leaf (t ∷ ts) c asked within)
+      by (λ d asked within. ready-past ev e leaf ts d asked within) (tasks_state a (Stepping ev e) leaf (t ∷ ts) c) (settle-shape a ev e leaf t ts c) (ready-settle begin first sys a (Stepping ev e) leaf (t ∷ ts) c asked within)
     where
-      by : ((d : Config) → AreAble sys (Stepping ev e) ts → IsWithin a d → MayGoOnFrom sys a (settle_past a ev e leaf ts d)) → (s : State) → Shape ev e leaf ts s → MayGoOnFrom sys a s
+      by : ((d : Config) → AreTasksAble sys (Stepping ev e) ts → IsWithin a d → MayGoOnFrom sys a (settle_past a ev e leaf ts d)) → (s : State) → Shape ev e leaf ts s → MayGoOnFrom sys a s
           → MayGoOnFrom sys a (through s (λ d. settle_past a ev e leaf ts d))
       by more s (inl (d, is)) ready =
           let at : MayGoOnFrom sys a (AtPoint ev e ts leaf d) = subst (MayGoOnFrom sys a) is ready in
@@ -72,10 +72,10 @@ module _ (begin : ReadsBegin) (whole : ReadsWhole) (reads_next : ReadsNext) (fir
   ready-actions _ ready = ready
 
   ready-pass : (s : State) → MayGoOnFrom sys a s → MayGoOnFrom sys a (pass a s)
-  unfolding pass next point_next
+  unfolding pass state_next point_next
   ready-pass (AtPost way rest ts leaf c) ready =
-      ready-actions (resume way true rest leaf ts (settle a way leaf ts) c)
-      (ready-next begin reads_next first open_next sys a able (AtPost way rest ts leaf c) Point (resume way true rest leaf ts (settle a way leaf ts) c) refl ready)
+      ready-actions (resume way true rest leaf ts (tasks_state a way leaf ts) c)
+      (ready-next begin reads_next first open_next sys a able (AtPost way rest ts leaf c) Point (resume way true rest leaf ts (tasks_state a way leaf ts) c) refl ready)
   ready-pass (AtPoint ev e ts leaf c) ready = ready-actions (AtPoint ev e ts leaf c) ready
   ready-pass (Between c) ready = ready-actions (Between c) ready
   ready-pass (Telling way n ends ts leaf c) ready = ready-actions (Telling way n ends ts leaf c) ready
@@ -88,7 +88,7 @@ module _ (begin : ReadsBegin) (whole : ReadsWhole) (reads_next : ReadsNext) (fir
   -- a point at the front is read
   point-read : (s : State) (zs : List Piece) → MayGoOnFrom sys a s → Goes sys a anywhere s (Point ∷ zs)
       → (later : State) × MayGoOnFrom sys a later × Goes sys a anywhere later zs × (pass a later ≡ pass a s) × (expects_point s ≡ true)
-  unfolding next
+  unfolding state_next
   point-read s zs ready h =
       let step = goes-next begin whole reads_next sys a anywhere s Point zs (under sys a s ready) h in
       (step.0, ready-next begin reads_next first open_next sys a able s Point step.0 step.1 ready, step.2, pass-point a s step.0 step.1, point-expected a s step.0 step.1)
@@ -120,7 +120,7 @@ module _ (begin : ReadsBegin) (whole : ReadsWhole) (reads_next : ReadsNext) (fir
   -- records at the front of what may come are read
   pub goes-told : (g : List Told) (ps back : List Piece) (s : State) → records_in ps ≡ g → MayGoOnFrom sys a s → Goes sys a anywhere s (ps ++ back)
       → (later : State) × (tail : List Piece) × (run_told sys a s g ≡ Some later) × MayGoOnFrom sys a later × (records_in tail ≡ []) × Goes sys a anywhere later (tail ++ back) × Fact g ps tail
-  unfolding run_told next
+  unfolding run_told state_next
   goes-told [] ps back s e ready h = (s, ps, refl, ready, e, h, refl)
   goes-told (t ∷ g) ps back s e ready h =
       let cut = skip ps t g back s e ready h in
@@ -137,7 +137,7 @@ module _ (begin : ReadsBegin) (whole : ReadsWhole) (reads_next : ReadsNext) (fir
   -- and back
   pub told-goes : (aim : Aim) (g : List Told) (s later : State) (back : List Piece) → run_told sys a s g ≡ Some later → Goes sys a aim later back
       → (ps : List Piece) × (records_in ps ≡ g) × Goes sys a aim s (ps ++ back)
-  unfolding run_told next records_in
+  unfolding run_told state_next records_in
   told-goes aim [] s later back e h = ([], refl, subst (λ x. Goes sys a aim x back) (sym (some-same e)) h)
   told-goes aim (t ∷ g) s later back e h = by (λ mid k. told-goes aim g mid later back k h) (tell_next sys a (pass a s) t) refl e
     where
@@ -156,7 +156,7 @@ module _ (begin : ReadsBegin) (whole : ReadsWhole) (reads_next : ReadsNext) (fir
 
   -- a state that was read to can go on
   pub told-ready : (g : List Told) (s later : State) → MayGoOnFrom sys a s → run_told sys a s g ≡ Some later → MayGoOnFrom sys a later
-  unfolding run_told next
+  unfolding run_told state_next
   told-ready [] s later ready e = subst (MayGoOnFrom sys a) (some-same e) ready
   told-ready (t ∷ g) s later ready e = by (λ mid can k. told-ready g mid later can k) (tell_next sys a (pass a s) t) refl e
     where
@@ -166,18 +166,18 @@ module _ (begin : ReadsBegin) (whole : ReadsWhole) (reads_next : ReadsNext) (fir
       by more (Some mid) is k = more mid (ready-next begin reads_next first open_next sys a able (pass a s) (Tell t) mid is (ready-pass s ready)) k
 
   -- points alone lead to an end only where passing them does
-  tail-end : (tail : List Piece) (s : State) → records_in tail ≡ [] → MayGoOnFrom sys a s → Goes sys a anywhere s tail → is_end (pass a s) ≡ true
+  tail-end : (tail : List Piece) (s : State) → records_in tail ≡ [] → MayGoOnFrom sys a s → Goes sys a anywhere s tail → is_course_end (pass a s) ≡ true
   unfolding records_in
-  tail-end [] s e ready h = let is = goes-end sys a s ready h in ap is_end (pass-none a s (end-none s is)) ∙ is
+  tail-end [] s e ready h = let is = goes-end sys a s ready h in ap is_course_end (pass-none a s (end-none s is)) ∙ is
   tail-end (Point ∷ us) s e ready h =
-      let read = point-read s us ready h in ap is_end (sym read.3) ∙ tail-end us read.0 e read.1 read.2
+      let read = point-read s us ready h in ap is_course_end (sym read.3) ∙ tail-end us read.0 e read.1 read.2
   tail-end (Tell t ∷ us) s e ready h = absurd (cc)
 
   -- behind points, what comes at a point comes at one
-  tail-stops : (tail back : List Piece) (s : State) → records_in tail ≡ [] → MayGoOnFrom sys a s → Goes sys a anywhere s (tail ++ back) → begins_at_point back ≡ true → (is_end s || expects_point s) ≡ true
+  tail-stops : (tail back : List Piece) (s : State) → records_in tail ≡ [] → MayGoOnFrom sys a s → Goes sys a anywhere s (tail ++ back) → begins_at_point back ≡ true → (is_course_end s || expects_point s) ≡ true
   unfolding records_in
   tail-stops [] back s e ready h at = stops-here begin whole reads_next first open_next open_reads sys a able s back ready h at
-  tail-stops (Point ∷ us) back s e ready h at = or_right (is_end s) (expects_point s) (point-read s (us ++ back) ready h).4
+  tail-stops (Point ∷ us) back s e ready h at = or_right (is_course_end s) (expects_point s) (point-read s (us ++ back) ready h).4
   tail-stops (Tell t ∷ us) back s e ready h at = absurd (cc)
 
   module _ (c : Config) (within : length c.kept ≤ a.room) where
@@ -196,12 +196,12 @@ module _ (begin : ReadsBegin) (whole : ReadsWhole) (reads_next : ReadsNext) (fir
         ap (told_well a Stopped (is_none_told g)) read.2 ∙ by g read.0 read.1 read.3 read.4 read.5 read.6 at
       where
         by : (g : List Told) (later : State) (tail : List Piece) → MayGoOnFrom sys a later → records_in tail ≡ [] → Goes sys a anywhere later (tail ++ back) → Fact g ps tail
-            → IsTrue (ends_at_point ps) ⊎ IsTrue (begins_at_point back) → (is_none_told g || (is_end later || expects_point later)) ≡ true
+            → IsTrue (ends_at_point ps) ⊎ IsTrue (begins_at_point back) → (is_none_told g || (is_course_end later || expects_point later)) ≡ true
         by [] later tail ready none k f at = refl
         by (t ∷ g) later tail ready none k f (inl front) =
             let left = f front in
             let point : Goes sys a anywhere later (Point ∷ (left.0 ++ back)) = subst (λ zs. Goes sys a anywhere later (zs ++ back)) left.1 k in
-            or_right (is_end later) (expects_point later) (point-read later (left.0 ++ back) ready point).4
+            or_right (is_course_end later) (expects_point later) (point-read later (left.0 ++ back) ready point).4
         by (t ∷ g) later tail ready none k f (inr behind) = tail-stops tail back later none ready k behind
     fronts-told Anywhere g ps e (back, h) =
         let read = goes-told g ps back (start_state a c) e (begun begin whole reads_next first open_next open_reads sys a able c within)
@@ -224,7 +224,7 @@ module _ (begin : ReadsBegin) (whole : ReadsWhole) (reads_next : ReadsNext) (fir
         nothing [] h = refl
         nothing (t ∷ g) h = absurd (cc)
 
-        ended : (later : State) → run_told sys a (start_state a c) g ≡ Some later → is_end (pass a later) ≡ true
+        ended : (later : State) → run_told sys a (start_state a c) g ≡ Some later → is_course_end (pass a later) ≡ true
             → (ps : List Piece) × (records_in ps ≡ g) × Fronts begin whole reads_next first open_next open_reads sys a able c within Whole ps
         ended later e is =
             let points = unpass begin whole reads_next sys a anywhere later [] (end-goes sys a (pass a later) is) in
@@ -234,7 +234,7 @@ module _ (begin : ReadsBegin) (whole : ReadsWhole) (reads_next : ReadsNext) (fir
               front (read.0 ++ (points.0 ++ [])) read.2,
             )
 
-        stopped : (later : State) → run_told sys a (start_state a c) g ≡ Some later → (is_none_told g ≡ true) ⊎ ((is_end later || expects_point later) ≡ true)
+        stopped : (later : State) → run_told sys a (start_state a c) g ≡ Some later → (is_none_told g ≡ true) ⊎ ((is_course_end later || expects_point later) ≡ true)
             → (ps : List Piece) × (records_in ps ≡ g) × Fronts begin whole reads_next first open_next open_reads sys a able c within Stopped ps
         stopped later e (inl none) =
             let some = goes-some open_reads sys a (start_state a c) ready in ([], sym (nothing g none), (some.0, front some.0 some.1, inl refl))
@@ -246,7 +246,7 @@ module _ (begin : ReadsBegin) (whole : ReadsWhole) (reads_next : ReadsNext) (fir
             → (ps : List Piece) × (records_in ps ≡ g) × Fronts begin whole reads_next first open_next open_reads sys a able c within cut ps
         by cut None e h = absurd (cc)
         by Whole (Some later) e h = ended later e h
-        by Stopped (Some later) e h = stopped later e (or_cases (is_none_told g) (is_end later || expects_point later) h)
+        by Stopped (Some later) e h = stopped later e (or_cases (is_none_told g) (is_course_end later || expects_point later) h)
         by Anywhere (Some later) e h =
             let some = goes-some open_reads sys a later (told-ready g (start_state a c) later ready e) in
             let read = told-goes anywhere g (start_state a c) later some.0 e some.1 in (read.0, read.1, (some.0, front (read.0 ++ some.0) read.2))

@@ -81,14 +81,14 @@ abbrev pub anywhere : Aim
 anywhere c = Unit {0}
 
 -- a course that an assertion broke off has none
-abbrev pub Meets : Aim → Option Config → Type 0
-Meets aim None = Unit {0}
-Meets aim (Some c) = aim c
+abbrev pub MeetsAim : Aim → Option Config → Type 0
+MeetsAim aim None = Unit {0}
+MeetsAim aim (Some c) = aim c
 
 -- between steps: some more of them
 unfoldable pub StepsGo : System → Actor → Aim → Config → List Piece → Type 0
 unfolding Steps
-StepsGo sys a aim c ps = (es : List Entry) × (end : Option Config) × Steps sys a es (Some c) ps end × Meets aim end
+StepsGo sys a aim c ps = (es : List Entry) × (end : Option Config) × Steps sys a es (Some c) ps end × MeetsAim aim end
 
 -- after the tasks of a start or of a step: the release of the step's entry, and then more steps
 unfoldable pub Closing : System → Actor → Aim → Way → ℕ → Config → List Piece → Type 0

@@ -19,7 +19,7 @@ use Rattle.qp_model.specs.Acts.{Config, Actor, Later, names_of, Notes}
 use Rattle.qp_check_calls.specs.CallState.{CallState}
 use Rattle.qp_check_calls.specs.CallStateNext.{call_state_begin, call_state_next, stage_answer}
 use Rattle.qp_check_calls.specs.Reads.{IsRestOfCall}
-use Rattle.qp_check_course.specs.Note.{Note, Begin, Run, Unhandled, Exit, Enter, Init, Done, Say, Unlock, body_of, tells, raised_from, entry_and_event_taken, dropped_by, comes_back}
+use Rattle.qp_check_course.specs.Note.{Note, Begin, Run, Unhandled, Exit, Enter, Init, Done, Say, Unlock, body_of_note, tells, raised_from, entry_and_event_taken, dropped_by, comes_back}
 use Rattle.qp_check_course.specs.Goes.{Aim, Way, Starting, Stepping, moment_of, Ends, LeftGoes, StepsGo}
 
 pub data State : Type 0 where
@@ -70,7 +70,7 @@ NoteEnds way false later ps = later ps
 unfoldable pub Goes : System → Actor → Aim → State → List Piece → Type 0
 unfolding StepsGo LeftGoes CallStateGoes
 Goes sys a aim (Between c) ps = StepsGo sys a aim c ps
-Goes sys a aim (Telling way n ends ts leaf c) ps = Notes (plain (body_of n)) (NoteEnds way ends (LeftGoes sys a aim way ts leaf c)) ps
+Goes sys a aim (Telling way n ends ts leaf c) ps = Notes (plain (body_of_note n)) (NoteEnds way ends (LeftGoes sys a aim way ts leaf c)) ps
 Goes sys a aim (Raising way ceiling ts leaf c) ps =
     (former : ℕ) × Notes (raised (max former ceiling) former) (LeftGoes sys a aim way ts leaf (record c { former = former })) ps
 Goes sys a aim (AtPoint ev e ts leaf c) ps = (rest : List Piece) × (ps ≡ Point ∷ rest) × LeftGoes sys a aim (Stepping ev e) ts leaf c rest
@@ -82,14 +82,14 @@ Goes sys a aim (Returning p b d c) ps = (n : ℕ) × Notes (plain (item.Back p n
 Goes sys a aim Asserted ps = ps ≡ []
 
 -- an action is done: in a step its point is to come, and in a start what comes next
-abbrev pub done : Way → ℕ → List Task → (Config → State) → Config → State
-done Starting leaf ts go c = go c
-done (Stepping ev e) leaf ts go c = AtPoint ev e ts leaf c
+abbrev pub action_done : Way → ℕ → List Task → (Config → State) → Config → State
+action_done Starting leaf ts go c = go c
+action_done (Stepping ev e) leaf ts go c = AtPoint ev e ts leaf c
 
 -- a call is done with this answer
 abbrev pub answered : Bool → Way → ℕ → List Task → (Config → State) → Config → State
 answered true way leaf ts go c = Asserted
-answered false way leaf ts go c = done way leaf ts go c
+answered false way leaf ts go c = action_done way leaf ts go c
 
 -- the rest of a call, or what comes after it
 abbrev pub resumed : Option Answer → Way → Bool → CallState → ℕ → List Task → (Config → State) → Config → State
@@ -101,7 +101,7 @@ resume way inner rest leaf ts go c = resumed (stage_answer rest.stage) way inner
 
 -- the first task is an action
 unfoldable pub deed_state : Actor → Way → ℕ → List Task → (Config → State) → Config → Deed → State
-deed_state a way leaf ts go c (Sets var value) = done way leaf ts go (record c { vars = slice_set c.vars var value })
+deed_state a way leaf ts go c (Sets var value) = action_done way leaf ts go (record c { vars = slice_set c.vars var value })
 deed_state a way leaf ts go c (Says value) = Telling way (Say value) true ts leaf c
 deed_state a way leaf ts go c (Calls x) = resume way (has_inner way x) (call_state_begin a.room c.kept x) leaf ts go c
 
@@ -120,79 +120,79 @@ task_state a way leaf ts go c (task.Init s) = Telling way (Init s) false ts leaf
 task_state a way leaf ts go c task.Done = Telling way Done false ts leaf c
 
 -- a step is done: the reference of its entry is to be dropped, unless its event is static
-abbrev pub closed : ℕ → Entry → Config → State
-closed zero e c = Between c
-closed (suc p) e c = Releasing e c
+abbrev pub step_closed : ℕ → Entry → Config → State
+step_closed zero e c = Between c
+step_closed (suc p) e c = Releasing e c
 
 abbrev pub closing : Way → ℕ → Config → State
 closing Starting leaf c = Between (record c { leaf = leaf })
-closing (Stepping ev e) leaf c = closed e.pool e (record c { leaf = leaf })
+closing (Stepping ev e) leaf c = step_closed e.pool e (record c { leaf = leaf })
 
 -- the state in which these tasks are left
-unfoldable pub settle : Actor → Way → ℕ → List Task → Config → State
+unfoldable pub tasks_state : Actor → Way → ℕ → List Task → Config → State
 unfolding task_state
-settle a way leaf [] c = closing way leaf c
-settle a way leaf (t ∷ ts) c = task_state a way leaf ts (λ d. settle a way leaf ts d) c t
+tasks_state a way leaf [] c = closing way leaf c
+tasks_state a way leaf (t ∷ ts) c = task_state a way leaf ts (λ d. tasks_state a way leaf ts d) c t
 
 -- after a note
-abbrev pub noted : Actor → Way → Bool → ℕ → List Task → Config → State
-noted a way true leaf ts c = done way leaf ts (settle a way leaf ts) c
-noted a way false leaf ts c = settle a way leaf ts c
+abbrev pub behind_note : Actor → Way → Bool → ℕ → List Task → Config → State
+behind_note a way true leaf ts c = action_done way leaf ts (tasks_state a way leaf ts) c
+behind_note a way false leaf ts c = tasks_state a way leaf ts c
 
 -- a record of a call was a post of a publication, or not
-abbrev pub posted : Bool → Actor → Way → Bool → CallState → ℕ → List Task → Config → State
-posted true a way inner rest leaf ts c = AtPost way rest ts leaf c
-posted false a way inner rest leaf ts c = resume way inner rest leaf ts (settle a way leaf ts) c
+abbrev pub call_told : Bool → Actor → Way → Bool → CallState → ℕ → List Task → Config → State
+call_told true a way inner rest leaf ts c = AtPost way rest ts leaf c
+call_told false a way inner rest leaf ts c = resume way inner rest leaf ts (tasks_state a way leaf ts) c
 
 -- a step over an event begins
 unfoldable pub step_state : Actor → Entry → Event → Config → State
-unfolding settle step_plan
+unfolding tasks_state step_plan
 step_state a e ev c =
-    settle a (Stepping ev e) (step_plan a.chart c.leaf (names_of a c ev) ev.sig).leaf (step_plan a.chart c.leaf (names_of a c ev) ev.sig).tasks c
+    tasks_state a (Stepping ev e) (step_plan a.chart c.leaf (names_of a c ev) ev.sig).leaf (step_plan a.chart c.leaf (names_of a c ev) ev.sig).tasks c
 
 -- an object's course begins
 unfoldable pub start_state : Actor → Config → State
-unfolding settle start_plan
-start_state a first = settle a Starting (start_plan a.chart).leaf (start_plan a.chart).tasks first
+unfolding tasks_state start_plan
+start_state a first = tasks_state a Starting (start_plan a.chart).leaf (start_plan a.chart).tasks first
 
 -- a reference was dropped, and so many are left
-abbrev pub left_over : Entry → ℕ → ℕ → Config → State
-left_over e d zero c = Returning e.pool e.block d c
-left_over e d (suc left) c = Between c
+abbrev pub behind_dec : Entry → ℕ → ℕ → Config → State
+behind_dec e d zero c = Returning e.pool e.block d c
+behind_dec e d (suc left) c = Between c
 
 -- what a record makes of a state, where it may come
 unfoldable pub tell_next : System → Actor → State → Told → Option State
-unfolding comes_back dropped_by raised_from call_state_next settle step_state entry_and_event_taken tells
+unfolding comes_back dropped_by raised_from call_state_next tasks_state step_state entry_and_event_taken tells
 tell_next sys a (Between c) t = option_map (λ x. step_state a x.0 x.1 c) (entry_and_event_taken t.body t.known)
-tell_next sys a (Telling way n ends ts leaf c) t = if tells n t.body t.known then Some (noted a way ends leaf ts c) else None
+tell_next sys a (Telling way n ends ts leaf c) t = if tells n t.body t.known then Some (behind_note a way ends leaf ts c) else None
 tell_next sys a (Raising way ceiling ts leaf c) t =
-    option_map (λ former. settle a way leaf ts (record c { former = former })) (raised_from ceiling t.body t.known)
+    option_map (λ former. tasks_state a way leaf ts (record c { former = former })) (raised_from ceiling t.body t.known)
 tell_next sys a (AtPoint ev e ts leaf c) t = None
 tell_next sys a (InCall way inner rest ts leaf c) t =
-    option_map (λ more. posted (inner && is_post t.body) a way inner more leaf ts (record c { kept = more.kept })) (call_state_next sys a.o (moment_of way).entry rest t)
+    option_map (λ more. call_told (inner && is_post t.body) a way inner more leaf ts (record c { kept = more.kept })) (call_state_next sys a.o (moment_of way).entry rest t)
 tell_next sys a (AtPost way rest ts leaf c) t = None
-tell_next sys a (Releasing e c) t = option_map (λ x. left_over e x.0 x.1 c) (dropped_by e t.body t.known)
+tell_next sys a (Releasing e c) t = option_map (λ x. behind_dec e x.0 x.1 c) (dropped_by e t.body t.known)
 tell_next sys a (Returning p b d c) t = if comes_back p b d t.body t.known then Some (Between c) else None
 tell_next sys a Asserted t = None
 
 -- what a point makes of it
 unfoldable pub point_next : Actor → State → Option State
-unfolding settle
-point_next a (AtPoint ev e ts leaf c) = Some (settle a (Stepping ev e) leaf ts c)
-point_next a (AtPost way rest ts leaf c) = Some (resume way true rest leaf ts (settle a way leaf ts) c)
+unfolding tasks_state
+point_next a (AtPoint ev e ts leaf c) = Some (tasks_state a (Stepping ev e) leaf ts c)
+point_next a (AtPost way rest ts leaf c) = Some (resume way true rest leaf ts (tasks_state a way leaf ts) c)
 point_next a s = None
 
 -- what a piece makes of it
-unfoldable pub next : System → Actor → State → Piece → Option State
+unfoldable pub state_next : System → Actor → State → Piece → Option State
 unfolding point_next tell_next
-next sys a s (Tell t) = tell_next sys a s t
-next sys a s Point = point_next a s
+state_next sys a s (Tell t) = tell_next sys a s t
+state_next sys a s Point = point_next a s
 
 -- the course may end here
-abbrev pub is_end : State → Bool
-is_end (Between c) = true
-is_end Asserted = true
-is_end s = false
+abbrev pub is_course_end : State → Bool
+is_course_end (Between c) = true
+is_course_end Asserted = true
+is_course_end s = false
 
 -- a point is to come
 abbrev pub expects_point : State → Bool
@@ -201,12 +201,12 @@ expects_point (AtPost way rest ts leaf c) = true
 expects_point s = false
 
 -- a call under way isn't whole
-abbrev pub IsUnderWay : State → Type 0
-IsUnderWay (InCall way inner rest ts leaf c) = stage_answer rest.stage ≡ None
-IsUnderWay s = Unit {0}
+abbrev pub IsCallUnderWay : State → Type 0
+IsCallUnderWay (InCall way inner rest ts leaf c) = stage_answer rest.stage ≡ None
+IsCallUnderWay s = Unit {0}
 
 -- what some pieces make of it, one after another
-unfoldable pub run : System → Actor → State → List Piece → Option State
-unfolding next
-run sys a s [] = Some s
-run sys a s (p ∷ ps) = option_and_then (λ later. run sys a later ps) (next sys a s p)
+unfoldable pub state_after : System → Actor → State → List Piece → Option State
+unfolding state_next
+state_after sys a s [] = Some s
+state_after sys a s (p ∷ ps) = option_and_then (λ later. state_after sys a later ps) (state_next sys a s p)

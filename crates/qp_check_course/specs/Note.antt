@@ -19,29 +19,29 @@ pub data Note : Type 0 where
   Unlock : (ceiling : ℕ) → Note
 
 -- what the record of a note says
-abbrev pub body_of : Note → Body
-body_of Begin = item.Begin
-body_of (Run s k) = item.Run s k
-body_of Unhandled = item.Unhandled
-body_of (Exit s) = item.Exit s
-body_of (Enter s) = item.Enter s
-body_of (Init s) = item.Init s
-body_of Done = item.Done
-body_of (Say v) = item.Say v
-body_of (Unlock c) = item.Unlock c
+abbrev pub body_of_note : Note → Body
+body_of_note Begin = item.Begin
+body_of_note (Run s k) = item.Run s k
+body_of_note Unhandled = item.Unhandled
+body_of_note (Exit s) = item.Exit s
+body_of_note (Enter s) = item.Enter s
+body_of_note (Init s) = item.Init s
+body_of_note Done = item.Done
+body_of_note (Say v) = item.Say v
+body_of_note (Unlock c) = item.Unlock c
 
 -- the note that a record says
-unfoldable pub note_of : Body → Option Note
-note_of item.Begin = Some Begin
-note_of (item.Run s k) = Some (Run s k)
-note_of item.Unhandled = Some Unhandled
-note_of (item.Exit s) = Some (Exit s)
-note_of (item.Enter s) = Some (Enter s)
-note_of (item.Init s) = Some (Init s)
-note_of item.Done = Some Done
-note_of (item.Say v) = Some (Say v)
-note_of (item.Unlock c) = Some (Unlock c)
-note_of body = None
+unfoldable pub note_in : Body → Option Note
+note_in item.Begin = Some Begin
+note_in (item.Run s k) = Some (Run s k)
+note_in item.Unhandled = Some Unhandled
+note_in (item.Exit s) = Some (Exit s)
+note_in (item.Enter s) = Some (Enter s)
+note_in (item.Init s) = Some (Init s)
+note_in item.Done = Some Done
+note_in (item.Say v) = Some (Say v)
+note_in (item.Unlock c) = Some (Unlock c)
+note_in body = None
 
 unfoldable pub same_note : Note → Note → Bool
 same_note Begin Begin = true
@@ -61,8 +61,8 @@ is_noted (Some m) n = same_note m n
 
 -- a record says this note, and states all
 unfoldable pub tells : Note → Body → Known → Bool
-unfolding note_of same_note
-tells n body told.Nothing = is_noted (note_of body) n
+unfolding note_in same_note
+tells n body told.Nothing = is_noted (note_in body) n
 tells n body known = false
 
 -- the ceiling before it was raised for this one

@@ -12,7 +12,7 @@ use Rattle.qp_model.specs.Acts.{Config, Actor}
 use Rattle.qp_model.specs.Course.{Cut, Whole, Stopped, Anywhere, actor, first_config}
 use Rattle.qp_model.specs.ObjectShape.{asserts_none}
 use Rattle.qp_check_course.specs.Goes.{Stepping}
-use Rattle.qp_check_course.specs.Machine.{State, AtPoint, AtPost, closing, settle, resume, start_state, tell_next, is_end, expects_point}
+use Rattle.qp_check_course.specs.Machine.{State, AtPoint, AtPost, closing, tasks_state, resume, start_state, tell_next, is_course_end, expects_point}
 
 -- the state behind the point of an action
 abbrev pub through : State → (Config → State) → State
@@ -21,9 +21,9 @@ through s go = s
 
 -- the state in which these tasks of a step are left, once no point is expected any more
 unfoldable pub settle_past : Actor → Event → Entry → ℕ → List Task → Config → State
-unfolding settle
+unfolding tasks_state
 settle_past a ev e leaf [] c = closing (Stepping ev e) leaf c
-settle_past a ev e leaf (t ∷ ts) c = through (settle a (Stepping ev e) leaf (t ∷ ts) c) (λ d. settle_past a ev e leaf ts d)
+settle_past a ev e leaf (t ∷ ts) c = through (tasks_state a (Stepping ev e) leaf (t ∷ ts) c) (λ d. settle_past a ev e leaf ts d)
 
 -- the points of actions are passed
 unfoldable pub pass_actions : Actor → State → State
@@ -33,8 +33,8 @@ pass_actions a s = s
 
 -- each point that is expected is passed, until another piece is
 unfoldable pub pass : Actor → State → State
-unfolding pass_actions settle
-pass a (AtPost way rest ts leaf c) = pass_actions a (resume way true rest leaf ts (settle a way leaf ts) c)
+unfolding pass_actions tasks_state
+pass a (AtPost way rest ts leaf c) = pass_actions a (resume way true rest leaf ts (tasks_state a way leaf ts) c)
 pass a s = pass_actions a s
 
 -- what some records make of a state, with the points between them
@@ -50,8 +50,8 @@ is_none_told (t ∷ g) = false
 -- a list without its points may be cut so in this state
 unfoldable pub may_end_told : Actor → Cut → (nothing : Bool) → State → Bool
 unfolding pass
-may_end_told a Whole nothing s = is_end (pass a s)
-may_end_told a Stopped nothing s = nothing || (is_end s || expects_point s)
+may_end_told a Whole nothing s = is_course_end (pass a s)
+may_end_told a Stopped nothing s = nothing || (is_course_end s || expects_point s)
 may_end_told a Anywhere nothing s = true
 
 abbrev pub told_well : Actor → Cut → Bool → Option State → Bool

@@ -24,9 +24,9 @@ pub record LeavesOf (sys : System) (d : ObjectDef) (r : CourseReading) (left all
 abbrev pub CanRead : CourseReading → Type 0
 CanRead r = IsAble r.who.sys.now (as_actor r.who) × CanRun r.who.sys.now (as_actor r.who) (as_state r.state)
 
-abbrev pub HasBegun : System → ObjectDef → Option CourseReading → Type 0
-HasBegun sys d None = ⊥
-HasBegun sys d (Some r) = CanRead r × ((all : List Told) → LeavesOf sys d r all all)
+abbrev pub CourseHasBegun : System → ObjectDef → Option CourseReading → Type 0
+CourseHasBegun sys d None = ⊥
+CourseHasBegun sys d (Some r) = CanRead r × ((all : List Told) → LeavesOf sys d r all all)
 
 -- a record was read; it can be, where the records follow the object's chart
 abbrev pub ReadsOn : CourseReading → Told → Option CourseReading → Type 0

@@ -15,8 +15,8 @@ use Rattle.qp_check_course.specs.Goes.{Way, Stepping, moment_of}
 use Rattle.qp_check_course.specs.Machine.{State, Between, Telling, Raising, AtPoint, InCall, AtPost, Releasing, Returning, Asserted}
 
 -- the tasks have what they ask for
-abbrev pub AreAble : System → Way → List Task → Type 0
-AreAble sys way ts = list_all (task_able sys (is_some (moment_of way).entry)) ts ≡ true
+abbrev pub AreTasksAble : System → Way → List Task → Type 0
+AreTasksAble sys way ts = list_all (task_able sys (is_some (moment_of way).entry)) ts ≡ true
 
 -- the deferred list is within its capacity
 abbrev pub IsWithin : Actor → Config → Type 0
@@ -31,11 +31,11 @@ pub record CanGoOn (sys : System) (a : Actor) (way : Way) (rest : CallState) : T
 -- the course can go on from this state
 abbrev pub MayGoOnFrom : System → Actor → State → Type 0
 MayGoOnFrom sys a (Between c) = IsWithin a c
-MayGoOnFrom sys a (Telling way n ends ts leaf c) = AreAble sys way ts × IsWithin a c
-MayGoOnFrom sys a (Raising way ceiling ts leaf c) = AreAble sys way ts × IsWithin a c
-MayGoOnFrom sys a (AtPoint ev e ts leaf c) = AreAble sys (Stepping ev e) ts × IsWithin a c
-MayGoOnFrom sys a (InCall way inner rest ts leaf c) = (stage_answer rest.stage ≡ None) × CanGoOn sys a way rest × AreAble sys way ts
-MayGoOnFrom sys a (AtPost way rest ts leaf c) = CanGoOn sys a way rest × AreAble sys way ts
+MayGoOnFrom sys a (Telling way n ends ts leaf c) = AreTasksAble sys way ts × IsWithin a c
+MayGoOnFrom sys a (Raising way ceiling ts leaf c) = AreTasksAble sys way ts × IsWithin a c
+MayGoOnFrom sys a (AtPoint ev e ts leaf c) = AreTasksAble sys (Stepping ev e) ts × IsWithin a c
+MayGoOnFrom sys a (InCall way inner rest ts leaf c) = (stage_answer rest.stage ≡ None) × CanGoOn sys a way rest × AreTasksAble sys way ts
+MayGoOnFrom sys a (AtPost way rest ts leaf c) = CanGoOn sys a way rest × AreTasksAble sys way ts
 MayGoOnFrom sys a (Releasing e c) = IsWithin a c
 MayGoOnFrom sys a (Returning p b d c) = IsWithin a c
 MayGoOnFrom sys a Asserted = Unit {0}

@@ -14,11 +14,11 @@ use Rattle.qp_check_course.specs.Machine.{State, Between, Releasing, Returning}
 use Rattle.qp_check_course.specs.declared.standing.Standing.{Standing}
 
 -- the configuration of a state in which no start and no step is under way; a release may be
-abbrev pub left_in : State → Option Config
-left_in (Between c) = Some c
-left_in (Releasing e c) = Some c
-left_in (Returning p b d c) = Some c
-left_in s = None
+abbrev pub config_left_in : State → Option Config
+config_left_in (Between c) = Some c
+config_left_in (Releasing e c) = Some c
+config_left_in (Returning p b d c) = Some c
+config_left_in s = None
 
 -- the leaf and the variables of a configuration
 pub record IsOf (c : Config) (s : Standing) : Type 0 where

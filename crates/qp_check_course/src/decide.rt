@@ -7,7 +7,7 @@ ghost use Rattle.qp_model.specs.Pieces as pieces;
 ghost use Rattle.qp_model.specs.Course.{FollowsTo, chart_at, first_config};
 ghost use Rattle.qp_check_calls.specs.AsPiece.{as_piece, as_cut};
 ghost use Rattle.qp_check_calls.specs.Decides.{Decides};
-ghost use Rattle.qp_check_course.specs.Machine.{start_state, run};
+ghost use Rattle.qp_check_course.specs.Machine.{start_state, state_after};
 ghost use Rattle.qp_model.specs.ObjectShape.{asserts_none};
 ghost use Rattle.qp_check_course.specs.Passing.{asserts_where_cut, is_none_told, told_well, run_told};
 ghost use Rattle.qp_check_course.specs.Decided.{ends_well};
@@ -83,7 +83,7 @@ fn reads_pieces(
 ) -> Result<bool, AllocError>
     requires { IsAble who.now.sys.now (as_actor who.now) }
     ensures { IfOk result (λ b. b ≡ ends_well (as_cut cut) (ends_at_point (map as_piece pieces.now))
-        (run who.now.sys.now (as_actor who.now) (start_state (as_actor who.now) (first_config d.now)) (map as_piece pieces.now))) }
+        (state_after who.now.sys.now (as_actor who.now) (start_state (as_actor who.now) (first_config d.now)) (map as_piece pieces.now))) }
 {
     let first = begin(alloc, who, d)?;
     let read = run(alloc, who, first, pieces)?;

@@ -5,7 +5,7 @@ ghost use Rattle.std.specs.Option.{option_copied};
 ghost use Rattle.qp_chart.specs.StateTree.{state_at};
 ghost use Rattle.qp_chart.specs.Expr.{names_in};
 ghost use Rattle.qp_chart.specs.Handler.{passes, first_row, rows_of, handler_at, handler};
-ghost use Rattle.qp_check_course.specs.AsHandler.{as_place};
+ghost use Rattle.qp_check_course.specs.AsHandler.{as_row_place};
 
 use qp_chart::{Bound, Chart, Env, Row, eval};
 use qp_chart_tree::{parent_of, rows_of};
@@ -51,7 +51,7 @@ fn is_open(env: &Env<'_>, sig: u64, row: &Row) -> bool
 
 /// The first row for a signal whose guard passes, with its place.
 fn first_row<'a>(env: &Env<'_>, sig: u64, rows: &'a [Row]) -> Option<(usize, &'a Row)>
-    ensures { as_place result ≡ first_row (names_in env.now) sig 1 rows.now }
+    ensures { as_row_place result ≡ first_row (names_in env.now) sig 1 rows.now }
 {
     for (i, row) in rows.iter().enumerate() {
         if is_open(env, sig, row) {

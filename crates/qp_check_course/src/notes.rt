@@ -2,7 +2,7 @@
 
 ghost use Rattle.std.specs.Prelude.{◌≡◌};
 ghost use Rattle.std.specs.Option.{option_map};
-ghost use Rattle.qp_check_course.specs.Note.{note_of, same_note, tells, raised_from, dropped_by, comes_back};
+ghost use Rattle.qp_check_course.specs.Note.{note_in, same_note, tells, raised_from, dropped_by, comes_back};
 ghost use Rattle.qp_check_course.specs.AsNote.{as_note};
 
 use qp_check_calls::{Known, Told};
@@ -23,9 +23,9 @@ pub(crate) enum Note {
 }
 
 /// The note that a record says.
-#[tactic(auto, unfolding(crate::specs::Note::note_of))]
+#[tactic(auto, unfolding(crate::specs::Note::note_in))]
 fn note_of(body: &Body) -> Option<Note>
-    ensures { option_map as_note result ≡ note_of body.now }
+    ensures { option_map as_note result ≡ note_in body.now }
 {
     match body {
         Body::Begin => Some(Note::Begin),

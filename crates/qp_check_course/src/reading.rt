@@ -5,7 +5,7 @@ ghost use Rattle.qp_model.specs.Told as telling;
 ghost use Rattle.qp_model.specs.declared.systems.ObjectDef as object;
 ghost use Rattle.qp_model.specs.declared.systems.System as system;
 ghost use Rattle.qp_check_course.specs.Followable.{IsFollowable};
-ghost use Rattle.qp_check_course.specs.Reading.{CanRead, HasBegun, LeavesOf, ReadsOn};
+ghost use Rattle.qp_check_course.specs.Reading.{CanRead, CourseHasBegun, LeavesOf, ReadsOn};
 ghost use Rattle.qp_check_course.specs.Standing.{FollowSomehow, StandsAt};
 
 use crate::decide::actor_of;
@@ -27,7 +27,7 @@ impl<'a> CourseReading<'a> {
     /// The course before its first record. There is none where the object has no chart.
     pub fn begin(alloc: Global, sys: &'a System, d: &ObjectDef) -> Result<Option<Self>, AllocError>
         requires { IsFollowable sys.now d.now }
-        ensures { IfOk result (λ first. HasBegun sys.now d.now first) }
+        ensures { IfOk result (λ first. CourseHasBegun sys.now d.now first) }
     {
         match actor_of(sys, d) {
             Some(who) => {

@@ -6,12 +6,12 @@ ghost use Rattle.qp_model.specs.Able.{chart_able};
 ghost use Rattle.qp_model.specs.Pieces.{ends_at_point};
 ghost use Rattle.qp_model.specs.Course.{first_config};
 ghost use Rattle.qp_check_calls.specs.AsPiece.{as_piece, as_cut};
-ghost use Rattle.qp_check_course.specs.Machine.{start_state, next, run, is_end, expects_point};
+ghost use Rattle.qp_check_course.specs.Machine.{start_state, state_next, state_after, is_course_end, expects_point};
 ghost use Rattle.qp_check_course.specs.Passing.{pass, run_told, may_end_told};
-ghost use Rattle.qp_check_course.specs.Decided.{may_end};
+ghost use Rattle.qp_check_course.specs.Decided.{may_be_cut};
 ghost use Rattle.qp_check_course.specs.Followable.{with_eight};
 ghost use Rattle.qp_check_course.specs.Runs.{IsAble, CanRun, Leads, is_point};
-ghost use Rattle.qp_check_course.specs.AsState.{as_actor, as_state, config_of};
+ghost use Rattle.qp_check_course.specs.AsState.{as_actor, as_state, own_config};
 
 use crate::agenda::start_plan;
 use crate::settle::settle;
@@ -23,7 +23,7 @@ use std::collections::VecDeque;
 
 /// What an object has before its course.
 fn first_own(alloc: Global, d: &ObjectDef) -> Result<Own, AllocError>
-    ensures { IfOk result (λ own. config_of own [] ≡ first_config d.now) }
+    ensures { IfOk result (λ own. own_config own [] ≡ first_config d.now) }
 {
     let vars = d.vars.items.as_slice().to_vec(alloc)?;
     Ok(Own {
@@ -55,7 +55,7 @@ pub(crate) fn begin<'a>(
 impl<'a> State<'a> {
     /// The course may end here.
     fn is_end(&self) -> bool
-        ensures { result ≡ is_end (as_state self.now) }
+        ensures { result ≡ is_course_end (as_state self.now) }
     {
         matches!(self, State::Between { .. } | State::Asserted)
     }
@@ -84,11 +84,11 @@ impl<'a> State<'a> {
     }
 
     /// The state behind a piece, where it may come.
-    #[tactic(auto, unfolding(crate::specs::Machine::next))]
+    #[tactic(auto, unfolding(crate::specs::Machine::state_next))]
     fn next(self, alloc: Global, who: &Actor<'a>, piece: &Piece) -> Result<Option<Self>, AllocError>
         requires able { IsAble who.now.sys.now (as_actor who.now) }
         requires can { CanRun who.now.sys.now (as_actor who.now) (as_state self) }
-        ensures { IfOk result (λ later. option_map as_state later ≡ next who.now.sys.now (as_actor who.now) (as_state self.entry)
+        ensures { IfOk result (λ later. option_map as_state later ≡ state_next who.now.sys.now (as_actor who.now) (as_state self.entry)
             (as_piece piece.now)) }
     {
         match piece {
@@ -99,7 +99,7 @@ impl<'a> State<'a> {
 
     /// The course ends in this state, if it may: nothing is left of the state.
     fn ends(self) -> bool
-        ensures { result ≡ is_end (as_state self.entry) }
+        ensures { result ≡ is_course_end (as_state self.entry) }
     {
         let may = self.is_end();
         discard(self);
@@ -108,7 +108,7 @@ impl<'a> State<'a> {
 
     /// A list may stop here, where `at_point` tells whether it stops at a point anyway.
     fn may_stop(&self, at_point: bool) -> bool
-        ensures { result ≡ (at_point || (is_end (as_state self.now) || expects_point (as_state self.now))) }
+        ensures { result ≡ (at_point || (is_course_end (as_state self.now) || expects_point (as_state self.now))) }
     {
         at_point || self.is_end() || self.expects_point()
     }
@@ -131,7 +131,7 @@ impl<'a> State<'a> {
 
     /// A list may be cut so in this state.
     pub(crate) fn may_end(self, cut: Cut, at_point: bool) -> bool
-        ensures { result ≡ may_end (as_cut cut) at_point (as_state self.entry) }
+        ensures { result ≡ may_be_cut (as_cut cut) at_point (as_state self.entry) }
     {
         let stops = self.may_stop(at_point);
         let ends = self.ends();
@@ -176,7 +176,7 @@ pub(crate) fn run<'a>(
 ) -> Result<Option<State<'a>>, AllocError>
     requires able { IsAble who.now.sys.now (as_actor who.now) }
     requires can { CanRun who.now.sys.now (as_actor who.now) (as_state first) }
-    ensures { IfOk result (λ last. option_map as_state last ≡ run who.now.sys.now (as_actor who.now) (as_state first.entry)
+    ensures { IfOk result (λ last. option_map as_state last ≡ state_after who.now.sys.now (as_actor who.now) (as_state first.entry)
         (map as_piece pieces.now)) }
 {
     let mut state = first;

@@ -8,13 +8,13 @@ ghost use Rattle.qp_model.specs.Calls.{deed_of, is_assertion, ok_after, Flushed}
 ghost use Rattle.qp_check_calls.specs.CallStateNext.{stage_answer};
 ghost use Rattle.qp_check_calls.specs.AsCall.{as_answer, as_call};
 ghost use Rattle.qp_check_course.specs.Goes.{moment_of};
-ghost use Rattle.qp_check_course.specs.Machine.{Telling, done, resume, deed_state, task_state, closing, settle, has_inner};
+ghost use Rattle.qp_check_course.specs.Machine.{Telling, action_done, resume, deed_state, task_state, closing, tasks_state, has_inner};
 ghost use Rattle.qp_check_course.specs.Followable.{with_eight};
 ghost use Rattle.qp_check_course.specs.Few.{MakesFew};
 ghost use Rattle.qp_check_course.specs.FewLeft.{AreFew};
 ghost use Rattle.qp_check_course.specs.AsNote.{as_note};
-ghost use Rattle.qp_check_course.specs.AsTask.{as_task, as_tasks};
-ghost use Rattle.qp_check_course.specs.AsState.{as_actor, as_way, as_state, config_of};
+ghost use Rattle.qp_check_course.specs.AsTask.{as_course_task, as_tasks};
+ghost use Rattle.qp_check_course.specs.AsState.{as_actor, as_way, as_state, own_config};
 
 use crate::deeds::{Deed, deed_of};
 use crate::notes::Note;
@@ -98,7 +98,7 @@ fn ok_after(answer: Answer, ok: i64) -> i64
 
 /// A step is done: the reference of its entry is to be dropped, unless its event is static.
 fn closing<'a>(way: Way, leaf: u8, own: Own, kept: Kept) -> State<'a>
-    ensures { as_state result ≡ closing (as_way way) leaf (config_of own kept) }
+    ensures { as_state result ≡ closing (as_way way) leaf (own_config own kept) }
 {
     let own = Own { leaf, ..own };
     match way {
@@ -121,8 +121,8 @@ fn closing<'a>(way: Way, leaf: u8, own: Own, kept: Kept) -> State<'a>
 #[cycle(settle)]
 pub(crate) fn done<'a>(who: &Actor<'a>, way: Way, left: Left<'a>, own: Own, kept: Kept) -> State<'a>
     requires { AreFew (as_way way) (as_tasks left.tasks.items) }
-    ensures { as_state result ≡ done (as_way way) left.entry.leaf (as_tasks left.entry.tasks.items)
-        (settle (as_actor who.now) (as_way way) left.entry.leaf (as_tasks left.entry.tasks.items)) (config_of own kept) }
+    ensures { as_state result ≡ action_done (as_way way) left.entry.leaf (as_tasks left.entry.tasks.items)
+        (tasks_state (as_actor who.now) (as_way way) left.entry.leaf (as_tasks left.entry.tasks.items)) (own_config own kept) }
 {
     match way {
         Way::Starting => settle(who, Way::Starting, left, own, kept),
@@ -148,7 +148,7 @@ pub(crate) fn resume<'a>(
     requires few { AreFew (as_way way) (as_tasks left.tasks.items) }
     requires flushed { (n : ℕ) → stage_answer rest.stage ≡ Some (Flushed n) → n ≤ 255 }
     ensures { as_state result ≡ resume (as_way way) inner rest left.entry.leaf (as_tasks left.entry.tasks.items)
-        (settle (as_actor who.now) (as_way way) left.entry.leaf (as_tasks left.entry.tasks.items)) (config_of own rest.kept) }
+        (tasks_state (as_actor who.now) (as_way way) left.entry.leaf (as_tasks left.entry.tasks.items)) (own_config own rest.kept) }
 {
     match rest.answer() {
         Some(answer) => {
@@ -184,8 +184,8 @@ fn act<'a>(
     requires few { AreFew (as_way way) (as_tasks left.tasks.items) }
     requires own_few { MakesFew plain.now }
     ensures { as_state result ≡ deed_state (as_actor who.now) (as_way way) left.entry.leaf (as_tasks left.entry.tasks.items)
-        (settle (as_actor who.now) (as_way way) left.entry.leaf (as_tasks left.entry.tasks.items)) (config_of own kept)
-        (deed_of (names_of (as_actor who.now) (config_of own kept) (moment_of (as_way way)).event) plain.now) }
+        (tasks_state (as_actor who.now) (as_way way) left.entry.leaf (as_tasks left.entry.tasks.items)) (own_config own kept)
+        (deed_of (names_of (as_actor who.now) (own_config own kept) (moment_of (as_way way)).event) plain.now) }
 {
     let deed = deed_of(plain, &env_of(who.o, &way, &own));
     match deed {
@@ -227,10 +227,10 @@ fn begin<'a>(
     kept: Kept,
 ) -> State<'a>
     requires few { AreFew (as_way way) (as_tasks left.tasks.items) }
-    requires own_few { task_able with_eight (is_some (moment_of (as_way way)).entry) (as_task task) ≡ true }
+    requires own_few { task_able with_eight (is_some (moment_of (as_way way)).entry) (as_course_task task) ≡ true }
     ensures { as_state result ≡ task_state (as_actor who.now) (as_way way) left.entry.leaf (as_tasks left.entry.tasks.items)
-        (settle (as_actor who.now) (as_way way) left.entry.leaf (as_tasks left.entry.tasks.items)) (config_of own kept)
-        (as_task task.entry) }
+        (tasks_state (as_actor who.now) (as_way way) left.entry.leaf (as_tasks left.entry.tasks.items)) (own_config own kept)
+        (as_course_task task.entry) }
 {
     match task {
         CourseTask::Do(plain) => act(who, plain, way, left, own, kept),
@@ -273,7 +273,7 @@ fn begin<'a>(
 /// A note is to come.
 fn telling<'a>(note: Note, ends: bool, way: Way, left: Left<'a>, own: Own, kept: Kept) -> State<'a>
     ensures { as_state result ≡ Telling (as_way way) (as_note note) ends (as_tasks left.entry.tasks.items) left.entry.leaf
-        (config_of own kept) }
+        (own_config own kept) }
 {
     State::Telling {
         way,
@@ -287,7 +287,7 @@ fn telling<'a>(note: Note, ends: bool, way: Way, left: Left<'a>, own: Own, kept:
 
 /// The state in which these tasks are left.
 #[cycle(settle)]
-#[tactic(auto, unfolding(crate::specs::Machine::settle))]
+#[tactic(auto, unfolding(crate::specs::Machine::tasks_state))]
 pub(crate) fn settle<'a>(
     who: &Actor<'a>,
     way: Way,
@@ -296,8 +296,8 @@ pub(crate) fn settle<'a>(
     kept: Kept,
 ) -> State<'a>
     requires { AreFew (as_way way) (as_tasks left.tasks.items) }
-    ensures { as_state result ≡ settle (as_actor who.now) (as_way way) left.entry.leaf (as_tasks left.entry.tasks.items)
-        (config_of own kept) }
+    ensures { as_state result ≡ tasks_state (as_actor who.now) (as_way way) left.entry.leaf (as_tasks left.entry.tasks.items)
+        (own_config own kept) }
 {
     match left.tasks.pop_front() {
         Some(task) => begin(who, task, way, left, own, kept),

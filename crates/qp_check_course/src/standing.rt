@@ -2,7 +2,7 @@
 
 ghost use Rattle.std.specs.Prelude.{◌≡◌};
 ghost use Rattle.qp_check_course.specs.AsState.{as_state};
-ghost use Rattle.qp_check_course.specs.Standing.{ShowsLeft, left_in};
+ghost use Rattle.qp_check_course.specs.Standing.{ShowsLeft, config_left_in};
 
 use crate::states::{Own, State, discard};
 
@@ -28,7 +28,7 @@ impl Own {
 impl<'a> State<'a> {
     /// Where the object stands, if neither a start nor a step is under way.
     pub(crate) fn standing(self) -> Option<Standing>
-        ensures { ShowsLeft (left_in (as_state self.entry)) result }
+        ensures { ShowsLeft (config_left_in (as_state self.entry)) result }
     {
         match self {
             State::Between { own, kept: _kept } => Some(own.shown()),

@@ -2,7 +2,7 @@
 
 ghost use Rattle.std.specs.Prelude.{◌≡◌, ◌∷◌, [], ◌++◌, map, IfOk};
 ghost use Rattle.qp_chart.specs.Task.{Do, Raise, Restore, tasks_of, act_tasks, exits, entries};
-ghost use Rattle.qp_check_course.specs.AsTask.{as_task, as_tasks};
+ghost use Rattle.qp_check_course.specs.AsTask.{as_course_task, as_tasks};
 
 use crate::state_acts::{entry_acts, exit_acts};
 use qp_chart::{Act, Chart, Plain};
@@ -30,7 +30,7 @@ pub(crate) fn push_task<'a>(
     task: CourseTask<'a>,
     tasks: &mut Vec<CourseTask<'a>>,
 ) -> Result<(), AllocError>
-    ensures { IfOk result (λ _. as_tasks tasks.new.items ≡ as_tasks tasks.old.items ++ as_task task.entry ∷ []) }
+    ensures { IfOk result (λ _. as_tasks tasks.new.items ≡ as_tasks tasks.old.items ++ as_course_task task.entry ∷ []) }
 {
     tasks.push(task)?;
     Ok(())

@@ -7,13 +7,13 @@ ghost use Rattle.qp_model.specs.Groups.{is_post};
 ghost use Rattle.qp_check_calls.specs.CallStateNext.{call_state_next};
 ghost use Rattle.qp_check_course.specs.Goes.{moment_of};
 ghost use Rattle.qp_check_course.specs.Note.{raised_from, entry_and_event_taken, dropped_by};
-ghost use Rattle.qp_check_course.specs.Machine.{Between, settle, noted, posted, step_state, left_over, tell_next, point_next};
+ghost use Rattle.qp_check_course.specs.Machine.{Between, tasks_state, behind_note, call_told, step_state, behind_dec, tell_next, point_next};
 ghost use Rattle.qp_check_course.specs.Followable.{with_eight};
 ghost use Rattle.qp_check_course.specs.Ready.{CanGoOn};
 ghost use Rattle.qp_check_course.specs.FewLeft.{AreFew};
 ghost use Rattle.qp_check_course.specs.Runs.{IsAble, CanRun};
 ghost use Rattle.qp_check_course.specs.AsTask.{as_tasks};
-ghost use Rattle.qp_check_course.specs.AsState.{as_actor, as_way, as_state, config_of};
+ghost use Rattle.qp_check_course.specs.AsState.{as_actor, as_way, as_state, own_config};
 
 use crate::agenda::step_plan;
 use crate::notes::{comes_back, dropped_by, raised_from, tells};
@@ -44,7 +44,7 @@ fn begin_step<'a>(
 ) -> Result<State<'a>, AllocError>
     requires { chart_able with_eight who.now.chart.now ≡ true }
     ensures { IfOk result (λ s. as_state s ≡ step_state (as_actor who.now) step.entry (record { sig = step.sig; pars = step.pars })
-        (config_of own kept)) }
+        (own_config own kept)) }
 {
     let sig = step.sig;
     let leaf = own.leaf;
@@ -67,7 +67,7 @@ fn took<'a>(
     kept: Kept,
 ) -> Result<Option<State<'a>>, AllocError>
     requires { chart_able with_eight who.now.chart.now ≡ true }
-    ensures { IfOk result (λ later. option_map as_state later ≡ option_map (λ x. step_state (as_actor who.now) x.0 x.1 (config_of own kept))
+    ensures { IfOk result (λ later. option_map as_state later ≡ option_map (λ x. step_state (as_actor who.now) x.0 x.1 (own_config own kept))
         (entry_and_event_taken told.now.body told.now.known)) }
 {
     match (&told.body, &told.known) {
@@ -93,8 +93,8 @@ fn noted<'a>(
     kept: Kept,
 ) -> State<'a>
     requires { AreFew (as_way way) (as_tasks left.tasks.items) }
-    ensures { as_state result ≡ noted (as_actor who.now) (as_way way) ends left.entry.leaf (as_tasks left.entry.tasks.items)
-        (config_of own kept) }
+    ensures { as_state result ≡ behind_note (as_actor who.now) (as_way way) ends left.entry.leaf (as_tasks left.entry.tasks.items)
+        (own_config own kept) }
 {
     if ends {
         done(who, way, left, own, kept)
@@ -114,8 +114,8 @@ fn after_note<'a>(
     kept: Kept,
 ) -> Option<State<'a>>
     requires { AreFew (as_way way) (as_tasks left.tasks.items) }
-    ensures { option_map as_state result ≡ (if is_told then Some (noted (as_actor who.now) (as_way way) ends left.entry.leaf
-        (as_tasks left.entry.tasks.items) (config_of own kept)) else None) }
+    ensures { option_map as_state result ≡ (if is_told then Some (behind_note (as_actor who.now) (as_way way) ends left.entry.leaf
+        (as_tasks left.entry.tasks.items) (own_config own kept)) else None) }
 {
     if is_told {
         Some(noted(who, way, ends, left, own, kept))
@@ -135,8 +135,8 @@ fn raised<'a>(
     kept: Kept,
 ) -> Option<State<'a>>
     requires { AreFew (as_way way) (as_tasks left.tasks.items) }
-    ensures { option_map as_state result ≡ option_map (λ former. settle (as_actor who.now) (as_way way) left.entry.leaf
-        (as_tasks left.entry.tasks.items) (record (config_of own kept) { former = former }))
+    ensures { option_map as_state result ≡ option_map (λ former. tasks_state (as_actor who.now) (as_way way) left.entry.leaf
+        (as_tasks left.entry.tasks.items) (record (own_config own kept) { former = former }))
         (raised_from ceiling told.now.body told.now.known) }
 {
     match raised_from(ceiling, told) {
@@ -164,8 +164,8 @@ fn posted<'a>(
     requires able { IsAble who.now.sys.now (as_actor who.now) }
     requires can { CanGoOn who.now.sys.now (as_actor who.now) (as_way way) rest }
     requires few { AreFew (as_way way) (as_tasks left.tasks.items) }
-    ensures { as_state result ≡ posted is_posted (as_actor who.now) (as_way way) inner rest left.entry.leaf
-        (as_tasks left.entry.tasks.items) (config_of own rest.kept) }
+    ensures { as_state result ≡ call_told is_posted (as_actor who.now) (as_way way) inner rest left.entry.leaf
+        (as_tasks left.entry.tasks.items) (own_config own rest.kept) }
 {
     if is_posted {
         State::AtPost {
@@ -192,8 +192,8 @@ fn called<'a>(
     requires able { IsAble who.now.sys.now (as_actor who.now) }
     requires can { CanGoOn who.now.sys.now (as_actor who.now) (as_way way) rest }
     requires few { AreFew (as_way way) (as_tasks left.tasks.items) }
-    ensures { IfOk result (λ later. option_map as_state later ≡ option_map (λ more. posted (inner && is_post told.now.body)
-        (as_actor who.now) (as_way way) inner more left.entry.leaf (as_tasks left.entry.tasks.items) (config_of own more.kept))
+    ensures { IfOk result (λ later. option_map as_state later ≡ option_map (λ more. call_told (inner && is_post told.now.body)
+        (as_actor who.now) (as_way way) inner more left.entry.leaf (as_tasks left.entry.tasks.items) (own_config own more.kept))
         (call_state_next who.now.sys.now who.now.o (moment_of (as_way way)).entry rest told.now)) }
 {
     let entry = way.entry();
@@ -208,7 +208,7 @@ fn called<'a>(
 
 /// A reference was dropped, and so many are left.
 fn left_over<'a>(entry: Entry, d: u64, left: u64, own: Own, kept: Kept) -> State<'a>
-    ensures { as_state result ≡ left_over entry d left (config_of own kept) }
+    ensures { as_state result ≡ behind_dec entry d left (own_config own kept) }
 {
     if left == 0 {
         State::Returning {
@@ -225,7 +225,7 @@ fn left_over<'a>(entry: Entry, d: u64, left: u64, own: Own, kept: Kept) -> State
 
 /// The reference of a step's entry is dropped.
 fn released<'a>(told: &Told, entry: Entry, own: Own, kept: Kept) -> Option<State<'a>>
-    ensures { option_map as_state result ≡ option_map (λ x. left_over entry x.0 x.1 (config_of own kept))
+    ensures { option_map as_state result ≡ option_map (λ x. behind_dec entry x.0 x.1 (own_config own kept))
         (dropped_by entry told.now.body told.now.known) }
 {
     match dropped_by(entry, told) {
@@ -236,7 +236,7 @@ fn released<'a>(told: &Told, entry: Entry, own: Own, kept: Kept) -> Option<State
 
 /// A record was the return of the block, or not.
 fn after_back<'a>(is_back: bool, own: Own, kept: Kept) -> Option<State<'a>>
-    ensures { option_map as_state result ≡ (if is_back then Some (Between (config_of own kept)) else None) }
+    ensures { option_map as_state result ≡ (if is_back then Some (Between (own_config own kept)) else None) }
 {
     if is_back {
         Some(State::Between { own, kept })

@@ -12,18 +12,18 @@ use Rattle.qp_model.specs.Ends.{may_cut, spills_in, spills_cut}
 use Rattle.qp_model.specs.Sources.{SourceEnd, AllDone, BeforeStimulus, AfterTry, AtAssert, InStimulus, SourceRuns, IsSourceLane, may_end, none_twice, entry_seen, source_records}
 use Rattle.qp_model.specs.Lawful.{SpillStands, facts_of}
 use Rattle.qp_check_calls.specs.Decides.{Decides}
-use Rattle.qp_check_ends.specs.AsSource.{flag_of, some_may_end, may_spill}
+use Rattle.qp_check_ends.specs.AsSource.{stops_at, some_may_end, may_spill}
 use Rattle.qp_check_ends.specs.Tries.{entries_seen}
 use Rattle.qp_check_ends.specs.declared.stops.Stops.{Stops}
 use Rattle.qp_check_ends.proofs.RecordLemmas.{decides}
 
 -- an end with its flag
-allowed : (stops : Stops) (end : ℕ) (spills : Bool) → some_may_end stops end spills ≡ true → (stop : SourceEnd) × (flag_of stops stop ≡ true) × (may_end end spills stop ≡ true)
+allowed : (stops : Stops) (end : ℕ) (spills : Bool) → some_may_end stops end spills ≡ true → (stop : SourceEnd) × (stops_at stops stop ≡ true) × (may_end end spills stop ≡ true)
 allowed stops end spills h = by stops.all_done (may_cut end) stops.before_stimulus stops.after_try stops.at_assert stops.in_stimulus spills refl refl refl refl refl refl refl h
   where
     by : (all cut before after at within spilt : Bool) → stops.all_done ≡ all → may_cut end ≡ cut → stops.before_stimulus ≡ before → stops.after_try ≡ after
         → stops.at_assert ≡ at → stops.in_stimulus ≡ within → spills ≡ spilt → (all || (cut && (before || after || at || (within && spilt)))) ≡ true
-        → (stop : SourceEnd) × (flag_of stops stop ≡ true) × (may_end end spills stop ≡ true)
+        → (stop : SourceEnd) × (stops_at stops stop ≡ true) × (may_end end spills stop ≡ true)
     by true cut before after at within spilt e0 e1 e2 e3 e4 e5 e6 h = (AllDone, e0, refl)
     by false false before after at within spilt e0 e1 e2 e3 e4 e5 e6 h = absurd (cc)
     by false true true after at within spilt e0 e1 e2 e3 e4 e5 e6 h = (BeforeStimulus, e2, e1)
@@ -33,7 +33,7 @@ allowed stops end spills h = by stops.all_done (may_cut end) stops.before_stimul
     by false true false false false true false e0 e1 e2 e3 e4 e5 e6 h = absurd (cc)
     by false true false false false false spilt e0 e1 e2 e3 e4 e5 e6 h = absurd (cc)
 
-is-allowed : (stops : Stops) (end : ℕ) (spills : Bool) (stop : SourceEnd) → flag_of stops stop ≡ true → may_end end spills stop ≡ true → some_may_end stops end spills ≡ true
+is-allowed : (stops : Stops) (end : ℕ) (spills : Bool) (stop : SourceEnd) → stops_at stops stop ≡ true → may_end end spills stop ≡ true → some_may_end stops end spills ≡ true
 is-allowed stops end spills AllDone e h = rw e refl
 is-allowed stops end spills BeforeStimulus e h = rw (e, h) (or_right stops.all_done true refl)
 is-allowed stops end spills AfterTry e h = by stops.all_done stops.before_stimulus
@@ -92,7 +92,7 @@ module _ (w : Facts) (kernel end : ℕ) (ss : List Stim) (lane : List Item) (tol
   lane-twice h is = let tries : none_twice (filter_map (λ (i : Item). entry_seen i.body) lane) ≡ true = is.tries in cc
 
   pub lane-decides : list_all (λ i. i.of == 0) lane ≡ true → spills_cut end lane ≡ true → none_twice (entries_seen lane) ≡ true → (stops : Stops)
-      → ((stop : SourceEnd) → Decides (flag_of stops stop) (SourceRuns sys kernel 1 ss stop told))
+      → ((stop : SourceEnd) → Decides (stops_at stops stop) (SourceRuns sys kernel 1 ss stop told))
       → Decides (some_may_end stops end (spills_in lane)) (IsSourceLane w kernel end ss lane)
   unfolding entries_seen
   lane-decides alone spills tries stops runs = decides (some_may_end stops end (spills_in lane)) (IsSourceLane w kernel end ss lane) holds fails
@@ -100,11 +100,11 @@ module _ (w : Facts) (kernel end : ℕ) (ss : List Stim) (lane : List Item) (tol
       holds : some_may_end stops end (spills_in lane) ≡ true → IsSourceLane w kernel end ss lane
       holds e =
           let some = allowed stops end (spills_in lane) e in
-          record { alone = alone; spills = spills; tries = tries; stimuli = (some.0, moved some.0 (flag-runs (flag_of stops some.0) _ (runs some.0) some.1), some.2) }
+          record { alone = alone; spills = spills; tries = tries; stimuli = (some.0, moved some.0 (flag-runs (stops_at stops some.0) _ (runs some.0) some.1), some.2) }
 
       fails : some_may_end stops end (spills_in lane) ≡ false → IsSourceLane w kernel end ss lane → ⊥
       fails e is =
-          let flag : flag_of stops is.stimuli.0 ≡ true = runs-flag (flag_of stops is.stimuli.0) _ (runs is.stimuli.0) (back is.stimuli.0 is.stimuli.1) in
+          let flag : stops_at stops is.stimuli.0 ≡ true = runs-flag (stops_at stops is.stimuli.0) _ (runs is.stimuli.0) (back is.stimuli.0 is.stimuli.1) in
           let some : some_may_end stops end (spills_in lane) ≡ true = is-allowed stops end (spills_in lane) is.stimuli.0 flag is.stimuli.2 in
           cc
 
@@ -120,11 +120,11 @@ decides-either false false P Q p q = both
     both (inr h) = q h
 
 module _ (sys : System) (j : Journal) (kernel : ℕ) (ss : List Stim) (lane : List Item) (told : List Told) (same : j.kernel ≡ kernel) (records : told ≡ source_records (facts_of sys j) lane) (stops : Stops)
-    (runs : (stop : SourceEnd) → Decides (flag_of stops stop) (SourceRuns sys kernel 1 ss stop told)) where
-  runs-at : (stop : SourceEnd) → Decides (flag_of stops stop) (SourceRuns sys j.kernel 1 ss stop (source_records (facts_of sys j) lane))
+    (runs : (stop : SourceEnd) → Decides (stops_at stops stop) (SourceRuns sys kernel 1 ss stop told)) where
+  runs-at : (stop : SourceEnd) → Decides (stops_at stops stop) (SourceRuns sys j.kernel 1 ss stop (source_records (facts_of sys j) lane))
   runs-at stop =
-      subst (λ k. Decides (flag_of stops stop) (SourceRuns sys k 1 ss stop (source_records (facts_of sys j) lane))) (sym same)
-      (subst (λ g. Decides (flag_of stops stop) (SourceRuns sys kernel 1 ss stop g)) records (runs stop))
+      subst (λ k. Decides (stops_at stops stop) (SourceRuns sys k 1 ss stop (source_records (facts_of sys j) lane))) (sym same)
+      (subst (λ g. Decides (stops_at stops stop) (SourceRuns sys kernel 1 ss stop g)) records (runs stop))
 
   pub spill-decides : (cuts : Bool) → Decides (may_spill stops cuts) (SpillStands sys j cuts ss lane)
   unfolding SpillStands

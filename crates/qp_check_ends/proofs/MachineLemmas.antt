@@ -11,8 +11,8 @@ use Rattle.qp_model.specs.Told.{Told, Known, Nothing, plain}
 use Rattle.qp_model.specs.Sources.{SourceEnd, AllDone, BeforeStimulus, AfterTry, AtAssert, InStimulus, SourceRuns}
 use Rattle.qp_check_calls.specs.Decides.{Decides}
 use Rattle.qp_check_ends.specs.Underway.{Underway, underway_next, underway_done}
-use Rattle.qp_check_ends.specs.SourceState.{SourceState, Between, Within, stim_next, stim_of, goes_on, is_ready, within_next, source_next, source_after, stops_after}
-use Rattle.qp_check_ends.specs.AsSource.{as_underway, rest_of, flag_of}
+use Rattle.qp_check_ends.specs.SourceState.{SourceState, Between, Within, stim_next, stim_told, stimulus_goes_on, is_ready, within_next, source_next, source_after, stops_after}
+use Rattle.qp_check_ends.specs.AsSource.{as_underway, source_rest, stops_at}
 use Rattle.qp_check_ends.specs.declared.underway.Underway as declared_underway
 use Rattle.qp_check_ends.specs.declared.stops.Stops.{Stops}
 use Rattle.qp_model.proofs.RecordLemmas.{told-is}
@@ -29,10 +29,10 @@ abbrev look_in : Option (ℕ × ℕ) → ℕ
 look_in None = 0
 look_in (Some p) = p.1
 
-stim-is : (t : Told) (i look : ℕ) → Some (i, look) ≡ stim_of t.body t.known → t ≡ plain (body.Stim i look)
+stim-is : (t : Told) (i look : ℕ) → Some (i, look) ≡ stim_told t.body t.known → t ≡ plain (body.Stim i look)
 stim-is t i look h = by t.body t.known refl refl h
   where
-    by : (b : Body) (known : Known) → t.body ≡ b → t.known ≡ known → Some (i, look) ≡ stim_of b known → t ≡ plain (body.Stim i look)
+    by : (b : Body) (known : Known) → t.body ≡ b → t.known ≡ known → Some (i, look) ≡ stim_told b known → t ≡ plain (body.Stim i look)
     by (body.Stim j k) Nothing is_body is_known e =
         let place : i ≡ j = ap place_in e in
         let number : look ≡ k = ap look_in e in
@@ -40,7 +40,7 @@ stim-is t i look h = by t.body t.known refl refl h
         cc
     by b known is_body is_known e = absurd (cc)
 
-other-next : (sys : System) (kernel k : ℕ) (left : List Stim) (b : Body) (known : Known) → None ≡ stim_of b known → stim_next sys kernel k left b known ≡ None
+other-next : (sys : System) (kernel k : ℕ) (left : List Stim) (b : Body) (known : Known) → None ≡ stim_told b known → stim_next sys kernel k left b known ≡ None
 unfolding stim_next
 other-next sys kernel k [] b known h = refl
 other-next sys kernel k (s ∷ left) (body.Stim i look) Nothing h = absurd (cc)
@@ -49,18 +49,18 @@ other-next sys kernel k (s ∷ left) b known h = refl
 module _ (sys : System) (kernel : ℕ) (under : Option declared_underway.Underway) (k : ℕ) (left : List Stim) (t : Told) where
   stim-goes : (i look : ℕ) (u : Underway) → t ≡ plain (body.Stim i look)
       → source_next sys kernel (Within u k left) t ≡ cond (underway_done u) (stim_next sys kernel k left (body.Stim i look) Nothing) None
-  unfolding source_next goes_on
+  unfolding source_next stimulus_goes_on
   stim-goes i look u is =
-      ap (λ (t : Told). goes_on sys kernel u k left t (underway_next sys kernel u t)) is
-      ∙ ap (goes_on sys kernel u k left (plain (body.Stim i look))) (underway-stim sys i look kernel u)
+      ap (λ (t : Told). stimulus_goes_on sys kernel u k left t (underway_next sys kernel u t)) is
+      ∙ ap (stimulus_goes_on sys kernel u k left (plain (body.Stim i look))) (underway-stim sys i look kernel u)
 
   between-goes : (i look : ℕ) → t ≡ plain (body.Stim i look) → source_next sys kernel (Between k left) t ≡ stim_next sys kernel k left (body.Stim i look) Nothing
   unfolding source_next
   between-goes i look is = ap (λ (t : Told). stim_next sys kernel k left t.body t.known) is
 
   -- the next stimulus begins
-  pub reads-begin : (i look : ℕ) → Some (i, look) ≡ stim_of t.body t.known → is_ready (rest_of sys under k left) ≡ true
-      → source_next sys kernel (rest_of sys under k left) t ≡ stim_next sys kernel k left (body.Stim i look) Nothing
+  pub reads-begin : (i look : ℕ) → Some (i, look) ≡ stim_told t.body t.known → is_ready (source_rest sys under k left) ≡ true
+      → source_next sys kernel (source_rest sys under k left) t ≡ stim_next sys kernel k left (body.Stim i look) Nothing
   reads-begin i look h ready = by under ready
     where
       is : t ≡ plain (body.Stim i look)
@@ -69,22 +69,22 @@ module _ (sys : System) (kernel : ℕ) (under : Option declared_underway.Underwa
       between : source_next sys kernel (Between k left) t ≡ stim_next sys kernel k left (body.Stim i look) Nothing
       between = between-goes i look is
 
-      by : (under : Option declared_underway.Underway) → is_ready (rest_of sys under k left) ≡ true
-          → source_next sys kernel (rest_of sys under k left) t ≡ stim_next sys kernel k left (body.Stim i look) Nothing
+      by : (under : Option declared_underway.Underway) → is_ready (source_rest sys under k left) ≡ true
+          → source_next sys kernel (source_rest sys under k left) t ≡ stim_next sys kernel k left (body.Stim i look) Nothing
       by None ready = between
       by (Some u) ready = stim-goes i look (as_underway sys u) is ∙ ap (λ b. cond b (stim_next sys kernel k left (body.Stim i look) Nothing) None) ready
 
-  pub reads-unready : (i look : ℕ) → Some (i, look) ≡ stim_of t.body t.known → is_ready (rest_of sys under k left) ≡ false → None ≡ source_next sys kernel (rest_of sys under k left) t
+  pub reads-unready : (i look : ℕ) → Some (i, look) ≡ stim_told t.body t.known → is_ready (source_rest sys under k left) ≡ false → None ≡ source_next sys kernel (source_rest sys under k left) t
   reads-unready i look h busy = by under busy
     where
-      by : (under : Option declared_underway.Underway) → is_ready (rest_of sys under k left) ≡ false → None ≡ source_next sys kernel (rest_of sys under k left) t
+      by : (under : Option declared_underway.Underway) → is_ready (source_rest sys under k left) ≡ false → None ≡ source_next sys kernel (source_rest sys under k left) t
       by None busy = absurd (cc)
       by (Some u) busy =
           sym (stim-goes i look (as_underway sys u) (stim-is t i look h) ∙ ap (λ b. cond b (stim_next sys kernel k left (body.Stim i look) Nothing) None) busy)
 
   -- the stimulus under way goes on
-  pub reads-on : None ≡ stim_of t.body t.known → source_next sys kernel (rest_of sys under k left) t ≡ within_next sys kernel (rest_of sys under k left) t
-  unfolding source_next within_next goes_on
+  pub reads-on : None ≡ stim_told t.body t.known → source_next sys kernel (source_rest sys under k left) t ≡ within_next sys kernel (source_rest sys under k left) t
+  unfolding source_next within_next stimulus_goes_on
   reads-on h = by under
     where
       none : stim_next sys kernel k left t.body t.known ≡ None
@@ -94,11 +94,11 @@ module _ (sys : System) (kernel : ℕ) (under : Option declared_underway.Underwa
       done true = none
       done false = refl
 
-      go : (u : Underway) (o : Option Underway) → goes_on sys kernel u k left t o ≡ option_map (λ next. Within next k left) o
+      go : (u : Underway) (o : Option Underway) → stimulus_goes_on sys kernel u k left t o ≡ option_map (λ next. Within next k left) o
       go u None = done (underway_done u)
       go u (Some next) = refl
 
-      by : (under : Option declared_underway.Underway) → source_next sys kernel (rest_of sys under k left) t ≡ within_next sys kernel (rest_of sys under k left) t
+      by : (under : Option declared_underway.Underway) → source_next sys kernel (source_rest sys under k left) t ≡ within_next sys kernel (source_rest sys under k left) t
       by None = none
       by (Some u) = go (as_underway sys u) (underway_next sys kernel (as_underway sys u) t)
 
@@ -121,13 +121,13 @@ after-none sys kernel (t ∷ g) = refl
 
 -- a source's records end where its machine says
 pub stops-decide : (sys : System) (kernel : ℕ) (ss : List Stim) (told : List Told) (stops : Stops) (rest : Option SourceState)
-    → rest ≡ source_after sys kernel (Some (Between 1 ss)) told → (stop : SourceEnd) → flag_of stops stop ≡ stops_after kernel rest stop
-    → Decides (flag_of stops stop) (SourceRuns sys kernel 1 ss stop told)
+    → rest ≡ source_after sys kernel (Some (Between 1 ss)) told → (stop : SourceEnd) → stops_at stops stop ≡ stops_after kernel rest stop
+    → Decides (stops_at stops stop) (SourceRuns sys kernel 1 ss stop told)
 stops-decide sys kernel ss told stops rest is stop flag =
     subst (λ b. Decides b (SourceRuns sys kernel 1 ss stop told)) (sym (flag ∙ ap (λ r. stops_after kernel r stop) is)) (lane-stops call-laws sys kernel 1 ss stop told)
 
 pub none-flag : (stop : SourceEnd)
-    → flag_of (record { all_done = false; before_stimulus = false; after_try = false; at_assert = false; in_stimulus = false }) stop ≡ false
+    → stops_at (record { all_done = false; before_stimulus = false; after_try = false; at_assert = false; in_stimulus = false }) stop ≡ false
 none-flag AllDone = refl
 none-flag BeforeStimulus = refl
 none-flag AfterTry = refl

@@ -6,8 +6,8 @@ use Rattle.std.proofs.lemmas.Bool.Decides.{nat_tests}
 use Rattle.qp_chart.specs.StateTree.{has}
 use Rattle.qp_model.specs.End.{same_numbers}
 use Rattle.qp_model.specs.Lists.{without_one}
-use Rattle.qp_check_lanes.specs.Standing.{places}
-use Rattle.qp_check_ends.specs.Resting.{Counted}
+use Rattle.qp_check_lanes.specs.Standing.{times_in}
+use Rattle.qp_check_ends.specs.Resting.{AreNamesCounted}
 use Rattle.qp_check_lanes.proofs.StandingLemmas.{has-places, places-without, places-other, length-without, places-within_length}
 
 -- a count that isn't none has a place
@@ -45,14 +45,14 @@ above-none n h = grind (arith, nat_tests)
 none-not : (n : ℕ) → n ≡ 0 → nat_lt 0 n ≡ false
 none-not n h = grind (arith, nat_tests)
 
-module _ (names counts : List ℕ) (many : ℕ) (h : Counted names counts many) where
+module _ (names counts : List ℕ) (many : ℕ) (h : AreNamesCounted names counts many) where
   pub has-counted : (k : ℕ) → has names k ≡ nat_lt 0 (get_or counts k 0)
   has-counted k = has-places k names ∙ ap (nat_lt 0) (h.each k)
 
   pub count-le : (k : ℕ) → get_or counts k 0 ≤ many
   count-le k = omega (arith, places-within_length k names, h.each k, h.total)
 
-  pub counted-remove : (k : ℕ) → 0 < get_or counts k 0 → (v m : ℕ) → v ≡ get_or counts k 0 - 1 → m ≡ many - 1 → Counted (without_one k names) (set counts k v) m
+  pub counted-remove : (k : ℕ) → 0 < get_or counts k 0 → (v m : ℕ) → v ≡ get_or counts k 0 - 1 → m ≡ many - 1 → AreNamesCounted (without_one k names) (set counts k v) m
   counted-remove k some v m is less = record { total = omega (arith, h.total, less, length-without k names held); each = λ j. each j (j == k) refl }
     where
       held : has names k ≡ true
@@ -61,17 +61,17 @@ module _ (names counts : List ℕ) (many : ℕ) (h : Counted names counts many) 
       inside : k < length counts
       inside = inside-counts counts k some
 
-      each : (j : ℕ) → (b : Bool) → (j == k) ≡ b → places j (without_one k names) ≡ get_or (set counts k v) j 0
+      each : (j : ℕ) → (b : Bool) → (j == k) ≡ b → times_in j (without_one k names) ≡ get_or (set counts k v) j 0
       each j true e =
           let at : j ≡ k = grind (arith, nat_tests) in
-          let was : places k names ≡ get_or counts k 0 = h.each k in
-          let fewer : places k names ≡ suc (places k (without_one k names)) = places-without k names held in
-          let here : places j (without_one k names) ≡ places k (without_one k names) = ap (λ i. places i (without_one k names)) at in
-          let last : places j (without_one k names) ≡ v = omega arith in
+          let was : times_in k names ≡ get_or counts k 0 = h.each k in
+          let fewer : times_in k names ≡ suc (times_in k (without_one k names)) = places-without k names held in
+          let here : times_in j (without_one k names) ≡ times_in k (without_one k names) = ap (λ i. times_in i (without_one k names)) at in
+          let last : times_in j (without_one k names) ≡ v = omega arith in
           rw (get-set counts k j v inside, e) last
       each j false e = rw (get-set counts k j v inside, e) (places-other j k names e ∙ h.each j)
 
-  pub counted-keep : (k : ℕ) → get_or counts k 0 ≡ 0 → Counted (without_one k names) counts many
+  pub counted-keep : (k : ℕ) → get_or counts k 0 ≡ 0 → AreNamesCounted (without_one k names) counts many
   counted-keep k none = rw (without-absent k names (has-counted k ∙ none-not (get_or counts k 0) none)) h
 
   all-counted : (others : List ℕ) → list_all (λ k. nat_lt 0 (get_or counts k 0)) others ≡ list_all (λ k. has names k) others
@@ -112,7 +112,7 @@ not-all-of p (x ∷ xs) k held fails = go (x == k) refl held (not-all-of p xs k)
     go false e held later = and_right (p x) _ (later held fails)
 
 -- each reference that stands is one of the others, which are marked
-module _ (names counts : List ℕ) (many : ℕ) (h : Counted names counts many) (marks : List Bool) (others : List ℕ) (marked : (k : ℕ) → k < length counts → get_or marks k false ≡ has others k) where
+module _ (names counts : List ℕ) (many : ℕ) (h : AreNamesCounted names counts many) (marks : List Bool) (others : List ℕ) (marked : (k : ℕ) → k < length counts → get_or marks k false ≡ has others k) where
   pub only-marked : ((k : ℕ) → k < length counts → 0 < get_or counts k 0 → get_or marks k false ≡ true) → true ≡ list_all (λ x. has others x) names
   only-marked each = sym (all-of (λ x. has others x) names test)
     where

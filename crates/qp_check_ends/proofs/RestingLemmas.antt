@@ -12,7 +12,7 @@ use Rattle.qp_model.specs.FreeBlocks.{Pool, free_blocks}
 use Rattle.qp_model.specs.Line.{Line, line}
 use Rattle.qp_model.specs.Lists.{all_below, count_up}
 use Rattle.qp_model.specs.Machine.{Machine, after, after_from}
-use Rattle.qp_check_lanes.specs.WordState.{said}
+use Rattle.qp_check_lanes.specs.WordState.{item_said}
 use Rattle.qp_check_lanes.proofs.WalkLemmas.{rest_get}
 
 -- a test of all numbers below one more

@@ -9,7 +9,7 @@ use Rattle.qp_model.specs.Told.{Told, Known, Nothing, plain}
 use Rattle.qp_model.specs.Kernels.{may_try}
 use Rattle.qp_model.specs.Sources.{SeesEmpty, SeesEntry, Tries, Settles, priorities}
 use Rattle.qp_model.proofs.LineLemmas.{same_number}
-use Rattle.qp_check_ends.specs.SettleState.{SettleState, Before, Seeing, before_next, behind_seen, seen_next, settle_next}
+use Rattle.qp_check_ends.specs.SettleState.{SettleState, Before, Seeing, before_next, behind_seen, settle_seen_next, settle_next}
 use Rattle.qp_model.proofs.RecordLemmas.{told-is}
 use Rattle.qp_check_ends.proofs.RecordLemmas.{first-is}
 
@@ -61,10 +61,10 @@ entry-behind kernel os posted taken h may =
     let above : nat_lt taken posted ≡ true = grind (arith, nat_tests) in
     rw (other, above, may) refl
 
-seen-shut : (b : Body) (known : Known) (kernel o : ℕ) (os : List ℕ) (f l m : ℕ) → b ≡ body.Seen o f l m → known ≡ Nothing → seen_next kernel o os b known ≡ behind_seen kernel os (f + l) m
+seen-shut : (b : Body) (known : Known) (kernel o : ℕ) (os : List ℕ) (f l m : ℕ) → b ≡ body.Seen o f l m → known ≡ Nothing → settle_seen_next kernel o os b known ≡ behind_seen kernel os (f + l) m
 seen-shut b known kernel o os f l m is_body is_known = rw (is_body, is_known, same_number o) refl
 
-pub seen-is : (t : Told) (kernel o : ℕ) (os : List ℕ) (f l m : ℕ) → t ≡ plain (body.Seen o f l m) → seen_next kernel o os t.body t.known ≡ behind_seen kernel os (f + l) m
+pub seen-is : (t : Told) (kernel o : ℕ) (os : List ℕ) (f l m : ℕ) → t ≡ plain (body.Seen o f l m) → settle_seen_next kernel o os t.body t.known ≡ behind_seen kernel os (f + l) m
 seen-is t kernel o os f l m e = seen-shut t.body t.known kernel o os f l m (ap (λ (t : Told). t.body) e) (ap (λ (t : Told). t.known) e)
 
 -- what is left of a settle reads one record
@@ -83,7 +83,7 @@ settle-whole-seen sys kernel o os t g (InVain one rest e may some h) =
     whole : t ∷ g ≡ plain (body.Seen o some.0 some.1 some.2) ∷ (some.3 ++ rest)
     whole = e ∙ ap (λ us. us ++ rest) some.4
 
-    is : seen_next kernel o os t.body t.known ≡ behind_seen kernel os (some.0 + some.1) some.2
+    is : settle_seen_next kernel o os t.body t.known ≡ behind_seen kernel os (some.0 + some.1) some.2
     is = seen-is t kernel o os some.0 some.1 some.2 (first-is _ _ _ _ whole).0
 
     behind : g ≡ some.3 ++ rest
@@ -132,10 +132,10 @@ saw kernel os posted taken s' h = by (posted == taken) (nat_lt taken posted) (ma
 pub data SawAt (kernel o : ℕ) (os : List ℕ) (t : Told) (s' : SettleState) : Type 0 where
   At : (f l m : ℕ) → t ≡ plain (body.Seen o f l m) → Saw kernel os (f + l) m s' → SawAt kernel o os t s'
 
-pub saw-at : (kernel o : ℕ) (os : List ℕ) (t : Told) (s' : SettleState) → seen_next kernel o os t.body t.known ≡ Some s' → SawAt kernel o os t s'
+pub saw-at : (kernel o : ℕ) (os : List ℕ) (t : Told) (s' : SettleState) → settle_seen_next kernel o os t.body t.known ≡ Some s' → SawAt kernel o os t s'
 saw-at kernel o os t s' h = by t.body t.known refl refl h
   where
-    by : (b : Body) (known : Known) → t.body ≡ b → t.known ≡ known → seen_next kernel o os b known ≡ Some s' → SawAt kernel o os t s'
+    by : (b : Body) (known : Known) → t.body ≡ b → t.known ≡ known → settle_seen_next kernel o os b known ≡ Some s' → SawAt kernel o os t s'
     by (body.Seen p f l m) Nothing is_body is_known k = go (p == o) refl k
       where
         go : (same : Bool) → (p == o) ≡ same → cond same (behind_seen kernel os (f + l) m) None ≡ Some s' → SawAt kernel o os t s'

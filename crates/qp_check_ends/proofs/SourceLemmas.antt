@@ -13,7 +13,7 @@ use Rattle.qp_model.specs.Sources.{SourceEnd, SourceRuns, look_may}
 use Rattle.qp_model.proofs.LineLemmas.{same_number}
 use Rattle.qp_check_calls.specs.Decides.{Decides}
 use Rattle.qp_check_ends.specs.Underway.{Underway, underway_begin, underway_next, underway_done}
-use Rattle.qp_check_ends.specs.SourceState.{SourceState, Between, Within, stim_next, goes_on, source_next}
+use Rattle.qp_check_ends.specs.SourceState.{SourceState, Between, Within, stim_next, stimulus_goes_on, source_next}
 use Rattle.qp_model.proofs.RecordLemmas.{told-is}
 use Rattle.qp_check_ends.proofs.RecordLemmas.{mapped, first-is, none-first}
 use Rattle.qp_check_ends.proofs.CallLemmas.{CallLaws}
@@ -104,12 +104,12 @@ module _ (laws : CallLaws) (sys : System) (kernel : ℕ) where
   -- a stimulus that is done, and the next one
   within-done : (u : Underway) (k : ℕ) (left : List Stim) (stop : SourceEnd) (t : Told) (g : List Told) → UnderwayFits sys kernel u false []
       → SourceRuns sys kernel k left stop (t ∷ g) → Reads (Within u k left) t stop g
-  unfolding source_next goes_on Decides
+  unfolding source_next stimulus_goes_on Decides
   within-done u k left stop t g fits runs =
       let some = stim-whole k left stop t g runs in
       let shut : underway_next sys kernel u t ≡ None = ap (underway_next sys kernel u) some.2 ∙ underway-stim sys k some.1 kernel u in
       let done : underway_done u ≡ true = by (underway_done u) (done-end laws sys kernel u) in
-      (some.0, ap (goes_on sys kernel u k left t) shut ∙ rw done some.3, some.4)
+      (some.0, ap (stimulus_goes_on sys kernel u k left t) shut ∙ rw done some.3, some.4)
     where
       by : (b : Bool) → Decides b (UnderwayFits sys kernel u false []) → b ≡ true
       by true d = refl
@@ -117,8 +117,8 @@ module _ (laws : CallLaws) (sys : System) (kernel : ℕ) where
 
   within-on : (u next : Underway) (k : ℕ) (left : List Stim) (stop : SourceEnd) (t : Told) (g : List Told) → underway_next sys kernel u t ≡ Some next
       → RunsWithin sys kernel next k left stop g → Reads (Within u k left) t stop g
-  unfolding source_next goes_on RunsOf
-  within-on u next k left stop t g e h = (Within next k left, ap (goes_on sys kernel u k left t) e, h)
+  unfolding source_next stimulus_goes_on RunsOf
+  within-on u next k left stop t g e h = (Within next k left, ap (stimulus_goes_on sys kernel u k left t) e, h)
 
   within-whole : (u : Underway) (k : ℕ) (left : List Stim) (stop : SourceEnd) (t : Told) (g : List Told) → RunsWithin sys kernel u k left stop (t ∷ g)
       → Reads (Within u k left) t stop g
@@ -137,8 +137,8 @@ module _ (laws : CallLaws) (sys : System) (kernel : ℕ) where
 
   -- and only such
   within-sound : (u : Underway) (k : ℕ) (left : List Stim) (stop : SourceEnd) (t : Told) (g : List Told) (next : SourceState)
-      → goes_on sys kernel u k left t (underway_next sys kernel u t) ≡ Some next → RunsOf sys kernel next stop g → RunsWithin sys kernel u k left stop (t ∷ g)
-  unfolding goes_on RunsOf Decides
+      → stimulus_goes_on sys kernel u k left t (underway_next sys kernel u t) ≡ Some next → RunsOf sys kernel next stop g → RunsWithin sys kernel u k left stop (t ∷ g)
+  unfolding stimulus_goes_on RunsOf Decides
   within-sound u k left stop t g next e h = by (underway_next sys kernel u t) refl e
     where
       on : (v : Underway) → underway_next sys kernel u t ≡ Some v → RunsWithin sys kernel v k left stop g → RunsWithin sys kernel u k left stop (t ∷ g)
@@ -150,7 +150,7 @@ module _ (laws : CallLaws) (sys : System) (kernel : ℕ) where
       done true d e = RunsOn [] (t ∷ g) refl d (stim-sound k left stop t g next e h)
       done false d e = absurd (cc)
 
-      by : (v : Option Underway) → underway_next sys kernel u t ≡ v → goes_on sys kernel u k left t v ≡ Some next → RunsWithin sys kernel u k left stop (t ∷ g)
+      by : (v : Option Underway) → underway_next sys kernel u t ≡ v → stimulus_goes_on sys kernel u k left t v ≡ Some next → RunsWithin sys kernel u k left stop (t ∷ g)
       by (Some v) is e = let same : next ≡ Within v k left = cc in on v is (subst (λ n. RunsOf sys kernel n stop g) same h)
       by None is e = done (underway_done u) (done-end laws sys kernel u) e
 
@@ -166,7 +166,7 @@ module _ (laws : CallLaws) (sys : System) (kernel : ℕ) where
   stim-opens k left t next (Begins look s behind u is first may e next_is) = subst (IsSound sys) (sym next_is) (begin-opens laws sys kernel s u e)
 
   pub source-opens : (rest : SourceState) (t : Told) (next : SourceState) → source_next sys kernel rest t ≡ Some next → IsSound sys next
-  unfolding source_next goes_on IsSound
+  unfolding source_next stimulus_goes_on IsSound
   source-opens (Between k left) t next e = stim-opens k left t next (stim-is sys kernel k left t next e)
   source-opens (Within u k left) t next e = by (underway_next sys kernel u t) refl e
     where
@@ -174,6 +174,6 @@ module _ (laws : CallLaws) (sys : System) (kernel : ℕ) where
       done true e = stim-opens k left t next (stim-is sys kernel k left t next e)
       done false e = absurd (cc)
 
-      by : (v : Option Underway) → underway_next sys kernel u t ≡ v → goes_on sys kernel u k left t v ≡ Some next → IsSound sys next
+      by : (v : Option Underway) → underway_next sys kernel u t ≡ v → stimulus_goes_on sys kernel u k left t v ≡ Some next → IsSound sys next
       by (Some v) is e = let same : next ≡ Within v k left = cc in subst (IsSound sys) (sym same) (next-opens laws sys kernel u v t is)
       by None is e = done (underway_done u) e

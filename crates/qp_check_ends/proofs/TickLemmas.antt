@@ -12,7 +12,7 @@ use Rattle.qp_model.specs.Told.{Told, Known, Nothing, plain}
 use Rattle.qp_model.specs.Sites.{ring_of}
 use Rattle.qp_model.specs.Sources.{TicksOne, FiresInVain, Ticks}
 use Rattle.qp_model.proofs.LineLemmas.{same_number}
-use Rattle.qp_check_ends.specs.TickState.{Due, dues, TickState, Reaching, Fired, Vain, reach_next, had_room, fired_next, tick_next}
+use Rattle.qp_check_ends.specs.TickState.{Due, dues, TickState, Reaching, Fired, Vain, reach_next, ring_had_room, fired_next, tick_next}
 use Rattle.qp_model.proofs.RecordLemmas.{told-is, same_entry-is}
 use Rattle.qp_check_ends.proofs.RecordLemmas.{first-is, passed}
 
@@ -67,7 +67,7 @@ due-back sys rate t (d ∷ ds) asserted g h = ticks-back sys rate t d ds asserte
 -- what is left behind a timer that fired
 pub data FiredOn (sys : System) (object sig : ℕ) (left : List Due) (asserted : Bool) (g : List Told) : Type 0 where
   NoneFree : (f l m : ℕ) → g ≡ plain (body.NoEntry object f l m) ∷ [] → asserted ≡ true → FiredOn sys object sig left asserted g
-  IsPosted : (f l m : ℕ) (rest : List Told) → g ≡ plain (body.Post object f l m (entry 0 sig 0)) ∷ rest → had_room (ring_of sys object) f l m ≡ true
+  IsPosted : (f l m : ℕ) (rest : List Told) → g ≡ plain (body.Post object f l m (entry 0 sig 0)) ∷ rest → ring_had_room (ring_of sys object) f l m ≡ true
       → TicksDue sys left asserted rest → FiredOn sys object sig left asserted g
 
 -- the records of what is left of a tick
@@ -91,7 +91,7 @@ fire-reach x left t n reload e = ap (λ (t : Told). reach_next x left t.body t.k
 
 reach-whole : (sys : System) (x : Due) (left : List Due) (asserted : Bool) (t : Told) (g : List Told)
     → TicksDue sys (x ∷ left) asserted (t ∷ g) → GoesTick sys (Reaching (x ∷ left)) asserted t g
-unfolding TicksDue TickFits tick_next TicksOne FiresInVain had_room
+unfolding TicksDue TickFits tick_next TicksOne FiresInVain ring_had_room
 reach-whole sys x left asserted t g (inl h) =
     let is : t ≡ plain (body.Fire x.t h.1.0 h.1.1) = (first-is _ _ _ _ h.1.5).0 in
     (Fired x.object x.sig left, fire-reach x left t h.1.0 h.1.1 is, NoneFree h.1.2 h.1.3 h.1.4 (first-is _ _ _ _ h.1.5).1 h.0)
@@ -157,7 +157,7 @@ reached x left t s' h = by t.body t.known refl refl h
 
 reach-sound : (sys : System) (x : Due) (left : List Due) (asserted : Bool) (t : Told) (g : List Told) (s' : TickState)
     → Reached x left t s' → TickFits sys s' asserted g → TicksDue sys (x ∷ left) asserted (t ∷ g)
-unfolding TicksDue TickFits TicksOne FiresInVain had_room
+unfolding TicksDue TickFits TicksOne FiresInVain ring_had_room
 reach-sound sys x left asserted t g s' (WasIdle n is next) h =
     inr (t ∷ [], g, refl, inl (n, ap (λ t. t ∷ []) is), subst (λ s. TickFits sys s asserted g) next h)
 reach-sound sys x left asserted t g s' (Fell n counter is next) h =
@@ -175,18 +175,18 @@ reach-sound sys x left asserted t g s' (HasFired n reload is next) h = by (subst
 -- what a post of a timer leaves
 data WentOn (ring : ℕ) (object sig : ℕ) (left : List Due) (t : Told) (s' : TickState) : Type 0 where
   WasFull : (f l m : ℕ) → t ≡ plain (body.NoEntry object f l m) → s' ≡ Vain → WentOn ring object sig left t s'
-  HasPosted : (f l m : ℕ) → t ≡ plain (body.Post object f l m (entry 0 sig 0)) → had_room ring f l m ≡ true → s' ≡ Reaching left → WentOn ring object sig left t s'
+  HasPosted : (f l m : ℕ) → t ≡ plain (body.Post object f l m (entry 0 sig 0)) → ring_had_room ring f l m ≡ true → s' ≡ Reaching left → WentOn ring object sig left t s'
 
 went-on : (ring : ℕ) (object sig : ℕ) (left : List Due) (t : Told) (s' : TickState) → fired_next ring object sig left t.body t.known ≡ Some s' → WentOn ring object sig left t s'
 went-on ring object sig left t s' h = by t.body t.known refl refl h
   where
     by : (b : Body) (known : Known) → t.body ≡ b → t.known ≡ known → fired_next ring object sig left b known ≡ Some s' → WentOn ring object sig left t s'
     by (body.Post a f l m e) Nothing is_body is_known k =
-        let both = passed ((a == object) && same_entry e (entry 0 sig 0) && had_room ring f l m) (Reaching left) s' k in
-        let test : ((a == object) && same_entry e (entry 0 sig 0) && had_room ring f l m) ≡ true = both.0 in
+        let both = passed ((a == object) && same_entry e (entry 0 sig 0) && ring_had_room ring f l m) (Reaching left) s' k in
+        let test : ((a == object) && same_entry e (entry 0 sig 0) && ring_had_room ring f l m) ≡ true = both.0 in
         let same_object : a ≡ object = grind (arith, nat_tests) in
         let alike : same_entry e (entry 0 sig 0) ≡ true = grind (arith, nat_tests) in
-        let room : had_room ring f l m ≡ true = grind (arith, nat_tests) in
+        let room : ring_had_room ring f l m ≡ true = grind (arith, nat_tests) in
         let same : e ≡ entry 0 sig 0 = same_entry-is e (entry 0 sig 0) alike in
         HasPosted f l m (told-is t _ _ is_body is_known ∙ cc) room both.1
     by (body.NoEntry a f l m) Nothing is_body is_known k =

@@ -12,7 +12,7 @@ use Rattle.qp_model.specs.declared.record.Rec.{Rec}
 use Rattle.qp_model.specs.Record.{Item, item_of}
 use Rattle.qp_model.specs.History.{lane_items}
 use Rattle.qp_model.specs.Sources.{entry_seen, same_list, none_twice}
-use Rattle.qp_check_ends.specs.Tries.{entries_seen, Holds, with_seen, repeats}
+use Rattle.qp_check_ends.specs.Tries.{entries_seen, SetHolds, with_seen, repeats}
 use Rattle.qp_model.proofs.RecordLemmas.{items-up_to, items-split}
 
 -- the order tells lists apart as the test does
@@ -51,8 +51,8 @@ same_list-turned (x ∷ xs) (y ∷ ys) =
 -- a key that is put in the set
 pub new-holds : (old new : BTreeSet (List ℕ)) (key : List ℕ) (added : Bool) → added ≡ not (contains (slice_cmp nat_cmp) old key)
     → ((q : List ℕ) → contains (slice_cmp nat_cmp) new q ≡ cond (is_eq (slice_cmp nat_cmp key q)) true (contains (slice_cmp nat_cmp) old q))
-    → (xs : List (List ℕ)) → Holds old xs → (added ≡ not (repeats xs (Some key))) × Holds new (with_seen xs (Some key))
-unfolding Holds
+    → (xs : List (List ℕ)) → SetHolds old xs → (added ≡ not (repeats xs (Some key))) × SetHolds new (with_seen xs (Some key))
+unfolding SetHolds
 new-holds old new key added e updates xs held = (e ∙ ap not (held key), λ q. updates q ∙ one q)
   where
     or-last : (a b : Bool) → cond a true b ≡ (b || (a || false))
@@ -108,8 +108,8 @@ none-front (x ∷ xs) ys h =
     by false true e front k = absurd (cc)
     by false false e front k = ap (λ b. not (list_any (same_list x) ys) && b) (front e) ∙ none-right (list_any (same_list x) ys)
 
-pub seen-none : (set : BTreeSet (List ℕ)) → ((q : List ℕ) → contains (slice_cmp nat_cmp) set q ≡ false) → Holds set (entries_seen (lane_items []))
-unfolding Holds entries_seen lane_items
+pub seen-none : (set : BTreeSet (List ℕ)) → ((q : List ℕ) → contains (slice_cmp nat_cmp) set q ≡ false) → SetHolds set (entries_seen (lane_items []))
+unfolding SetHolds entries_seen lane_items
 seen-none set empty = λ q. empty q
 
 pub differ-none : none_twice (entries_seen (lane_items [])) ≡ true
@@ -136,16 +136,16 @@ module _ (lane : List Rec) (i : ℕ) (r : Rec) (inside : i < length lane) (is : 
 
   -- a record more, with what was seen before
   pub seen-next : (new : Bool) (next : BTreeSet (List ℕ)) (key : Option (List ℕ)) → key ≡ entry_seen (item_of r).body
-      → (new ≡ not (repeats (entries_seen (lane_items (take i lane))) key)) × Holds next (with_seen (entries_seen (lane_items (take i lane))) key)
+      → (new ≡ not (repeats (entries_seen (lane_items (take i lane))) key)) × SetHolds next (with_seen (entries_seen (lane_items (take i lane))) key)
       → none_twice (entries_seen (lane_items (take i lane))) ≡ true → new ≡ true
-      → Holds next (entries_seen (lane_items (take (i + 1) lane))) × (none_twice (entries_seen (lane_items (take (i + 1) lane))) ≡ true)
+      → SetHolds next (entries_seen (lane_items (take (i + 1) lane))) × (none_twice (entries_seen (lane_items (take (i + 1) lane))) ≡ true)
   seen-next new next key e h before fresh =
       let more : entries_seen (lane_items (take (i + 1) lane)) ≡ with_seen (entries_seen (lane_items (take i lane))) key = seen-more ∙ ap (with_seen (entries_seen (lane_items (take i lane)))) (sym e) in
       let tests : (none_twice (entries_seen (lane_items (take i lane))) && not (repeats (entries_seen (lane_items (take i lane))) key)) ≡ true = rw (before, sym h.0) fresh in
-      (subst (Holds next) (sym more) h.1, ap none_twice more ∙ none-more (entries_seen (lane_items (take i lane))) key ∙ tests)
+      (subst (SetHolds next) (sym more) h.1, ap none_twice more ∙ none-more (entries_seen (lane_items (take i lane))) key ∙ tests)
 
   pub seen-again : (new : Bool) (next : BTreeSet (List ℕ)) (key : Option (List ℕ)) → key ≡ entry_seen (item_of r).body
-      → (new ≡ not (repeats (entries_seen (lane_items (take i lane))) key)) × Holds next (with_seen (entries_seen (lane_items (take i lane))) key)
+      → (new ≡ not (repeats (entries_seen (lane_items (take i lane))) key)) × SetHolds next (with_seen (entries_seen (lane_items (take i lane))) key)
       → new ≡ false → false ≡ none_twice (entries_seen (lane_items lane))
   unfolding entries_seen
   seen-again new next key e h old =

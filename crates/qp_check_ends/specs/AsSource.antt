@@ -18,20 +18,20 @@ as_underway sys (declared_underway.Calling rest) = underway.Calling rest
 as_underway sys (declared_underway.Ticking rest) = underway.Ticking (as_tick sys rest)
 as_underway sys (declared_underway.Settling rest) = underway.Settling (as_settle sys rest)
 
-abbrev pub rest_of : System → Option Underway → ℕ → List Stim → source.SourceState
-rest_of sys None k left = source.Between k left
-rest_of sys (Some u) k left = source.Within (as_underway sys u) k left
+abbrev pub source_rest : System → Option Underway → ℕ → List Stim → source.SourceState
+source_rest sys None k left = source.Between k left
+source_rest sys (Some u) k left = source.Within (as_underway sys u) k left
 
 abbrev pub as_source : System → List Stim → SourceState → source.SourceState
-as_source sys ss rest = rest_of sys rest.under (rest.begun + 1) (drop rest.begun ss)
+as_source sys ss rest = source_rest sys rest.under (rest.begun + 1) (drop rest.begun ss)
 
 -- the flag of an end
-abbrev pub flag_of : Stops → SourceEnd → Bool
-flag_of stops AllDone = stops.all_done
-flag_of stops BeforeStimulus = stops.before_stimulus
-flag_of stops AfterTry = stops.after_try
-flag_of stops AtAssert = stops.at_assert
-flag_of stops InStimulus = stops.in_stimulus
+abbrev pub stops_at : Stops → SourceEnd → Bool
+stops_at stops AllDone = stops.all_done
+stops_at stops BeforeStimulus = stops.before_stimulus
+stops_at stops AfterTry = stops.after_try
+stops_at stops AtAssert = stops.at_assert
+stops_at stops InStimulus = stops.in_stimulus
 
 -- one of the ends that were found is allowed
 abbrev pub some_may_end : Stops → ℕ → Bool → Bool

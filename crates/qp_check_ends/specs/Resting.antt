@@ -2,12 +2,12 @@
 use Rattle.std.specs.Prelude.{◌≡◌, ℕ, nat_lt, Bool, true, List, length, get_or}
 use Rattle.qp_model.specs.declared.bodies.Body.{Body}
 use Rattle.qp_model.specs.declared.bodies.Body.TheVariants.{Inc}
-use Rattle.qp_check_lanes.specs.Standing.{places}
+use Rattle.qp_check_lanes.specs.Standing.{times_in}
 
 -- how often each reference stands, and how many stand in all
-pub record Counted (names : List ℕ) (counts : List ℕ) (many : ℕ) : Type 0 where
+pub record AreNamesCounted (names : List ℕ) (counts : List ℕ) (many : ℕ) : Type 0 where
   pub total : many ≡ length names
-  pub each : (k : ℕ) → places k names ≡ get_or counts k 0
+  pub each : (k : ℕ) → times_in k names ≡ get_or counts k 0
 
 -- where it makes a reference, its number is below n
 abbrev pub makes_below : ℕ → Body → Bool

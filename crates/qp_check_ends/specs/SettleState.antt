@@ -23,15 +23,15 @@ abbrev pub behind_seen : ℕ → List ℕ → ℕ → ℕ → Option SettleState
 behind_seen kernel left posted taken =
     if posted == taken then Some (Seeing left) else (if nat_lt taken posted && may_try kernel then Some (Before true) else None)
 
-abbrev pub seen_next : ℕ → ℕ → List ℕ → Body → Known → Option SettleState
-seen_next kernel o left (body.Seen p f l m) Nothing = if p == o then behind_seen kernel left (f + l) m else None
-seen_next kernel o left b known = None
+abbrev pub settle_seen_next : ℕ → ℕ → List ℕ → Body → Known → Option SettleState
+settle_seen_next kernel o left (body.Seen p f l m) Nothing = if p == o then behind_seen kernel left (f + l) m else None
+settle_seen_next kernel o left b known = None
 
 -- what is left of a settle behind its next record
 unfoldable pub settle_next : System → ℕ → SettleState → Told → Option SettleState
 settle_next sys kernel (Before tried) t = before_next (priorities sys) t.body t.known
 settle_next sys kernel (Seeing []) t = None
-settle_next sys kernel (Seeing (o ∷ left)) t = seen_next kernel o left t.body t.known
+settle_next sys kernel (Seeing (o ∷ left)) t = settle_seen_next kernel o left t.body t.known
 
 -- the settle is done
 abbrev pub settle_done : SettleState → Bool

@@ -23,21 +23,21 @@ stim_next sys kernel k (s ∷ left) (body.Stim i look) Nothing =
 stim_next sys kernel k left b known = None
 
 -- a stimulus goes on, or it is done and the next one begins
-unfoldable pub goes_on : System → ℕ → Underway → ℕ → List Stim → Told → Option Underway → Option SourceState
+unfoldable pub stimulus_goes_on : System → ℕ → Underway → ℕ → List Stim → Told → Option Underway → Option SourceState
 unfolding stim_next
-goes_on sys kernel u k left t (Some next) = Some (Within next k left)
-goes_on sys kernel u k left t None = if underway_done u then stim_next sys kernel k left t.body t.known else None
+stimulus_goes_on sys kernel u k left t (Some next) = Some (Within next k left)
+stimulus_goes_on sys kernel u k left t None = if underway_done u then stim_next sys kernel k left t.body t.known else None
 
 -- what is left behind the next record
 unfoldable pub source_next : System → ℕ → SourceState → Told → Option SourceState
-unfolding goes_on stim_next underway_next
+unfolding stimulus_goes_on stim_next underway_next
 source_next sys kernel (Between k left) t = stim_next sys kernel k left t.body t.known
-source_next sys kernel (Within u k left) t = goes_on sys kernel u k left t (underway_next sys kernel u t)
+source_next sys kernel (Within u k left) t = stimulus_goes_on sys kernel u k left t (underway_next sys kernel u t)
 
 -- the place and the look of a `stim`
-abbrev pub stim_of : Body → Known → Option (ℕ × ℕ)
-stim_of (body.Stim i look) Nothing = Some (i, look)
-stim_of b known = None
+abbrev pub stim_told : Body → Known → Option (ℕ × ℕ)
+stim_told (body.Stim i look) Nothing = Some (i, look)
+stim_told b known = None
 
 -- no stimulus is under way, or it is done
 abbrev pub is_ready : SourceState → Bool

@@ -37,19 +37,19 @@ reach_next x left (body.Fire t n reload) Nothing = if t == x.t then Some (Fired 
 reach_next x left b known = None
 
 -- an entry was free before a post after which the counts are these
-unfoldable pub had_room : ℕ → ℕ → ℕ → ℕ → Bool
+unfoldable pub ring_had_room : ℕ → ℕ → ℕ → ℕ → Bool
 unfolding room_before
-had_room ring f l m = nat_lt 0 (room_before ring f l m)
+ring_had_room ring f l m = nat_lt 0 (room_before ring f l m)
 
 abbrev pub fired_next : ℕ → ℕ → ℕ → List Due → Body → Known → Option TickState
 fired_next ring object sig left (body.Post a f l m e) Nothing =
-    if (a == object) && same_entry e (entry 0 sig 0) && had_room ring f l m then Some (Reaching left) else None
+    if (a == object) && same_entry e (entry 0 sig 0) && ring_had_room ring f l m then Some (Reaching left) else None
 fired_next ring object sig left (body.NoEntry a f l m) Nothing = if a == object then Some Vain else None
 fired_next ring object sig left b known = None
 
 -- what is left of a tick behind its next record
 unfoldable pub tick_next : System → TickState → Told → Option TickState
-unfolding had_room ring_of
+unfolding ring_had_room ring_of
 tick_next sys (Reaching []) t = None
 tick_next sys (Reaching (x ∷ left)) t = reach_next x left t.body t.known
 tick_next sys (Fired object sig left) t = fired_next (ring_of sys object) object sig left t.body t.known

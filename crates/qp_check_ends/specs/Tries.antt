@@ -13,8 +13,8 @@ unfoldable pub entries_seen : List Item → List (List ℕ)
 entries_seen items = filter_map (λ i. entry_seen i.body) items
 
 -- the set has these and no others
-unfoldable pub Holds : BTreeSet (List ℕ) → List (List ℕ) → Type 0
-Holds set xs = (q : List ℕ) → contains (slice_cmp nat_cmp) set q ≡ list_any (same_list q) xs
+unfoldable pub SetHolds : BTreeSet (List ℕ) → List (List ℕ) → Type 0
+SetHolds set xs = (q : List ℕ) → contains (slice_cmp nat_cmp) set q ≡ list_any (same_list q) xs
 
 -- one more, if there is one, and whether it stood there
 abbrev pub with_seen : List (List ℕ) → Option (List ℕ) → List (List ℕ)

@@ -8,7 +8,7 @@ ghost use Rattle.qp_model.specs.Lists.{without_one};
 ghost use Rattle.qp_model.specs.Machine.{after};
 ghost use Rattle.qp_model.specs.Record.{item_of};
 ghost use Rattle.qp_model.specs.References.{Refs, references, refs_next};
-ghost use Rattle.qp_check_ends.specs.Resting.{Counted, makes_below};
+ghost use Rattle.qp_check_ends.specs.Resting.{AreNamesCounted, makes_below};
 
 use qp_check_lanes::groups::Group;
 use qp_check_lanes::lives::marked;
@@ -25,7 +25,7 @@ pub(crate) struct ReferenceCounts {
 impl ReferenceCounts {
     /// No reference stands, and those to come are below `size`.
     fn none(alloc: Global, size: usize) -> Result<Self, AllocError>
-        ensures counted { IfOk result (λ s. Counted [] s.counts.items s.total) }
+        ensures counted { IfOk result (λ s. AreNamesCounted [] s.counts.items s.total) }
         ensures none { IfOk result (λ s. s.total ≡ 0) }
         ensures size { IfOk result (λ s. length s.counts.items ≡ size) }
     {
@@ -48,8 +48,8 @@ impl ReferenceCounts {
     fn add(&mut self, k: u64)
         requires inside { k < length self.old.counts.items }
         requires room { self.old.total + 1 < 2 ^ 64 }
-        requires counts { (names : List ℕ) × Counted names self.old.counts.items self.old.total }
-        ensures counted { (names : List ℕ) → Counted names self.old.counts.items self.old.total → Counted (k ∷ names) self.new.counts.items
+        requires counts { (names : List ℕ) × AreNamesCounted names self.old.counts.items self.old.total }
+        ensures counted { (names : List ℕ) → AreNamesCounted names self.old.counts.items self.old.total → AreNamesCounted (k ∷ names) self.new.counts.items
             self.new.total }
         ensures size { length self.new.counts.items ≡ length self.old.counts.items }
         ensures bounded { self.new.total ≤ self.old.total + 1 }
@@ -60,7 +60,7 @@ impl ReferenceCounts {
 
     /// Removes a reference once, where it stands.
     fn remove(&mut self, k: u64)
-        ensures counted { (names : List ℕ) → Counted names self.old.counts.items self.old.total → Counted (without_one k names)
+        ensures counted { (names : List ℕ) → AreNamesCounted names self.old.counts.items self.old.total → AreNamesCounted (without_one k names)
             self.new.counts.items self.new.total }
         ensures size { length self.new.counts.items ≡ length self.old.counts.items }
         ensures bounded { self.new.total ≤ self.old.total + 1 }
@@ -76,8 +76,8 @@ impl ReferenceCounts {
     fn apply(&mut self, body: &Body)
         requires inside { IsTrue (makes_below (length self.old.counts.items) body.now) }
         requires room { self.old.total + 1 < 2 ^ 64 }
-        requires counts { (names : List ℕ) × Counted names self.old.counts.items self.old.total }
-        ensures counted { (s : Refs) → Counted s.names self.old.counts.items self.old.total → Counted (refs_next s body.now).names
+        requires counts { (names : List ℕ) × AreNamesCounted names self.old.counts.items self.old.total }
+        ensures counted { (s : Refs) → AreNamesCounted s.names self.old.counts.items self.old.total → AreNamesCounted (refs_next s body.now).names
             self.new.counts.items self.new.total }
         ensures size { length self.new.counts.items ≡ length self.old.counts.items }
         ensures bounded { self.new.total ≤ self.old.total + 1 }
@@ -94,8 +94,8 @@ impl ReferenceCounts {
     fn apply_record(&mut self, r: &Rec)
         requires inside { IsTrue (makes_below (length self.old.counts.items) (item_of r.now).body) }
         requires room { self.old.total + 1 < 2 ^ 64 }
-        requires counts { (names : List ℕ) × Counted names self.old.counts.items self.old.total }
-        ensures counted { (s : Refs) → Counted s.names self.old.counts.items self.old.total → Counted (refs_next s (item_of r.now).body).names
+        requires counts { (names : List ℕ) × AreNamesCounted names self.old.counts.items self.old.total }
+        ensures counted { (s : Refs) → AreNamesCounted s.names self.old.counts.items self.old.total → AreNamesCounted (refs_next s (item_of r.now).body).names
             self.new.counts.items self.new.total }
         ensures size { length self.new.counts.items ≡ length self.old.counts.items }
         ensures bounded { self.new.total ≤ self.old.total + 1 }
@@ -106,8 +106,8 @@ impl ReferenceCounts {
     /// Makes these operations, where no reference stands.
     fn apply_all(&mut self, history: &Group)
         requires below { IsTrue (list_all (λ i. makes_below (length self.old.counts.items) i.body) history.now) }
-        requires none { Counted [] self.old.counts.items self.old.total }
-        ensures { Counted (after references history.now).names self.new.counts.items self.new.total }
+        requires none { AreNamesCounted [] self.old.counts.items self.old.total }
+        ensures { AreNamesCounted (after references history.now).names self.new.counts.items self.new.total }
     {
         for r in &history.items {
             self.apply_record(r);
@@ -117,7 +117,7 @@ impl ReferenceCounts {
     /// What stands after these operations, whose references are numbered below `size`.
     pub(crate) fn after(alloc: Global, history: &Group, size: usize) -> Result<Self, AllocError>
         requires { IsTrue (list_all (λ i. makes_below size i.body) history.now) }
-        ensures { IfOk result (λ s. Counted (after references history.now).names s.counts.items s.total) }
+        ensures { IfOk result (λ s. AreNamesCounted (after references history.now).names s.counts.items s.total) }
     {
         let mut counts = ReferenceCounts::none(alloc, size)?;
         counts.apply_all(history);
@@ -134,7 +134,7 @@ impl ReferenceCounts {
     /// Whether each reference that stands is marked.
     fn has_only(&self, marks: &[bool]) -> bool
         requires { length marks.now ≡ length self.now.counts.items }
-        ensures { (names others : List ℕ) → Counted names self.now.counts.items self.now.total →
+        ensures { (names others : List ℕ) → AreNamesCounted names self.now.counts.items self.now.total →
             ((k : ℕ) → k < length self.now.counts.items → get_or marks.now k false ≡ has others k) → result ≡ list_all (λ x. has others x)
             names }
     {
@@ -148,7 +148,7 @@ impl ReferenceCounts {
 
     /// Whether the references that stand are exactly these.
     pub(crate) fn are(&self, alloc: Global, others: &[u64]) -> Result<bool, AllocError>
-        ensures { IfOk result (λ b. (names : List ℕ) → Counted names self.now.counts.items self.now.total → b ≡ same_numbers names others.now) }
+        ensures { IfOk result (λ b. (names : List ℕ) → AreNamesCounted names self.now.counts.items self.now.total → b ≡ same_numbers names others.now) }
     {
         if self.total != others.len() as u64 {
             return Ok(false);

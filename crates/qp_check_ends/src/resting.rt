@@ -12,7 +12,7 @@ ghost use Rattle.qp_model.specs.References.{references};
 ghost use Rattle.qp_model.specs.Sites.{blocks_of, ring_of};
 ghost use Rattle.qp_model.specs.declared.words.Word.TheVariants as word;
 ghost use Rattle.qp_check_words.specs.Numbers.{WordsFit};
-ghost use Rattle.qp_check_ends.specs.Resting.{Counted};
+ghost use Rattle.qp_check_ends.specs.Resting.{AreNamesCounted};
 
 use crate::reference_counts::ReferenceCounts;
 use qp_check_lanes::deferred_entries::deferred;
@@ -97,7 +97,7 @@ fn standing(
     p: u8,
     b: u8,
 ) -> Result<ReferenceCounts, AllocError>
-    ensures { IfOk result (λ s. Counted (after references (hist (word.Block p b) (all_items records.now))).names s.counts.items s.total) }
+    ensures { IfOk result (λ s. AreNamesCounted (after references (hist (word.Block p b) (all_items records.now))).names s.counts.items s.total) }
 {
     let own = named(Word::Block(p, b));
     let size = draw_count(records.on(own));

@@ -6,16 +6,16 @@ ghost use Rattle.qp_model.specs.Parts.{first_pool};
 ghost use Rattle.qp_model.specs.Sites.{ring_of};
 ghost use Rattle.qp_check_calls.specs.AsCall.{as_call};
 ghost use Rattle.qp_check_calls.specs.Reads.{call_able};
-ghost use Rattle.qp_check_ends.specs.TickState.{had_room};
+ghost use Rattle.qp_check_ends.specs.TickState.{ring_had_room};
 
 use qp_check_calls::Call;
 use qp_check_calls::lookups::had_free;
 use qp_model::{PoolDef, System};
 
 /// Whether an entry of the queue of `a` was free before a post after which the counts are these.
-#[tactic(auto, unfolding(crate::specs::TickState::had_room))]
+#[tactic(auto, unfolding(crate::specs::TickState::ring_had_room))]
 pub fn had_room(sys: &System, a: u8, f: u64, l: u64, m: u64) -> bool
-    ensures { result ≡ had_room (ring_of sys.now a) f l m }
+    ensures { result ≡ ring_had_room (ring_of sys.now a) f l m }
 {
     had_free(sys.ring_of(u64::from(a)), 0, f, l, m)
 }

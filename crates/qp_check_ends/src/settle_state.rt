@@ -3,7 +3,7 @@
 ghost use Rattle.std.specs.Prelude.{◌≡◌, ◌+◌, ◌-◌, ◌^◌, ◌<◌, ⊤, [], ◌∷◌, length, drop, map, MatchOption};
 ghost use Rattle.std.specs.Option.{option_map};
 ghost use Rattle.qp_model.specs.declared.systems.System.{System};
-ghost use Rattle.qp_check_ends.specs.SettleState.{Seeing, behind_seen, seen_next, before_next, settle_next, settle_done, settle_tried, settle_open};
+ghost use Rattle.qp_check_ends.specs.SettleState.{Seeing, behind_seen, settle_seen_next, before_next, settle_next, settle_done, settle_tried, settle_open};
 ghost use Rattle.qp_check_ends.specs.AsStates.{objects_from, as_settle};
 ghost use Rattle.qp_model.specs.Sources.{priorities};
 
@@ -45,7 +45,7 @@ fn behind_seen(kernel: u8, at: usize, posted: u128, taken: u64) -> Option<Settle
 }
 
 fn seen_next(kernel: u8, object: u8, behind: usize, told: &Told) -> Option<SettleState>
-    ensures { (sys : System) → option_map (as_settle sys) result ≡ seen_next kernel object (objects_from sys behind) told.now.body
+    ensures { (sys : System) → option_map (as_settle sys) result ≡ settle_seen_next kernel object (objects_from sys behind) told.now.body
         told.now.known }
 {
     match (&told.body, &told.known) {

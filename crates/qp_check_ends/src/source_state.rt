@@ -6,8 +6,8 @@ ghost use Rattle.qp_model.specs.declared.stimulus.Stim.{Stim};
 ghost use Rattle.qp_model.specs.declared.bodies.Body.TheVariants.{Stim as the_stim};
 ghost use Rattle.qp_model.specs.Told.{Nothing};
 ghost use Rattle.qp_model.specs.Sources.{look_may};
-ghost use Rattle.qp_check_ends.specs.SourceState.{Between, stim_next, stim_of, is_ready, within_next, source_next, source_after};
-ghost use Rattle.qp_check_ends.specs.AsSource.{as_source, rest_of};
+ghost use Rattle.qp_check_ends.specs.SourceState.{Between, stim_next, stim_told, is_ready, within_next, source_next, source_after};
+ghost use Rattle.qp_check_ends.specs.AsSource.{as_source, source_rest};
 
 use crate::underway::Underway;
 use qp_check_calls::{Known, Told};
@@ -39,7 +39,7 @@ fn look_may(kernel: u8, look: u64) -> bool
 
 /// The place and the look of a `stim`.
 fn stim_of(told: &Told) -> Option<(u64, u64)>
-    ensures { option_map (λ p. (p.0, p.1)) result ≡ stim_of told.now.body told.now.known }
+    ensures { option_map (λ p. (p.0, p.1)) result ≡ stim_told told.now.body told.now.known }
 {
     match (&told.body, &told.known) {
         (Body::Stim { i, k }, Known::Nothing) => Some((*i, *k)),

@@ -5,7 +5,7 @@ ghost use Rattle.qp_model.specs.declared.stimulus.Stim.{Stim};
 ghost use Rattle.qp_model.specs.Sources.{SourceEnd, SourceRuns};
 ghost use Rattle.qp_check_calls.specs.Decides.{Decides};
 ghost use Rattle.qp_check_ends.specs.SourceState.{Within, source_stops, is_last as last};
-ghost use Rattle.qp_check_ends.specs.AsSource.{as_source, as_underway, flag_of, some_may_end};
+ghost use Rattle.qp_check_ends.specs.AsSource.{as_source, as_underway, stops_at, some_may_end};
 
 use crate::source_state::{KernelSource, SourceState, behind, stim_at};
 use crate::underway::Underway;
@@ -35,7 +35,7 @@ const NONE: Stops = Stops {
 
 /// Where the records may end within or right behind a stimulus.
 fn stops_within(source: &KernelSource, u: &Underway, is_last: bool) -> Stops
-    ensures { (k : ℕ) (left : List Stim) (stop : SourceEnd) → is_last ≡ last left → flag_of result stop ≡ source_stops source.now.kernel
+    ensures { (k : ℕ) (left : List Stim) (stop : SourceEnd) → is_last ≡ last left → stops_at result stop ≡ source_stops source.now.kernel
         (Within (as_underway source.now.sys.now u.now) k left) stop }
 {
     let is_done = u.is_done(source.sys);
@@ -56,7 +56,7 @@ fn is_last(stimuli: &[Stim], begun: usize) -> bool
 }
 
 fn stops_of(source: &KernelSource, rest: &SourceState) -> Stops
-    ensures { (stop : SourceEnd) → flag_of result stop ≡ source_stops source.now.kernel
+    ensures { (stop : SourceEnd) → stops_at result stop ≡ source_stops source.now.kernel
         (as_source source.now.sys.now source.now.stimuli.now rest.now) stop }
 {
     let is_last = is_last(source.stimuli, rest.begun);
@@ -78,7 +78,7 @@ pub fn may_stop(
     stimuli: &[Stim],
     told: &[Told],
 ) -> Result<Stops, AllocError>
-    ensures { IfOk result (λ s. (stop : SourceEnd) → Decides (flag_of s stop) (SourceRuns sys.now kernel 1 stimuli.now stop told.now)) }
+    ensures { IfOk result (λ s. (stop : SourceEnd) → Decides (stops_at s stop) (SourceRuns sys.now kernel 1 stimuli.now stop told.now)) }
 {
     let source = KernelSource {
         sys,

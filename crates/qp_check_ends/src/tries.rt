@@ -4,7 +4,7 @@ ghost use Rattle.std.specs.Prelude.{◌≡◌, not, List, ℕ, IfOk};
 ghost use Rattle.qp_model.specs.History.{lane_items};
 ghost use Rattle.qp_model.specs.Record.{item_of};
 ghost use Rattle.qp_model.specs.Sources.{entry_seen, none_twice};
-ghost use Rattle.qp_check_ends.specs.Tries.{Holds, entries_seen, with_seen, repeats};
+ghost use Rattle.qp_check_ends.specs.Tries.{SetHolds, entries_seen, with_seen, repeats};
 
 use qp_model::{Body, Rec};
 use std::alloc::{AllocError, Global};
@@ -29,7 +29,7 @@ fn entry_seen(r: &Rec) -> Option<[u64; 4]>
 
 /// Whether what was seen is new, which it isn't from then on.
 fn is_new(seen: &mut BTreeSet<[u64; 4]>, key: Option<[u64; 4]>) -> Result<bool, AllocError>
-    ensures { IfOk result (λ new. (xs : List (List ℕ)) → Holds seen.old xs → (new ≡ not (repeats xs key)) × Holds seen.new
+    ensures { IfOk result (λ new. (xs : List (List ℕ)) → SetHolds seen.old xs → (new ≡ not (repeats xs key)) × SetHolds seen.new
         (with_seen xs key)) }
 {
     match key {

@@ -17,7 +17,7 @@ use Rattle.qp_model.proofs.ListLemmas.{list_any-map}
 use Rattle.qp_check_kernel.specs.declared.stimulus_index.Placed as code
 use Rattle.qp_check_kernel.specs.AsPlaced.{as_placed, said_at}
 use Rattle.qp_check_kernel.specs.OrderTurns.{turns_in}
-use Rattle.qp_check_kernel.specs.OneOrder.{last_of, is_unused}
+use Rattle.qp_check_kernel.specs.OneOrder.{last_of, has_no_turn}
 use Rattle.qp_check_lanes.proofs.ItemLemmas.{items-all}
 
 -- each `stim` stands in a look
@@ -39,9 +39,9 @@ last_is_free-is r (k ∷ []) = refl
 last_is_free-is r (k ∷ n ∷ ks) = last_is_free-is r (n ∷ ks)
 
 pub free-is : (r : OneThread) (parts : ℕ → List Placed) → ((k : ℕ) → turns_in (parts k) ≡ turns_at 1 k r.sources) → (ks : List ℕ)
-    → option_map_or (is_unused parts) (last_of ks) true ≡ last_is_free r ks
+    → option_map_or (has_no_turn parts) (last_of ks) true ≡ last_is_free r ks
 free-is r parts e ks =
-    let same : is_unused parts ≡ is_free r = fun_ext (λ k. ap (is_turn None) (e k)) in
+    let same : has_no_turn parts ≡ is_free r = fun_ext (λ k. ap (is_turn None) (e k)) in
     ap (λ (f : ℕ → Bool). option_map_or f (last_of ks) true) same ∙ sym (last_is_free-is r ks)
 
 pub items-said : (xs : List code.Placed) → map (λ (x : Placed). x.item) (map as_placed xs) ≡ map said_at xs

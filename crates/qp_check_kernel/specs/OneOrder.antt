@@ -18,8 +18,8 @@ run_of sys stimuli cuts lane0 sources = record {
 }
 
 -- no stimulus is among the records of a look
-abbrev pub is_unused : (ℕ → List Placed) → ℕ → Bool
-is_unused parts k = is_turn None (turns_in (parts k))
+abbrev pub has_no_turn : (ℕ → List Placed) → ℕ → Bool
+has_no_turn parts k = is_turn None (turns_in (parts k))
 
 -- the last of the numbers
 abbrev pub last_of : List ℕ → Option ℕ

@@ -29,10 +29,10 @@ turns_on (Once s) (Some t) = Often
 turns_on Often (Some t) = Often
 
 -- just this stimulus was found, or none where it is none
-abbrev pub is_right : Option order.Turn → InLook → Bool
-is_right None Nothing = true
-is_right (Some t) (Once s) = (s.source == t.source) && (s.place == t.place)
-is_right _ _ = false
+abbrev pub is_turn_found : Option order.Turn → InLook → Bool
+is_turn_found None Nothing = true
+is_turn_found (Some t) (Once s) = (s.source == t.source) && (s.place == t.place)
+is_turn_found _ _ = false
 
 -- what is found of these stimuli: none, just this one, or more
 abbrev pub found_of : List order.Turn → Option (Option order.Turn)

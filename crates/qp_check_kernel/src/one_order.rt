@@ -8,7 +8,7 @@ ghost use Rattle.qp_model.specs.Record.{item_of};
 ghost use Rattle.qp_model.specs.OneOrder.{IsOneOrder, OneThread, look_numbers, look_of, looks_right, order, parts_of_look, spills_from};
 ghost use Rattle.qp_model.specs.Places.{in_order};
 ghost use Rattle.qp_check_kernel.specs.AsPlaced.{as_placed, said_at};
-ghost use Rattle.qp_check_kernel.specs.OneOrder.{is_unused, last_of, run_of};
+ghost use Rattle.qp_check_kernel.specs.OneOrder.{has_no_turn, last_of, run_of};
 ghost use Rattle.qp_check_kernel.specs.OrderTurns.{RunsAs};
 ghost use Rattle.qp_check_kernel.specs.StimulusIndex.{parts_at, lane_with_parts};
 ghost use Rattle.qp_model.specs.Ends.{ends_last, is_spill as spills, spills_in as spilt};
@@ -116,7 +116,7 @@ fn order_stands(alloc: Global, run: &Run, order: &[Placed]) -> Result<bool, Allo
 
 /// Whether the last look has no stimulus where a `spill` is put at the end.
 fn end_is_free(index: &Index, lane0: &[Rec], cuts: bool, late: bool) -> bool
-    ensures { result ≡ (cuts || not late || option_map_or (is_unused (parts_at index.now)) (last_of (look_numbers (lane_items lane0.now))) true) }
+    ensures { result ≡ (cuts || not late || option_map_or (has_no_turn (parts_at index.now)) (last_of (look_numbers (lane_items lane0.now))) true) }
 {
     cuts || !late || last_look_is_free(index, lane0)
 }

@@ -9,7 +9,7 @@ ghost use Rattle.qp_chart.specs.StateTree.{has};
 ghost use Rattle.qp_model.specs.History.{lane_items};
 ghost use Rattle.qp_model.specs.Record.{item_of};
 ghost use Rattle.qp_model.specs.OneOrder.{look_numbers, stim_of};
-ghost use Rattle.qp_check_kernel.specs.OneOrder.{last_of, is_unused};
+ghost use Rattle.qp_check_kernel.specs.OneOrder.{last_of, has_no_turn};
 ghost use Rattle.qp_check_kernel.specs.StimulusIndex.{parts_at};
 
 use crate::one_order::look_number;
@@ -53,7 +53,7 @@ fn later(first: Option<u64>, second: Option<u64>) -> Option<u64>
 
 /// Whether no stimulus stands in the last look.
 pub fn last_look_is_free(index: &Index, lane0: &[Rec]) -> bool
-    ensures { result ≡ option_map_or (is_unused (parts_at index.now)) (last_of (look_numbers (lane_items lane0.now))) true }
+    ensures { result ≡ option_map_or (has_no_turn (parts_at index.now)) (last_of (look_numbers (lane_items lane0.now))) true }
 {
     match last_look(lane0) {
         Some(k) => index.has(k, None),

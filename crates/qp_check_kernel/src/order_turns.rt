@@ -10,7 +10,7 @@ ghost use Rattle.qp_check_kernel.specs.AsPlaced.{as_placed};
 ghost use Rattle.qp_check_kernel.specs.StimulusIndex.{parts_at};
 ghost use Rattle.qp_check_kernel.specs.Turns.{as_turn};
 ghost use Rattle.qp_check_lanes.specs.WordTotals.{count_in};
-ghost use Rattle.qp_check_kernel.specs.OrderTurns.{RunsAs, turn_in, turns_in, turns_on, is_right, look_stands};
+ghost use Rattle.qp_check_kernel.specs.OrderTurns.{RunsAs, turn_in, turns_in, turns_on, is_turn_found, look_stands};
 
 use crate::source_turn::{Progress, StimulusPlace};
 use crate::stimulus_index::{Index, Placed};
@@ -53,7 +53,7 @@ impl InLook {
 
     /// Whether just this stimulus was found, or none where it is none.
     fn is(self, turn: Option<StimulusPlace>) -> bool
-        ensures { result ≡ is_right (option_map as_turn turn) self }
+        ensures { result ≡ is_turn_found (option_map as_turn turn) self }
     {
         match (self, turn) {
             (InLook::Nothing, None) => true,
@@ -65,7 +65,7 @@ impl InLook {
 
     /// The stimuli among these records.
     fn among(part: &[Placed]) -> Self
-        ensures { (t : Option order.Turn) → is_right t result ≡ right t (turns_in (map as_placed part.now)) }
+        ensures { (t : Option order.Turn) → is_turn_found t result ≡ right t (turns_in (map as_placed part.now)) }
     {
         let mut found = InLook::Nothing;
         for x in part {

@@ -8,13 +8,13 @@ use Rattle.qp_check_knowledge.specs.KnownWords.{IsKnowledge}
 use Rattle.qp_check_knowledge.specs.declared.knowledge.Knowledge.{Knowledge}
 
 -- the tables are those of the system and the journal
-abbrev pub IsKnown : Knowledge → Type 0
-IsKnown k = IsKnowledge k.sys.now k.journal.now.lanes k.records.now k.pools k.blocks k.signals
+abbrev pub HasItsTables : Knowledge → Type 0
+HasItsTables k = IsKnowledge k.sys.now k.journal.now.lanes k.records.now k.pools k.blocks k.signals
 
 -- what the definitions know of them
-abbrev pub facts_in : Knowledge → Facts
-facts_in k = facts_of k.sys.now k.journal.now
+abbrev pub known_facts : Knowledge → Facts
+known_facts k = facts_of k.sys.now k.journal.now
 
 -- the tables are those of this system and this journal
 abbrev pub IsKnowledgeOf : Knowledge → System → Journal → Type 0
-IsKnowledgeOf k sys j = IsKnown k × (k.sys.now ≡ sys) × (k.journal.now ≡ j)
+IsKnowledgeOf k sys j = HasItsTables k × (k.sys.now ≡ sys) × (k.journal.now ≡ j)

@@ -5,7 +5,7 @@ use Rattle.qp_model.specs.Machine.{Machine}
 use Rattle.qp_model.specs.FreeBlocks.{free_blocks}
 use Rattle.qp_model.specs.References.{Refs, references}
 use Rattle.qp_model.specs.Subscribers.{subscribers}
-use Rattle.qp_check_lanes.specs.Standing.{places}
+use Rattle.qp_check_lanes.specs.Standing.{times_in}
 use Rattle.qp_check_lanes.specs.WordTotals.{count_in}
 use Rattle.qp_check_lanes.specs.declared.word_totals.CountsByNumber.{CountsByNumber}
 
@@ -31,6 +31,6 @@ abbrev pub value_at : {A : Type 0} → A → List A → ℕ → A
 value_at d xs n = get_or xs (min n (length xs - 1)) d
 
 -- the references that stand, counted
-pub record IsCounted (s : Refs) (counts : CountsByNumber) (total : ℕ) : Type 0 where
-  pub each : (k : ℕ) → count_in counts k ≡ places k s.names
+pub record AreReferencesCounted (s : Refs) (counts : CountsByNumber) (total : ℕ) : Type 0 where
+  pub each : (k : ℕ) → count_in counts k ≡ times_in k s.names
   pub all : total ≡ length s.names

@@ -51,7 +51,7 @@ fn is_of_queue_or_timer(kind: u8) -> bool {
 }
 
 impl<'a, 'r> Knowledge<'a, 'r> {
-    ghost use Rattle.qp_check_knowledge.specs.Knowledge.{IsKnowledgeOf, IsKnown, facts_in};
+    ghost use Rattle.qp_check_knowledge.specs.Knowledge.{IsKnowledgeOf, HasItsTables, known_facts};
 
     /// What the records of a journal say.
     pub fn of(
@@ -86,7 +86,7 @@ impl<'a, 'r> Knowledge<'a, 'r> {
 
     /// Makes the tables of the words that the records of a lane name.
     fn learn_lane(&mut self, alloc: Global, lane: &Lane) -> Result<(), AllocError>
-        requires { IsKnown self.old }
+        requires { HasItsTables self.old }
         ensures { OnOk result (IsKnowledgeOf self.new self.old.sys.now self.old.journal.now) }
     {
         for r in &lane.items {
@@ -99,7 +99,7 @@ impl<'a, 'r> Knowledge<'a, 'r> {
 
     /// Makes the table of the word that a record names.
     fn learn_word(&mut self, alloc: Global, r: &Rec) -> Result<(), AllocError>
-        requires { IsKnown self.old }
+        requires { HasItsTables self.old }
         ensures { OnOk result (IsKnowledgeOf self.new self.old.sys.now self.old.journal.now) }
     {
         match Touched::by(r) {
@@ -109,7 +109,7 @@ impl<'a, 'r> Knowledge<'a, 'r> {
     }
 
     fn learn(&mut self, alloc: Global, word: Named) -> Result<(), AllocError>
-        requires { IsKnown self.old }
+        requires { HasItsTables self.old }
         ensures { OnOk result (IsKnowledgeOf self.new self.old.sys.now self.old.journal.now) }
     {
         match word {
@@ -121,7 +121,7 @@ impl<'a, 'r> Knowledge<'a, 'r> {
     }
 
     fn learn_pool(&mut self, alloc: Global, p: u64) -> Result<(), AllocError>
-        requires { IsKnown self.old }
+        requires { HasItsTables self.old }
         ensures { OnOk result (IsKnowledgeOf self.new self.old.sys.now self.old.journal.now) }
     {
         if self.pools.contains_key(&p) {
@@ -133,7 +133,7 @@ impl<'a, 'r> Knowledge<'a, 'r> {
     }
 
     fn learn_block(&mut self, alloc: Global, p: u64, b: u64) -> Result<(), AllocError>
-        requires { IsKnown self.old }
+        requires { HasItsTables self.old }
         ensures { OnOk result (IsKnowledgeOf self.new self.old.sys.now self.old.journal.now) }
     {
         if self.blocks.contains_key(&(p, b, 0)) {
@@ -145,7 +145,7 @@ impl<'a, 'r> Knowledge<'a, 'r> {
     }
 
     fn learn_signal(&mut self, alloc: Global, sig: u64) -> Result<(), AllocError>
-        requires { IsKnown self.old }
+        requires { HasItsTables self.old }
         ensures { OnOk result (IsKnowledgeOf self.new self.old.sys.now self.old.journal.now) }
     {
         if self.signals.contains_key(&sig) {
@@ -157,8 +157,8 @@ impl<'a, 'r> Knowledge<'a, 'r> {
     }
 
     fn free_before(&self, alloc: Global, p: u64, n: u64) -> Result<u64, AllocError>
-        requires { IsKnown self.now }
-        ensures { IfOk result (λ k. k ≡ free_before (facts_in self.now) p n) }
+        requires { HasItsTables self.now }
+        ensures { IfOk result (λ k. k ≡ free_before (known_facts self.now) p n) }
     {
         match self.pools.get(&p) {
             Some(pool) => Ok(number_at(&pool.free, n as usize)),
@@ -170,8 +170,8 @@ impl<'a, 'r> Knowledge<'a, 'r> {
     }
 
     fn left_after(&self, alloc: Global, p: u64, b: u64, d: u64) -> Result<u64, AllocError>
-        requires { IsKnown self.now }
-        ensures { IfOk result (λ k. k ≡ references_after (facts_in self.now) p b d) }
+        requires { HasItsTables self.now }
+        ensures { IfOk result (λ k. k ≡ references_after (known_facts self.now) p b d) }
     {
         let n = (d as usize).saturating_add(1);
         match self.blocks.get(&(p, b, 0)) {
@@ -184,8 +184,8 @@ impl<'a, 'r> Knowledge<'a, 'r> {
     }
 
     fn is_member(&self, alloc: Global, sig: u64, n: u64, o: u8) -> Result<bool, AllocError>
-        requires { IsKnown self.now }
-        ensures { IfOk result (λ b. b ≡ has (set_at (facts_in self.now) sig n) o) }
+        requires { HasItsTables self.now }
+        ensures { IfOk result (λ b. b ≡ has (set_at (known_facts self.now) sig n) o) }
     {
         match self.signals.get(&sig) {
             Some(signal) => Ok(is_in(&signal.lists, n as usize, o)),
@@ -197,8 +197,8 @@ impl<'a, 'r> Knowledge<'a, 'r> {
     }
 
     fn event_of(&self, alloc: Global, e: Entry) -> Result<Known, AllocError>
-        requires { IsKnown self.now }
-        ensures { IfOk result (λ k. as_known k ≡ event_known (event_of_entry (facts_in self.now) e)) }
+        requires { HasItsTables self.now }
+        ensures { IfOk result (λ k. as_known k ≡ event_known (event_of_entry (known_facts self.now) e)) }
     {
         if e.pool == 0 {
             return Ok(Known::OfEvent {
@@ -228,8 +228,8 @@ impl<'a, 'r> Knowledge<'a, 'r> {
         ceiling: u64,
         body: &Body,
     ) -> Result<Known, AllocError>
-        requires { IsKnown self.now }
-        ensures { IfOk result (λ k. as_known k ≡ known_of (facts_in self.now) o ceiling body.now) }
+        requires { HasItsTables self.now }
+        ensures { IfOk result (λ k. as_known k ≡ known_of (known_facts self.now) o ceiling body.now) }
     {
         match body {
             Body::Took { entry, .. } => self.event_of(alloc, *entry),

@@ -2,7 +2,7 @@
 
 ghost use Rattle.std.specs.Prelude.{◌≡◌, ◌+◌, ◌<◌, ◌≤◌, ◌^◌, ℕ, IfOk, OnOk};
 ghost use Rattle.qp_model.specs.References.{Refs, references, refs_next};
-ghost use Rattle.qp_check_knowledge.specs.KnownTables.{IsCounted, free_counts, left_counts, member_lists, value_at};
+ghost use Rattle.qp_check_knowledge.specs.KnownTables.{AreReferencesCounted, free_counts, left_counts, member_lists, value_at};
 ghost use Rattle.qp_check_lanes.specs.WordTotals.{count_in};
 
 use qp_check_lanes::groups::Group;
@@ -48,7 +48,7 @@ struct Standing {
 
 impl Standing {
     fn none(alloc: Global) -> Self
-        ensures { IsCounted references.first result.counts result.total }
+        ensures { AreReferencesCounted references.first result.counts result.total }
     {
         Standing {
             counts: CountsByNumber::none(alloc),
@@ -59,7 +59,7 @@ impl Standing {
     fn apply(&mut self, body: &Body) -> Result<(), AllocError>
         requires few { self.old.total + 1 < 2 ^ 64 }
         requires each { (q : ℕ) → count_in self.old.counts q ≤ self.old.total }
-        ensures counted { OnOk result ((s : Refs) → IsCounted s self.old.counts self.old.total → IsCounted (refs_next s body.now)
+        ensures counted { OnOk result ((s : Refs) → AreReferencesCounted s self.old.counts self.old.total → AreReferencesCounted (refs_next s body.now)
             self.new.counts self.new.total) }
         ensures bounded { OnOk result (self.new.total ≤ self.old.total + 1) }
     {

@@ -8,7 +8,7 @@ ghost use Rattle.qp_model.specs.Knowing.{records_of, told};
 ghost use Rattle.qp_model.specs.Lawful.{dispatched, facts_of};
 ghost use Rattle.qp_model.specs.Record.{item_of};
 ghost use Rattle.qp_model.specs.Sources.{source_records};
-ghost use Rattle.qp_check_knowledge.specs.Knowledge.{IsKnown, facts_in};
+ghost use Rattle.qp_check_knowledge.specs.Knowledge.{HasItsTables, known_facts};
 ghost use Rattle.qp_check_knowledge.specs.Looks.{as_look_of};
 
 use crate::knowledge::Knowledge;
@@ -45,8 +45,8 @@ pub fn told_by(
     ceiling: u64,
     r: &Rec,
 ) -> Result<Told, AllocError>
-    requires { IsKnown knowledge.now }
-    ensures { IfOk result (λ t. t ≡ told (facts_in knowledge.now) o ceiling (item_of r.now).body) }
+    requires { HasItsTables knowledge.now }
+    ensures { IfOk result (λ t. t ≡ told (known_facts knowledge.now) o ceiling (item_of r.now).body) }
 {
     let body = r.body();
     let known = knowledge.known_of(alloc, o, ceiling, &body)?;
@@ -63,8 +63,8 @@ fn put_own(
     ceiling: u64,
     r: &Rec,
 ) -> Result<(), AllocError>
-    requires { IsKnown knowledge.now }
-    ensures { OnOk result (all.new.items ≡ all.old.items ++ (if (as_look_of looks o (item_of r.now)).of == o then told (facts_in knowledge.now)
+    requires { HasItsTables knowledge.now }
+    ensures { OnOk result (all.new.items ≡ all.old.items ++ (if (as_look_of looks o (item_of r.now)).of == o then told (known_facts knowledge.now)
         o ceiling (item_of r.now).body ∷ [] else [])) }
 {
     if !counts_for(o, looks, r) {
@@ -82,8 +82,8 @@ pub fn told_records(
     looks: bool,
     lane: &[Rec],
 ) -> Result<Vec<Told>, AllocError>
-    requires { IsKnown knowledge.now }
-    ensures { IfOk result (λ v. v.items ≡ records_of (facts_in knowledge.now) o 0 (own_items looks o (lane_items lane.now))) }
+    requires { HasItsTables knowledge.now }
+    ensures { IfOk result (λ v. v.items ≡ records_of (known_facts knowledge.now) o 0 (own_items looks o (lane_items lane.now))) }
 {
     let mut told = Vec::new(alloc);
     let mut ceiling = 0;
@@ -97,8 +97,8 @@ pub fn told_records(
 /// The records of an object, in the order of its home lane.
 #[tactic(auto, unfolding(qp_model::specs::Home::by_object, qp_model::specs::Home::own_items, qp_model::specs::Lawful::facts_of))]
 pub fn object_records(alloc: Global, knowledge: &Knowledge, o: u8) -> Result<Vec<Told>, AllocError>
-    requires { IsKnown knowledge.now }
-    ensures { IfOk result (λ v. v.items ≡ by_object (facts_in knowledge.now) knowledge.now.journal.now o) }
+    requires { HasItsTables knowledge.now }
+    ensures { IfOk result (λ v. v.items ≡ by_object (known_facts knowledge.now) knowledge.now.journal.now o) }
 {
     let home = home_lane(knowledge.sys, knowledge.journal, o);
     told_records(alloc, knowledge, o, false, lane_at(knowledge.journal, home))
@@ -107,8 +107,8 @@ pub fn object_records(alloc: Global, knowledge: &Knowledge, o: u8) -> Result<Vec
 /// The same for its shape: in `port` with its looks at its own queue.
 #[tactic(auto, unfolding(qp_model::specs::Home::home_records, qp_model::specs::Lawful::facts_of))]
 pub fn home_records(alloc: Global, knowledge: &Knowledge, o: u8) -> Result<Vec<Told>, AllocError>
-    requires { IsKnown knowledge.now }
-    ensures { IfOk result (λ v. v.items ≡ home_records (facts_in knowledge.now) knowledge.now.journal.now o) }
+    requires { HasItsTables knowledge.now }
+    ensures { IfOk result (λ v. v.items ≡ home_records (known_facts knowledge.now) knowledge.now.journal.now o) }
 {
     let home = home_lane(knowledge.sys, knowledge.journal, o);
     let looks = knowledge.journal.kernel == PORT;
@@ -133,8 +133,8 @@ pub fn source_told(
     knowledge: &Knowledge,
     lane: &[Rec],
 ) -> Result<Vec<Told>, AllocError>
-    requires { IsKnown knowledge.now }
-    ensures { IfOk result (λ v. v.items ≡ source_records (facts_in knowledge.now) (lane_items lane.now)) }
+    requires { HasItsTables knowledge.now }
+    ensures { IfOk result (λ v. v.items ≡ source_records (known_facts knowledge.now) (lane_items lane.now)) }
 {
     let mut told = told_records(alloc, knowledge, 0, false, lane)?;
     told.retain(|t| !is_spill(&t.body));

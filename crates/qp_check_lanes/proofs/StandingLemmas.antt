@@ -7,14 +7,14 @@ use Rattle.qp_model.specs.declared.bodies.Body.TheVariants.{Dec}
 use Rattle.qp_model.specs.Lists.{without_one}
 use Rattle.qp_model.specs.References.{Refs, refs_may, refs_next}
 use Rattle.qp_model.specs.Lives.{is_empty}
-use Rattle.qp_check_lanes.specs.Standing.{places, ReferencesStand}
+use Rattle.qp_check_lanes.specs.Standing.{times_in, ReferencesStand}
 
 -- a number stands in a list where it has places there
-pub has-places : (k : ℕ) (xs : List ℕ) → has xs k ≡ nat_lt 0 (places k xs)
+pub has-places : (k : ℕ) (xs : List ℕ) → has xs k ≡ nat_lt 0 (times_in k xs)
 has-places k [] = refl
 has-places k (x ∷ xs) = go (x == k) (has-places k xs)
   where
-    go : (b : Bool) → has xs k ≡ nat_lt 0 (places k xs) → (b || has xs k) ≡ nat_lt 0 (cond b (suc (places k xs)) (places k xs))
+    go : (b : Bool) → has xs k ≡ nat_lt 0 (times_in k xs) → (b || has xs k) ≡ nat_lt 0 (cond b (suc (times_in k xs)) (times_in k xs))
     go true e = grind (arith, nat_tests)
     go false e = e
 
@@ -26,19 +26,19 @@ pub has-flag : (s : Refs) (flags : List Bool) (standing : ℕ) → ReferencesSta
 has-flag s flags standing h k = has-places k s.names ∙ ap (nat_lt 0) (h.each k) ∙ flag-places (get_or flags k false)
 
 -- taking out one place
-pub places-without : (k : ℕ) (xs : List ℕ) → has xs k ≡ true → places k xs ≡ suc (places k (without_one k xs))
+pub places-without : (k : ℕ) (xs : List ℕ) → has xs k ≡ true → times_in k xs ≡ suc (times_in k (without_one k xs))
 places-without k [] h = cc
 places-without k (x ∷ xs) h = go (x == k) refl h (places-without k xs)
   where
-    go : (b : Bool) → (x == k) ≡ b → (b || has xs k) ≡ true → (has xs k ≡ true → places k xs ≡ suc (places k (without_one k xs))) → cond b (suc (places k xs)) (places k xs) ≡ suc (places k (cond b xs (x ∷ without_one k xs)))
+    go : (b : Bool) → (x == k) ≡ b → (b || has xs k) ≡ true → (has xs k ≡ true → times_in k xs ≡ suc (times_in k (without_one k xs))) → cond b (suc (times_in k xs)) (times_in k xs) ≡ suc (times_in k (cond b xs (x ∷ without_one k xs)))
     go true e h later = refl
     go false e h later = rw e (later h)
 
-pub places-other : (j k : ℕ) (xs : List ℕ) → (j == k) ≡ false → places j (without_one k xs) ≡ places j xs
+pub places-other : (j k : ℕ) (xs : List ℕ) → (j == k) ≡ false → times_in j (without_one k xs) ≡ times_in j xs
 places-other j k [] ne = refl
 places-other j k (x ∷ xs) ne = go (x == k) refl (places-other j k xs ne)
   where
-    go : (b : Bool) → (x == k) ≡ b → places j (without_one k xs) ≡ places j xs → places j (cond b xs (x ∷ without_one k xs)) ≡ cond (x == j) (suc (places j xs)) (places j xs)
+    go : (b : Bool) → (x == k) ≡ b → times_in j (without_one k xs) ≡ times_in j xs → times_in j (cond b xs (x ∷ without_one k xs)) ≡ cond (x == j) (suc (times_in j xs)) (times_in j xs)
     go true e later = let no : (x == j) ≡ false = grind (arith, nat_tests) in rw no refl
     go false e later = ap (λ n. cond (x == j) (suc n) n) later
 
@@ -98,13 +98,13 @@ module _ (s : Refs) (flags : List Bool) (standing : ℕ) (h : ReferencesStand s 
               sym (get_or-beyond (set flags k false) j le) ∙ get_or-cleared flags k j
           last false e = get_or-cleared flags k j
 
-      get_places : has s.names k ≡ true → (j : ℕ) → (same : Bool) → (j == k) ≡ same → places j (without_one k s.names) ≡ cond (get_or (set flags k false ++ false ∷ []) j false) 1 0
+      get_places : has s.names k ≡ true → (j : ℕ) → (same : Bool) → (j == k) ≡ same → times_in j (without_one k s.names) ≡ cond (get_or (set flags k false ++ false ∷ []) j false) 1 0
       get_places held j true e =
           let is : j ≡ k = grind (arith, nat_tests) in
-          let at_k : places k s.names ≡ suc (places k (without_one k s.names)) = places-without k s.names held in
-          let one : places k s.names ≡ 1 = h.each k ∙ ap (λ b. cond b 1 0) (sym (has-flag s flags standing h k) ∙ held) in
-          let none : places k (without_one k s.names) ≡ 0 = omega arith in
-          ap (λ i. places i (without_one k s.names)) is ∙ none ∙ sym (ap (λ b. cond b 1 0) (flag j ∙ ap (λ t. cond t false (get_or flags j false)) e))
+          let at_k : times_in k s.names ≡ suc (times_in k (without_one k s.names)) = places-without k s.names held in
+          let one : times_in k s.names ≡ 1 = h.each k ∙ ap (λ b. cond b 1 0) (sym (has-flag s flags standing h k) ∙ held) in
+          let none : times_in k (without_one k s.names) ≡ 0 = omega arith in
+          ap (λ i. times_in i (without_one k s.names)) is ∙ none ∙ sym (ap (λ b. cond b 1 0) (flag j ∙ ap (λ t. cond t false (get_or flags j false)) e))
       get_places held j false e =
           places-other j k s.names e ∙ h.each j ∙ sym (ap (λ b. cond b 1 0) (flag j ∙ ap (λ t. cond t false (get_or flags j false)) e))
 
@@ -113,10 +113,10 @@ is_empty-standing [] n is = grind (arith, nat_tests)
 is_empty-standing (x ∷ xs) n is = grind (arith, nat_tests)
 
 -- a number stands no oftener than the list is long
-pub places-within_length : (k : ℕ) (xs : List ℕ) → places k xs ≤ length xs
+pub places-within_length : (k : ℕ) (xs : List ℕ) → times_in k xs ≤ length xs
 places-within_length k [] = omega arith
 places-within_length k (x ∷ xs) = one (x == k) (places-within_length k xs)
   where
-    one : (b : Bool) → places k xs ≤ length xs → cond b (suc (places k xs)) (places k xs) ≤ suc (length xs)
+    one : (b : Bool) → times_in k xs ≤ length xs → cond b (suc (times_in k xs)) (times_in k xs) ≤ suc (length xs)
     one true h = omega arith
     one false h = omega arith

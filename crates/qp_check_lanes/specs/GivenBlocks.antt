@@ -18,6 +18,6 @@ abbrev pub block_key : Item → Option ℕ
 block_key i = block_of i.body
 
 -- each block's row has the operations that give it out or back
-pub record AreGiven (pool : List Item) (rows : KeyedRecords) (none : List Item) : Type 0 where
+pub record HasGivesByBlock (pool : List Item) (rows : KeyedRecords) (none : List Item) : Type 0 where
   pub rows_are : (b : ℕ) → records_of_key rows (b, 0, 0) ≡ of_key block_key b pool
   pub none_is : none ≡ []

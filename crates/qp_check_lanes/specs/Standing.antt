@@ -5,15 +5,15 @@ use Rattle.qp_model.specs.References.{Refs, references}
 use Rattle.qp_model.specs.Lives.{is_empty}
 
 -- how often the number stands in the list
-abbrev pub places : ℕ → List ℕ → ℕ
-places k [] = 0
-places k (x ∷ xs) = if x == k then suc (places k xs) else places k xs
+abbrev pub times_in : ℕ → List ℕ → ℕ
+times_in k [] = 0
+times_in k (x ∷ xs) = if x == k then suc (times_in k xs) else times_in k xs
 
 -- the flag of each operation says whether the reference that it made stands
 pub record ReferencesStand (s : Refs) (flags : List Bool) (standing : ℕ) : Type 0 where
   pub counted : s.count ≡ length flags
   pub total : standing ≡ length s.names
-  pub each : (k : ℕ) → places k s.names ≡ (if get_or flags k false then 1 else 0)
+  pub each : (k : ℕ) → times_in k s.names ≡ (if get_or flags k false then 1 else 0)
 
 -- whether no reference stands, before each operation and after the last
 unfoldable pub empties_from : Refs → List Item → List Bool

@@ -6,8 +6,8 @@ use Rattle.qp_model.specs.Record.{Item}
 use Rattle.qp_model.specs.Machine.{Machine}
 
 -- a record by its object and what it says
-abbrev pub said : ℕ → Body → Item
-said o b = record { of = o; body = b }
+abbrev pub item_said : ℕ → Body → Item
+item_said o b = record { of = o; body = b }
 
 -- the records say what the word holds
 abbrev pub all_say : {S : Type 0} → Machine S → S → List Item → Bool

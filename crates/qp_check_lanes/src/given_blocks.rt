@@ -23,13 +23,13 @@ pub struct GivenBlocks<'a> {
 impl<'a> Model for GivenBlocks<'a> {
     ghost use Rattle.std.specs.Prelude.{List};
     ghost use Rattle.qp_model.specs.Record.{Item};
-    ghost use Rattle.qp_check_lanes.specs.GivenBlocks.{AreGiven};
+    ghost use Rattle.qp_check_lanes.specs.GivenBlocks.{HasGivesByBlock};
 
     ghost Value = { List Item };
 
     ghost view = { λ g. g.pool };
 
-    ghost invariant = { λ g. AreGiven g.pool g.rows g.none };
+    ghost invariant = { λ g. HasGivesByBlock g.pool g.rows g.none };
 }
 
 /// The block that a record gives out or back.

@@ -4,7 +4,7 @@ ghost use Rattle.std.specs.Prelude.{◌≡◌, ◌≤◌, ◌<◌, ◌+◌, ◌^
 ghost use Rattle.std.specs.List.{list_all};
 ghost use Rattle.qp_model.specs.Machine.{Machine, after_from, is_allowed};
 ghost use Rattle.qp_model.specs.Record.{Item, item_of};
-ghost use Rattle.qp_check_lanes.specs.WordState.{all_say, said, shows_from};
+ghost use Rattle.qp_check_lanes.specs.WordState.{all_say, item_said, shows_from};
 
 use crate::groups::{Group, Groups};
 use qp_model::Body;
@@ -20,13 +20,13 @@ pub trait WordState {
 
     /// Whether this operation is allowed.
     fn allows(&self, of: u8, body: &Body) -> bool
-        ensures { result ≡ (machine self.now).may (state self.now) (said of body.now) };
+        ensures { result ≡ (machine self.now).may (state self.now) (item_said of body.now) };
 
     /// Makes this operation, as its record states it.
     fn apply(&mut self, of: u8, body: &Body) -> Result<(), AllocError>
         requires { (machine self.old).count (state self.old) + 1 < 2 ^ 64 }
         ensures same { OnOk result (machine self.new ≡ machine self.old) }
-        ensures next { OnOk result (state self.new ≡ (machine self.old).next (state self.old) (said of body.now)) }
+        ensures next { OnOk result (state self.new ≡ (machine self.old).next (state self.old) (item_said of body.now)) }
         ensures counted { OnOk result ((machine self.old).count (state self.new) ≤ (machine self.old).count (state self.old) + 1) };
 
     /// Whether what this record shows of the word is so.

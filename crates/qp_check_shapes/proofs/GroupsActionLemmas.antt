@@ -48,7 +48,7 @@ unfolding FitsAny Fits
 action-wholes sys o now g (SaysValue value is) = sequence-one (IsWhole sys o now) g (OfUnit (unit.SaysValue value is))
 action-wholes sys o now g (MakesCall x answer h calm) = by x answer h calm
   where
-    one : (x : Call) (answer : Answer) → unit.is_single x ≡ true → FitsAny sys o now x answer g → is_assertion answer ≡ false → Sequence (IsWhole sys o now) g
+    one : (x : Call) (answer : Answer) → unit.is_unit_call x ≡ true → FitsAny sys o now x answer g → is_assertion answer ≡ false → Sequence (IsWhole sys o now) g
     one x answer single h calm = sequence-one (IsWhole sys o now) g (OfUnit (unit.MakesCall x answer single h calm))
 
     by : (x : Call) (answer : Answer) → FitsAny sys o now x answer g → is_assertion answer ≡ false → Sequence (IsWhole sys o now) g

@@ -15,7 +15,7 @@ use Rattle.qp_check_shapes.specs.ShapeUnit as unit
 use Rattle.qp_check_shapes.specs.ShapeUnit.{behind_unit}
 use Rattle.qp_check_shapes.specs.ShapeAssertion as asserted
 use Rattle.qp_check_shapes.specs.ShapeAssertion.{behind_assertion}
-use Rattle.qp_check_shapes.specs.ShapePublication.{run}
+use Rattle.qp_check_shapes.specs.ShapePublication.{stage_after}
 use Rattle.qp_check_shapes.specs.ShapeAction.{IsWhole, OfUnit, OfPublication, IsCut, IsFront}
 use Rattle.qp_check_shapes.specs.GroupsRead.{is_outer}
 use Rattle.qp_check_shapes.specs.GroupsLast.{LastOf}
@@ -31,7 +31,7 @@ use Rattle.qp_check_shapes.proofs.GroupsReadLemmas.{Parts, Lasts}
 -- records that a reader of the front takes all, or those of a publication that ends so
 data Taken (read : List Told → Option (List Told)) (sys : System) (o : ℕ) (b : Bool) (g : List Told) : Type 0 where
   Reads : ((rest : List Told) → read (g ++ rest) ≡ Some rest) → Taken read sys o b g
-  Runs : run sys o g stage.Start ≡ Some (end_of b) → Taken read sys o b g
+  Runs : stage_after sys o g stage.Start ≡ Some (end_of b) → Taken read sys o b g
 
 whole-taken : (sys : System) (o : ℕ) (now : Option Entry) (g : List Told) → IsWhole sys o now g → Taken (behind_unit sys o now) sys o true g
 unfolding FitsAny Fits
@@ -42,7 +42,7 @@ cut-taken : (sys : System) (o : ℕ) (now : Option Entry) (g : List Told) → Is
 unfolding FitsAny Fits Publishes NoBlockFor PostsNew
 cut-taken sys o now g c = by c.0 c.1 c.2 c.3
   where
-    one : (x : Call) (answer : Answer) → unit.is_single x ≡ true → FitsAny sys o now x answer g → is_assertion answer ≡ true → Taken (behind_assertion sys o now) sys o false g
+    one : (x : Call) (answer : Answer) → unit.is_unit_call x ≡ true → FitsAny sys o now x answer g → is_assertion answer ≡ true → Taken (behind_assertion sys o now) sys o false g
     one x answer single h asserts = Reads (λ rest. assertion-whole sys o now g rest (asserted.Asserts x answer single h asserts))
 
     by : (x : Call) (answer : Answer) → FitsAny sys o now x answer g → is_assertion answer ≡ true → Taken (behind_assertion sys o now) sys o false g

@@ -12,7 +12,7 @@ use Rattle.qp_model.specs.ObjectShape.{CutGroups}
 use Rattle.qp_model.proofs.ListLemmas.{nil-front}
 use Rattle.qp_check_shapes.specs.ShapeAction.{IsWhole, IsCut}
 use Rattle.qp_check_shapes.specs.ObjectRead.{IsObjectList}
-use Rattle.qp_check_shapes.specs.GroupsLast.{LastOf, kinds}
+use Rattle.qp_check_shapes.specs.GroupsLast.{LastOf, group_kinds}
 use Rattle.qp_check_shapes.proofs.GroupsActionLemmas.{publish-either}
 use Rattle.qp_check_shapes.proofs.GroupsFrontLemmas.{AnyFront}
 use Rattle.qp_check_shapes.proofs.ObjectFrontLemmas.{CutLaws, object-front, object-back}
@@ -51,7 +51,7 @@ cut-laws sys o = record {
 }
 
 -- a list is one by its cut where it is empty, or is read so
-pub cut-object : (sys : System) (o : ℕ) (nils : Bool) (cut : Cut) (bs : List Told) → CutGroups sys o nils cut bs → (bs ≡ []) ⊎ IsObjectList (kinds sys o cut) nils bs
+pub cut-object : (sys : System) (o : ℕ) (nils : Bool) (cut : Cut) (bs : List Told) → CutGroups sys o nils cut bs → (bs ≡ []) ⊎ IsObjectList (group_kinds sys o cut) nils bs
 unfolding CutGroups LastOf
 cut-object sys o nils Whole bs h = inr (object-of sys o nils false bs h)
 cut-object sys o nils Stopped bs (inl none) = inl none
@@ -64,11 +64,11 @@ cut-object sys o nils Anywhere bs (back, inl none) = inl (front bs none)
 cut-object sys o nils Anywhere bs (back, inr h) =
     object-front (IsWhole sys o) (IsCut sys o) (λ now. IsLast sys o now true) (IsLast sys o None false) Drops (cut-laws sys o) nils bs back (object-of sys o nils true (bs ++ back) h)
 
-pub whole-object : (sys : System) (o : ℕ) (nils : Bool) (bs : List Told) → CutGroups sys o nils Whole bs → IsObjectList (kinds sys o Whole) nils bs
+pub whole-object : (sys : System) (o : ℕ) (nils : Bool) (bs : List Told) → CutGroups sys o nils Whole bs → IsObjectList (group_kinds sys o Whole) nils bs
 unfolding CutGroups LastOf
 whole-object sys o nils bs h = object-of sys o nils false bs h
 
-pub object-cut : (sys : System) (o : ℕ) (nils : Bool) (cut : Cut) (bs : List Told) → IsObjectList (kinds sys o cut) nils bs → CutGroups sys o nils cut bs
+pub object-cut : (sys : System) (o : ℕ) (nils : Bool) (cut : Cut) (bs : List Told) → IsObjectList (group_kinds sys o cut) nils bs → CutGroups sys o nils cut bs
 unfolding CutGroups LastOf
 object-cut sys o nils Whole bs h = of-object sys o nils false bs h
 object-cut sys o nils Stopped bs h = inr (of-object sys o nils true bs h)

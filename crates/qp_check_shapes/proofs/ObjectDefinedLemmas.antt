@@ -9,7 +9,7 @@ use Rattle.qp_model.specs.Shapes.{Drops}
 use Rattle.qp_model.specs.Groups.{IsLast}
 use Rattle.qp_model.specs.ObjectShape.{StartGroup, BrokenStart, StepGroup, BrokenStep, IsTurn, Dispatches, FindsEmpty, LooksOnly, IsTail, Ends, OutOfBudget, BreaksStep, ObjectGroups}
 use Rattle.qp_check_shapes.specs.ShapeAction.{IsWhole}
-use Rattle.qp_check_shapes.specs.ObjectRead.{Kinds, Closes, looks_at_queue, IsTurnOf, Steps, Finds, IsTailOf, EndsHere, IsSpent, BreaksOffIn, TakesOnly, ReleasesOnly, TurnsOf, IsObjectList, Starts, BreaksStart}
+use Rattle.qp_check_shapes.specs.ObjectRead.{Kinds, GroupsThenDone, looks_at_queue, IsTurnOf, Steps, Finds, IsTailOf, EndsHere, IsSpent, BreaksOffIn, TakesOnly, ReleasesOnly, TurnsOf, IsObjectList, Starts, BreaksStart}
 use Rattle.qp_check_shapes.proofs.GroupsSequenceLemmas.{sequence-one, sequence-map}
 use Rattle.qp_check_shapes.proofs.GroupsActionLemmas.{groups-elements, elements-groups, off-breaks, breaks-off}
 
@@ -19,13 +19,13 @@ kinds_of sys o cuts = record { act = IsWhole sys o; last = λ now. IsLast sys o 
 
 -- a turn, each way
 pub turn-of : (sys : System) (o : ℕ) (nils : Bool) (g : List Told) → IsTurn sys o nils g → IsTurnOf (IsWhole sys o) Drops nils g
-unfolding StepGroup Closes
+unfolding StepGroup GroupsThenDone
 turn-of sys o nils g (Dispatches s) = Steps s.0 s.1 (s.2 ++ (plain item.Done ∷ s.3)) s.4 (s.2, s.3, groups-elements sys o (Some s.0) s.2 s.5, s.6, refl) s.7
 turn-of sys o nils g (FindsEmpty a b c h is) = Finds (item.Nil a b c) refl h is
 turn-of sys o nils g (LooksOnly p a b c h is) = Finds (item.Seen p a b c) refl h is
 
 pub of-turn : (sys : System) (o : ℕ) (nils : Bool) (g : List Told) → IsTurnOf (IsWhole sys o) Drops nils g → IsTurn sys o nils g
-unfolding StepGroup Closes
+unfolding StepGroup GroupsThenDone
 of-turn sys o nils g (Steps e head body h c is) =
     Dispatches (e, head, c.0, c.1, h, elements-groups sys o (Some e) c.0 c.2, c.3, is ∙ ap (λ us. head ++ us) c.4)
 of-turn sys o nils g (Finds b look h is) = by b look is
@@ -53,7 +53,7 @@ of-tail sys o cuts g (ReleasesOnly e head body any h c is) = absurd (cc)
 
 -- the whole list, each way
 pub object-of : (sys : System) (o : ℕ) (nils cuts : Bool) (bs : List Told) → ObjectGroups sys o nils cuts bs → IsObjectList (kinds_of sys o cuts) nils bs
-unfolding ObjectGroups BrokenStart StartGroup Closes TurnsOf
+unfolding ObjectGroups BrokenStart StartGroup GroupsThenDone TurnsOf
 object-of sys o nils cuts bs (inl s) = BreaksStart s.1.0 s.0 (off-breaks sys o None false s.1.0 s.1.1) s.1.2
 object-of sys o nils cuts bs (inr s) =
     let more : List Told = s.1 ++ s.2 in
@@ -62,7 +62,7 @@ object-of sys o nils cuts bs (inr s) =
     (s.6 ∙ ap (λ us. us ++ more) s.3.2 ∙ ap (λ us. plain item.Begin ∷ us) (append_assoc s.3.0 (plain item.Done ∷ []) more))
 
 pub of-object : (sys : System) (o : ℕ) (nils cuts : Bool) (bs : List Told) → IsObjectList (kinds_of sys o cuts) nils bs → ObjectGroups sys o nils cuts bs
-unfolding ObjectGroups BrokenStart StartGroup Closes TurnsOf
+unfolding ObjectGroups BrokenStart StartGroup GroupsThenDone TurnsOf
 of-object sys o nils cuts bs (BreaksStart body on b is) = inl (on, (body, breaks-off sys o None false body b, is))
 of-object sys o nils cuts bs (Starts body c is) =
     let turns =

@@ -8,7 +8,7 @@ use Rattle.qp_model.specs.Told.{Told, Known, plain}
 use Rattle.qp_model.specs.Sequence.{Sequence}
 use Rattle.qp_model.specs.ObjectShape.{StepHead, is_head, takes}
 use Rattle.qp_check_shapes.specs.GroupsRead.{IsElement, Breaks}
-use Rattle.qp_check_shapes.specs.ObjectRead.{Kinds, Closes, IsTurnOf, Steps, Finds, FrontOf, IsTailOf, EndsHere, IsSpent, BreaksOffIn, TakesOnly, ReleasesOnly, TurnsOf, IsObjectList, Starts, BreaksStart}
+use Rattle.qp_check_shapes.specs.ObjectRead.{Kinds, GroupsThenDone, IsTurnOf, Steps, Finds, FrontOf, IsTailOf, EndsHere, IsSpent, BreaksOffIn, TakesOnly, ReleasesOnly, TurnsOf, IsObjectList, Starts, BreaksStart}
 use Rattle.qp_check_shapes.proofs.GroupsSequenceLemmas.{sequence-none, sequence-one, sequence-append}
 use Rattle.qp_check_shapes.proofs.GroupsFrontLemmas.{AnyFront, split-parts, whole-breaks, groups-front, breaks-front, breaks-back}
 
@@ -73,23 +73,23 @@ turn-alone k nils f t = (f, [], sequence-one (IsTurnOf k.act k.release nils) f t
 
 -- a step, cut after any record: a tail, or all of it
 step-front : (W C L : Option Entry → List Told → Type 0) (F : List Told → Type 0) (D : Entry → List Told → Type 0) (e : Entry) (head body f x : List Told)
-    → StepHead e head → Closes (W (Some e)) (D e) body → f ++ x ≡ head ++ body → IsTailOf (cut-off W C D) f
-unfolding Closes FrontOf
+    → StepHead e head → GroupsThenDone (W (Some e)) (D e) body → f ++ x ≡ head ++ body → IsTailOf (cut-off W C D) f
+unfolding GroupsThenDone FrontOf
 step-front W C L F D e head body f x h c is =
     let two = head-two e head h in
     by two.0 two.1 two.2 two.3 two.4 two.5 (two-front (takes two.0 two.1 two.2 e two.3) (plain two.4) body x f (is ∙ ap (λ us. us ++ body) two.6))
   where
-    behind : (rest : List Told) → rest ++ x ≡ body → Breaks (W (Some e)) (AnyFront (W (Some e)) (C (Some e))) rest ⊎ Closes (W (Some e)) (FrontOf (D e)) rest
+    behind : (rest : List Told) → rest ++ x ≡ body → Breaks (W (Some e)) (AnyFront (W (Some e)) (C (Some e))) rest ⊎ GroupsThenDone (W (Some e)) (FrontOf (D e)) rest
     behind rest k = at (groups-front (W (Some e)) (C (Some e)) rest x c.0 (plain item.Done ∷ c.1) c.2 (k ∙ c.4))
       where
         done : (m : List Told) → rest ≡ c.0 ++ m → (m ≡ []) ⊎ ((n : List Told) × (m ≡ plain item.Done ∷ n) × (c.1 ≡ n ++ x))
-            → Breaks (W (Some e)) (AnyFront (W (Some e)) (C (Some e))) rest ⊎ Closes (W (Some e)) (FrontOf (D e)) rest
+            → Breaks (W (Some e)) (AnyFront (W (Some e)) (C (Some e))) rest ⊎ GroupsThenDone (W (Some e)) (FrontOf (D e)) rest
         done m k (inl none) =
             inl (subst (Breaks (W (Some e)) (AnyFront (W (Some e)) (C (Some e)))) (sym (k ∙ ap (λ us. c.0 ++ us) none ∙ append-nil c.0)) (whole-breaks (W (Some e)) (C (Some e)) c.0 c.2))
         done m k (inr d) = inr (c.0, d.0, c.2, (x, subst (D e) d.2 c.3), k ∙ ap (λ us. c.0 ++ us) d.1)
 
         at : ((m : List Told) × (rest ≡ c.0 ++ m) × (plain item.Done ∷ c.1 ≡ m ++ x)) ⊎ Breaks (W (Some e)) (AnyFront (W (Some e)) (C (Some e))) rest
-            → Breaks (W (Some e)) (AnyFront (W (Some e)) (C (Some e))) rest ⊎ Closes (W (Some e)) (FrontOf (D e)) rest
+            → Breaks (W (Some e)) (AnyFront (W (Some e)) (C (Some e))) rest ⊎ GroupsThenDone (W (Some e)) (FrontOf (D e)) rest
         at (inl m) = done m.0 m.1 (done-front c.1 x m.0 m.2)
         at (inr b) = inl b
 
@@ -98,7 +98,7 @@ step-front W C L F D e head body f x h c is =
     by f1 l m known b n (First k) = TakesOnly f1 l m e known refl k
     by f1 l m known b n (Both rest k more) = both (behind rest more)
       where
-        both : Breaks (W (Some e)) (AnyFront (W (Some e)) (C (Some e))) rest ⊎ Closes (W (Some e)) (FrontOf (D e)) rest → IsTailOf (cut-off W C D) f
+        both : Breaks (W (Some e)) (AnyFront (W (Some e)) (C (Some e))) rest ⊎ GroupsThenDone (W (Some e)) (FrontOf (D e)) rest → IsTailOf (cut-off W C D) f
         both (inl breaks) = BreaksOffIn e (takes f1 l m e known ∷ plain b ∷ []) rest refl (two-head e f1 l m known b n) breaks k
         both (inr closes) = ReleasesOnly e (takes f1 l m e known ∷ plain b ∷ []) rest refl (two-head e f1 l m known b n) closes k
 
@@ -149,7 +149,7 @@ turns-front W C L F D laws nils g f x t is = by (split-parts (IsTurnOf W D nils)
 -- a front of a list is empty, or a list that is cut
 pub object-front : (W C L : Option Entry → List Told → Type 0) (F : List Told → Type 0) (D : Entry → List Told → Type 0) → CutLaws W C L F D → (nils : Bool) (bs back : List Told)
     → IsObjectList (wholly W L F D) nils (bs ++ back) → (bs ≡ []) ⊎ IsObjectList (cut-off W C D) nils bs
-unfolding Closes
+unfolding GroupsThenDone
 object-front W C L F D laws nils [] back q = inl refl
 object-front W C L F D laws nils (t ∷ ts) back (BreaksStart body on b is) =
     let first : t ≡ plain item.Begin = cc in
@@ -174,7 +174,7 @@ object-front W C L F D laws nils (t ∷ ts) back (Starts body c is) =
 -- a tail that is cut can be made whole, as a tail or a turn
 tail-back : (W C L : Option Entry → List Told → Type 0) (F : List Told → Type 0) (D : Entry → List Told → Type 0) → CutLaws W C L F D → (nils : Bool) (g : List Told)
     → IsTailOf (cut-off W C D) g → (back : List Told) × TurnsOf (wholly W L F D) nils (g ++ back)
-unfolding Closes FrontOf
+unfolding GroupsThenDone FrontOf
 tail-back W C L F D laws nils g (EndsHere is) = ([], tail-alone (wholly W L F D) nils (g ++ []) (EndsHere (append-nil g ∙ is)))
 tail-back W C L F D laws nils g (IsSpent is) = ([], tail-alone (wholly W L F D) nils (g ++ []) (IsSpent (append-nil g ∙ is)))
 tail-back W C L F D laws nils g (BreaksOffIn e head body on h b is) = by (breaks-back (W (Some e)) (C (Some e)) (L (Some e)) (laws.cuts (Some e)) body b)
@@ -215,7 +215,7 @@ turns-back W C L F D laws nils g t =
 -- a list that is cut can be made whole
 pub object-back : (W C L : Option Entry → List Told → Type 0) (F : List Told → Type 0) (D : Entry → List Told → Type 0) → CutLaws W C L F D → (nils : Bool) (bs : List Told)
     → IsObjectList (cut-off W C D) nils bs → (back : List Told) × IsObjectList (wholly W L F D) nils (bs ++ back)
-unfolding Closes
+unfolding GroupsThenDone
 object-back W C L F D laws nils bs (Starts body c is) =
     let more = turns-back W C L F D laws nils c.1 c.3 in
     (more.0, Starts (body ++ more.0) (c.0, c.1 ++ more.0, c.2, more.1, ap (λ us. us ++ more.0) c.4 ∙ append_assoc c.0 (plain item.Done ∷ c.1) more.0) (ap (λ us. us ++ more.0) is))

@@ -9,7 +9,7 @@ use Rattle.qp_model.specs.Sequence.{Sequence}
 use Rattle.qp_model.specs.ObjectShape.{StepHead, is_head, takes}
 use Rattle.qp_model.proofs.ListLemmas.{nil-front}
 use Rattle.qp_check_shapes.specs.GroupsRead.{ReadsAll, IsElement, Breaks, is_close, is_outer}
-use Rattle.qp_check_shapes.specs.ObjectRead.{Kinds, Closes, looks_at_queue, IsTurnOf, Steps, Finds, FrontOf, IsTailOf, EndsHere, IsSpent, BreaksOffIn, TakesOnly, ReleasesOnly, TurnsOf}
+use Rattle.qp_check_shapes.specs.ObjectRead.{Kinds, GroupsThenDone, looks_at_queue, IsTurnOf, Steps, Finds, FrontOf, IsTailOf, EndsHere, IsSpent, BreaksOffIn, TakesOnly, ReleasesOnly, TurnsOf}
 use Rattle.qp_check_shapes.proofs.GroupsReadLemmas.{Parts, Lasts, compare, outer-behind, reads-last, no-close}
 use Rattle.qp_check_shapes.proofs.GroupsElementLemmas.{element-parts, end-lasts}
 
@@ -79,11 +79,11 @@ turn-filled : (k : Kinds) (nils : Bool) (rest g : List Told) → IsTurnOf k.act 
 turn-filled k nils rest g t is = turn-filled-in k.act k.release nils rest g t is
 
 -- two bodies in front of one list
-bodies-same : (k : Kinds) → KindLaws k → (d e : Entry) (b gs c hs : List Told) → d ≡ e → Closes (k.act (Some d)) (k.release d) b → Closes (k.act (Some e)) (k.release e) c
+bodies-same : (k : Kinds) → KindLaws k → (d e : Entry) (b gs c hs : List Told) → d ≡ e → GroupsThenDone (k.act (Some d)) (k.release d) b → GroupsThenDone (k.act (Some e)) (k.release e) c
     → b ++ gs ≡ c ++ hs → gs ≡ hs
-unfolding Closes
+unfolding GroupsThenDone
 bodies-same k laws d e b gs c hs same x y is =
-    let z : Closes (k.act (Some e)) (k.release e) b = subst (λ u. Closes (k.act (Some u)) (k.release u) b) same x in
+    let z : GroupsThenDone (k.act (Some e)) (k.release e) b = subst (λ u. GroupsThenDone (k.act (Some u)) (k.release u) b) same x in
     let left : b ++ gs ≡ z.0 ++ (plain item.Done ∷ (z.1 ++ gs)) = ap (λ us. us ++ gs) z.4 ∙ append_assoc z.0 (plain item.Done ∷ z.1) gs in
     let right : c ++ hs ≡ y.0 ++ (plain item.Done ∷ (y.1 ++ hs)) = ap (λ us. us ++ hs) y.4 ∙ append_assoc y.0 (plain item.Done ∷ y.1) hs in
     laws.releases e z.1 gs y.1 hs z.3 y.3 (done-same (k.act (Some e)) (laws.acts (Some e)) z.0 (z.1 ++ gs) y.0 (y.1 ++ hs) z.2 y.2 (sym left ∙ is ∙ right))
@@ -117,7 +117,7 @@ turn-parts k nils laws = record { filled = λ t. turn-filled k nils [] [] t refl
 
 -- behind a turn at the front of a tail is a tail
 pub tail-behind : (k : Kinds) (nils : Bool) → KindLaws k → (last g rest : List Told) → IsTailOf k last → IsTurnOf k.act k.release nils g → last ≡ g ++ rest → IsTailOf k rest
-unfolding Closes FrontOf
+unfolding GroupsThenDone FrontOf
 tail-behind k nils laws last g rest (EndsHere e) u is = absurd (turn-filled k nils rest g u (sym e ∙ is))
 tail-behind k nils laws last g rest (IsSpent e) (Finds b look n e1) is =
     let all : plain item.Spent ∷ [] ≡ plain b ∷ rest = sym e ∙ is ∙ ap (λ us. us ++ rest) e1 in
@@ -130,7 +130,7 @@ tail-behind k nils laws last g rest (BreaksOffIn e head body on s b e1) (Finds x
     absurd (head-not e head body rest x s (λ f l m. look-not x look f l m e) (sym e1 ∙ is ∙ ap (λ us. us ++ rest) e2))
 tail-behind k nils laws last g rest (BreaksOffIn e head body on s b e1) (Steps d other more u c e2) is =
     let same = heads-same e d head other body (more ++ rest) s u (sym e1 ∙ is ∙ ap (λ us. us ++ rest) e2 ∙ append_assoc other more rest) in
-    let z : Closes (k.act (Some e)) (k.release e) more = subst (λ x. Closes (k.act (Some x)) (k.release x) more) (sym same.0) c in
+    let z : GroupsThenDone (k.act (Some e)) (k.release e) more = subst (λ x. GroupsThenDone (k.act (Some x)) (k.release x) more) (sym same.0) c in
     absurd
     (break-open (k.act (Some e)) (k.last (Some e)) (laws.acts (Some e)) (laws.lasts (Some e)) body z.0 (z.1 ++ rest) b z.2
     (same.1 ∙ ap (λ us. us ++ rest) z.4 ∙ append_assoc z.0 (plain item.Done ∷ z.1) rest))
@@ -146,7 +146,7 @@ tail-behind k nils laws last g rest (ReleasesOnly e head body any s b e1) (Finds
     absurd (head-not e head body rest x s (λ f l m. look-not x look f l m e) (sym e1 ∙ is ∙ ap (λ us. us ++ rest) e2))
 tail-behind k nils laws last g rest (ReleasesOnly e head body any s b e1) (Steps d other more u c e2) is =
     let same = heads-same e d head other body (more ++ rest) s u (sym e1 ∙ is ∙ ap (λ us. us ++ rest) e2 ∙ append_assoc other more rest) in
-    let z : Closes (k.act (Some e)) (k.release e) more = subst (λ x. Closes (k.act (Some x)) (k.release x) more) (sym same.0) c in
+    let z : GroupsThenDone (k.act (Some e)) (k.release e) more = subst (λ x. GroupsThenDone (k.act (Some x)) (k.release x) more) (sym same.0) c in
     let front : b.1 ≡ z.1 ++ rest =
     done-same (k.act (Some e)) (laws.acts (Some e)) b.0 b.1 z.0 (z.1 ++ rest) b.2 z.2
     (sym b.4 ∙ same.1 ∙ ap (λ us. us ++ rest) z.4 ∙ append_assoc z.0 (plain item.Done ∷ z.1) rest) in

@@ -11,7 +11,7 @@ use Rattle.qp_model.specs.ObjectShape.{CutGroups, HasShape, nothing_after, asser
 use Rattle.qp_model.specs.Ends.{is_assert}
 use Rattle.qp_check_shapes.specs.ShapeAction.{IsWhole}
 use Rattle.qp_check_shapes.specs.GroupsRead.{Breaks}
-use Rattle.qp_check_shapes.specs.GroupsLast.{LastOf, start_cut, is_anywhere, is_cut, is_unbegun, kinds}
+use Rattle.qp_check_shapes.specs.GroupsLast.{LastOf, start_cut, is_anywhere, is_cut, is_unbegun, group_kinds}
 use Rattle.qp_check_shapes.specs.ObjectRead.{IsObjectList, IsStartEnd}
 use Rattle.qp_check_shapes.specs.ObjectFirst.{behind_begin}
 use Rattle.qp_check_shapes.proofs.ShapeReleaseLemmas.{release-whole}
@@ -29,7 +29,7 @@ release-unique e g gs h hs x y is =
     let two : behind_release e (h ++ hs) ≡ Some hs = release-whole e h hs y in
     let both : behind_release e (g ++ gs) ≡ behind_release e (h ++ hs) = ap (behind_release e) is in cc
 
-pub kind-laws : (sys : System) (o : ℕ) (cut : Cut) → KindLaws (kinds sys o cut)
+pub kind-laws : (sys : System) (o : ℕ) (cut : Cut) → KindLaws (group_kinds sys o cut)
 kind-laws sys o cut = record { acts = whole-parts sys o; lasts = last-lasts sys o cut; firsts = last-lasts sys o (start_cut cut) None; releases = release-unique }
 
 -- a list that isn't cut is not cut anywhere
@@ -51,13 +51,13 @@ pub first-decided : (sys : System) (o : ℕ) (cut first : Cut) (told : List Told
     → Decides b (Breaks (IsWhole sys o None) (LastOf sys o (start_cut cut) None) told)
 first-decided sys o cut first told b is d = subst (λ x. Decides b (Breaks (IsWhole sys o None) (LastOf sys o x None) told)) is d
 
-pub groups-decided : (sys : System) (o : ℕ) (nils : Bool) (cut : Cut) (told rest : List Told) (b : Bool) → Some rest ≡ behind_begin told → Decides b (IsStartEnd (kinds sys o cut) nils rest)
+pub groups-decided : (sys : System) (o : ℕ) (nils : Bool) (cut : Cut) (told rest : List Told) (b : Bool) → Some rest ≡ behind_begin told → Decides b (IsStartEnd (group_kinds sys o cut) nils rest)
     → Decides b (CutGroups sys o nils cut told)
 groups-decided sys o nils cut told rest b begins d =
-    decides-as (IsObjectList (kinds sys o cut) nils told) (CutGroups sys o nils cut told) b (object-cut sys o nils cut told) (λ h. by (cut-object sys o nils cut told h))
-    (object-decided (kinds sys o cut) nils told rest b begins d)
+    decides-as (IsObjectList (group_kinds sys o cut) nils told) (CutGroups sys o nils cut told) b (object-cut sys o nils cut told) (λ h. by (cut-object sys o nils cut told h))
+    (object-decided (group_kinds sys o cut) nils told rest b begins d)
   where
-    by : (told ≡ []) ⊎ IsObjectList (kinds sys o cut) nils told → IsObjectList (kinds sys o cut) nils told
+    by : (told ≡ []) ⊎ IsObjectList (group_kinds sys o cut) nils told → IsObjectList (group_kinds sys o cut) nils told
     by (inl none) = let no_begin : behind_begin told ≡ None = ap behind_begin none in absurd (cc)
     by (inr h) = h
 
@@ -65,9 +65,9 @@ pub unbegun-decided : (sys : System) (o : ℕ) (nils : Bool) (cut : Cut) (told :
 unfolding CutGroups
 unbegun-decided sys o nils cut told b none is = decides-by (CutGroups sys o nils cut told) b (λ h. sound cut (sym is ∙ h)) (λ h. is ∙ whole cut (by (cut-object sys o nils cut told h)) h)
   where
-    by : (told ≡ []) ⊎ IsObjectList (kinds sys o cut) nils told → told ≡ []
+    by : (told ≡ []) ⊎ IsObjectList (group_kinds sys o cut) nils told → told ≡ []
     by (inl e) = e
-    by (inr h) = absurd (object-not (kinds sys o cut) nils told none h)
+    by (inr h) = absurd (object-not (group_kinds sys o cut) nils told none h)
 
     sound : (cut : Cut) → is_unbegun cut told ≡ true → CutGroups sys o nils cut told
     sound Whole h = absurd (cc)
@@ -75,7 +75,7 @@ unbegun-decided sys o nils cut told b none is = decides-by (CutGroups sys o nils
     sound Anywhere h = empty-cut sys o nils Anywhere told (empty-is told (eqb-true (length told) 0 h)) (λ k. cc)
 
     whole : (cut : Cut) → told ≡ [] → CutGroups sys o nils cut told → is_unbegun cut told ≡ true
-    whole Whole e h = absurd (object-not (kinds sys o Whole) nils told none (whole-object sys o nils told h))
+    whole Whole e h = absurd (object-not (group_kinds sys o Whole) nils told none (whole-object sys o nils told h))
     whole Stopped e h = ap (is_unbegun Stopped) e
     whole Anywhere e h = ap (is_unbegun Anywhere) e
 

@@ -18,7 +18,7 @@ use Rattle.qp_check_shapes.specs.ShapeUnit.{IsUnit, goes_to, behind_entry, plain
 use Rattle.qp_check_shapes.specs.ShapeAction.{IsWhole, OfUnit, OfPublication}
 use Rattle.qp_check_shapes.specs.declared.shape_stage.PublishStage.{PublishStage}
 use Rattle.qp_check_shapes.specs.declared.shape_stage.PublishStage.TheVariants as stage
-use Rattle.qp_check_shapes.specs.ShapePublication.{next, run, behind_stage, is_whole_publication, else_behind}
+use Rattle.qp_check_shapes.specs.ShapePublication.{publish_next, stage_after, behind_stage, is_whole_publication, else_behind}
 use Rattle.qp_check_shapes.proofs.ShapeReleaseLemmas.{leaves}
 use Rattle.qp_check_shapes.proofs.ShapeWholeLemmas.{unit-whole}
 use Rattle.qp_check_shapes.proofs.ShapeUnitLemmas.{unit-leaves}
@@ -32,34 +32,34 @@ whole-is stage.Whole h = refl
 whole-is s h = absurd (false≢true h)
 
 -- what is read from a stage on is made whole
-pub stage-sound : (sys : System) (o : ℕ) (told : List Told) (s : PublishStage) (rest : List Told) → behind_stage sys o told s ≡ Some rest → (g : List Told) × (run sys o g s ≡ Some stage.Whole) × (told ≡ g ++ rest)
-unfolding behind_stage run
+pub stage-sound : (sys : System) (o : ℕ) (told : List Told) (s : PublishStage) (rest : List Told) → behind_stage sys o told s ≡ Some rest → (g : List Told) × (stage_after sys o g s ≡ Some stage.Whole) × (told ≡ g ++ rest)
+unfolding behind_stage stage_after
 stage-sound sys o [] s rest h = by (is_whole_publication s) refl h
   where
-    by : (b : Bool) → is_whole_publication s ≡ b → cond b (Some []) None ≡ Some rest → (g : List Told) × (run sys o g s ≡ Some stage.Whole) × ([] ≡ g ++ rest)
+    by : (b : Bool) → is_whole_publication s ≡ b → cond b (Some []) None ≡ Some rest → (g : List Told) × (stage_after sys o g s ≡ Some stage.Whole) × ([] ≡ g ++ rest)
     by true is h = ([], ap Some (whole-is s is), cc)
     by false is h = absurd (cc)
 stage-sound sys o (t ∷ ts) s rest h = by (is_whole_publication s) refl h (λ x. stage-sound sys o ts x rest)
   where
-    on : (r : Option PublishStage) → next sys o s t.body t.known ≡ r → option_and_then (λ x. behind_stage sys o ts x) r ≡ Some rest
-        → ((x : PublishStage) → behind_stage sys o ts x ≡ Some rest → (g : List Told) × (run sys o g x ≡ Some stage.Whole) × (ts ≡ g ++ rest))
-        → (g : List Told) × (run sys o g s ≡ Some stage.Whole) × (t ∷ ts ≡ g ++ rest)
+    on : (r : Option PublishStage) → publish_next sys o s t.body t.known ≡ r → option_and_then (λ x. behind_stage sys o ts x) r ≡ Some rest
+        → ((x : PublishStage) → behind_stage sys o ts x ≡ Some rest → (g : List Told) × (stage_after sys o g x ≡ Some stage.Whole) × (ts ≡ g ++ rest))
+        → (g : List Told) × (stage_after sys o g s ≡ Some stage.Whole) × (t ∷ ts ≡ g ++ rest)
     on None is h behind = absurd (cc)
     on (Some x) is h behind = let found = behind x h in (t ∷ found.0, rw is found.1, ap (λ us. t ∷ us) found.2)
 
-    by : (b : Bool) → is_whole_publication s ≡ b → cond b (Some (t ∷ ts)) (option_and_then (λ x. behind_stage sys o ts x) (next sys o s t.body t.known)) ≡ Some rest
-        → ((x : PublishStage) → behind_stage sys o ts x ≡ Some rest → (g : List Told) × (run sys o g x ≡ Some stage.Whole) × (ts ≡ g ++ rest))
-        → (g : List Told) × (run sys o g s ≡ Some stage.Whole) × (t ∷ ts ≡ g ++ rest)
+    by : (b : Bool) → is_whole_publication s ≡ b → cond b (Some (t ∷ ts)) (option_and_then (λ x. behind_stage sys o ts x) (publish_next sys o s t.body t.known)) ≡ Some rest
+        → ((x : PublishStage) → behind_stage sys o ts x ≡ Some rest → (g : List Told) × (stage_after sys o g x ≡ Some stage.Whole) × (ts ≡ g ++ rest))
+        → (g : List Told) × (stage_after sys o g s ≡ Some stage.Whole) × (t ∷ ts ≡ g ++ rest)
     by true is h behind = ([], ap Some (whole-is s is), cc)
-    by false is h behind = on (next sys o s t.body t.known) refl h behind
+    by false is h behind = on (publish_next sys o s t.body t.known) refl h behind
 
-goes-on : (sys : System) (o : ℕ) (t : Told) (s x : PublishStage) → next sys o s t.body t.known ≡ Some x → is_whole_publication s ≡ false
-unfolding next
+goes-on : (sys : System) (o : ℕ) (t : Told) (s x : PublishStage) → publish_next sys o s t.body t.known ≡ Some x → is_whole_publication s ≡ false
+unfolding publish_next
 goes-on sys o t stage.Whole x h = absurd (none-some _ h)
 goes-on sys o t s x h = refl
 
-pub stage-whole : (sys : System) (o : ℕ) (g rest : List Told) (s : PublishStage) → run sys o g s ≡ Some stage.Whole → behind_stage sys o (g ++ rest) s ≡ Some rest
-unfolding behind_stage run
+pub stage-whole : (sys : System) (o : ℕ) (g rest : List Told) (s : PublishStage) → stage_after sys o g s ≡ Some stage.Whole → behind_stage sys o (g ++ rest) s ≡ Some rest
+unfolding behind_stage stage_after
 stage-whole sys o [] [] s h = let is : s ≡ stage.Whole = cc in rw is refl
 stage-whole sys o [] (t ∷ ts) s h = let is : s ≡ stage.Whole = cc in rw is refl
 stage-whole sys o (t ∷ ts) rest s h =
@@ -68,8 +68,8 @@ stage-whole sys o (t ∷ ts) rest s h =
     rw (on, step.1) (stage-whole sys o ts rest step.0 step.2)
 
 -- behind the first reference of a publication's block stands its set, where a unit has a post
-made-none : (sys : System) (o p k sig r : ℕ) (ts rest : List Told) → run sys o ts (stage.Made (entry p k r) sig) ≡ Some stage.Whole → behind_entry sys (entry p k r) (ts ++ rest) ≡ None
-unfolding run next
+made-none : (sys : System) (o p k sig r : ℕ) (ts rest : List Told) → stage_after sys o ts (stage.Made (entry p k r) sig) ≡ Some stage.Whole → behind_entry sys (entry p k r) (ts ++ rest) ≡ None
+unfolding stage_after publish_next
 made-none sys o p k sig r [] rest h = absurd (cc)
 made-none sys o p k sig r (t ∷ ts) rest h =
     let step = run-step sys o t ts (stage.Made (entry p k r) sig) stage.Whole h in
@@ -77,26 +77,26 @@ made-none sys o p k sig r (t ∷ ts) rest h =
     rw is.2 refl
 
 given-none : (sys : System) (o : ℕ) (now : Option Entry) (p n k from sig free : ℕ) (pars : List ℕ) (ts rest : List Told)
-    → nat_lt 0 free ≡ true → goes_to (sizes_of sys) (length pars) p ≡ true → is_static sys sig ≡ false → run sys o ts (stage.Given p k sig) ≡ Some stage.Whole
+    → nat_lt 0 free ≡ true → goes_to (sizes_of sys) (length pars) p ≡ true → is_static sys sig ≡ false → stage_after sys o ts (stage.Given p k sig) ≡ Some stage.Whole
     → behind_unit sys o now (told_new p n k from sig pars free ∷ (ts ++ rest)) ≡ None
-unfolding run next given_first
+unfolding stage_after publish_next given_first
 given-none sys o now p n k from sig free pars [] rest above goes pooled h = absurd (cc)
 given-none sys o now p n k from sig free pars (t ∷ ts) rest above goes pooled h =
     let step = run-step sys o t ts (stage.Given p k sig) stage.Whole h in
     let is = given-is p k sig t step.0 step.1 in
-    let behind = made-none sys o p k sig is.0 ts rest (subst (λ y. run sys o ts y ≡ Some stage.Whole) is.2 step.2) in
+    let behind = made-none sys o p k sig is.0 ts rest (subst (λ y. stage_after sys o ts y ≡ Some stage.Whole) is.2 step.2) in
     rw (above, goes, pooled, is.1, same_number p, same_number k) behind
 
 -- no unit stands in front of a publication
-unit-none : (sys : System) (o : ℕ) (now : Option Entry) (g rest : List Told) → run sys o g stage.Start ≡ Some stage.Whole → behind_unit sys o now (g ++ rest) ≡ None
-unfolding run next plain_first
+unit-none : (sys : System) (o : ℕ) (now : Option Entry) (g rest : List Told) → stage_after sys o g stage.Start ≡ Some stage.Whole → behind_unit sys o now (g ++ rest) ≡ None
+unfolding stage_after publish_next plain_first
 unit-none sys o now [] rest h = absurd (cc)
 unit-none sys o now (t ∷ ts) rest h = let step = run-step sys o t ts stage.Start stage.Whole h in by step.0 (start-is sys o t step.0 step.1) step.2
   where
-    by : (x : PublishStage) → StartRecord sys o t x → run sys o ts x ≡ Some stage.Whole → behind_unit sys o now (t ∷ (ts ++ rest)) ≡ None
+    by : (x : PublishStage) → StartRecord sys o t x → stage_after sys o ts x ≡ Some stage.Whole → behind_unit sys o now (t ∷ (ts ++ rest)) ≡ None
     by x (OfSet sig n set t_is fixed x_is) h = rw t_is refl
     by x (OfBlock p n k from sig free pars t_is above goes pooled x_is) h =
-        rw t_is (given-none sys o now p n k from sig free pars ts rest above goes pooled (subst (λ y. run sys o ts y ≡ Some stage.Whole) x_is h))
+        rw t_is (given-none sys o now p n k from sig free pars ts rest above goes pooled (subst (λ y. stage_after sys o ts y ≡ Some stage.Whole) x_is h))
 
 -- publications, as the shapes of calls have them
 pub fits-publication : (sys : System) (o : ℕ) (now : Option Entry) (sig : ℕ) (pars : List ℕ) (b : Bool) (g : List Told)
@@ -105,7 +105,7 @@ unfolding FitsAny Fits
 fits-publication sys o now sig pars b g h = h
 
 pub publication-run : (sys : System) (o : ℕ) (now : Option Entry) (sig : ℕ) (pars : List ℕ) (reserve : Option ℕ) (b : Bool) (g : List Told)
-    → FitsAny sys o now (call.Publish sig pars reserve) (answer_of b) g → run sys o g stage.Start ≡ Some (end_of b)
+    → FitsAny sys o now (call.Publish sig pars reserve) (answer_of b) g → stage_after sys o g stage.Start ≡ Some (end_of b)
 unfolding FitsAny Fits
 publication-run sys o now sig pars reserve b g h = start-whole sys o sig pars reserve b g h
 

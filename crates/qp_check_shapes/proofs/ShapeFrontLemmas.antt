@@ -18,7 +18,7 @@ use Rattle.qp_check_shapes.specs.ShapeUnit.{had_room, again_first, behind_again,
 use Rattle.qp_check_shapes.specs.ShapeAssertion.{no_entry_first, behind_no_entry, cut_first, behind_cut, new_cut_first, behind_new_cut}
 use Rattle.qp_check_shapes.specs.declared.shape_stage.PublishStage.{PublishStage}
 use Rattle.qp_check_shapes.specs.declared.shape_stage.PublishStage.TheVariants as stage
-use Rattle.qp_check_shapes.specs.ShapePublication.{released, run, is_nothing_behind}
+use Rattle.qp_check_shapes.specs.ShapePublication.{publication_released, stage_after, is_nothing_behind}
 use Rattle.qp_check_shapes.specs.ShapeFront.{release_front, entry_front_first, entry_front, again_front_first, again_front, new_front_first, new_front}
 use Rattle.qp_check_shapes.proofs.ShapeReleaseLemmas.{when-passed, release-sound, release-whole}
 use Rattle.qp_check_shapes.proofs.ShapeSoundLemmas.{passed}
@@ -63,29 +63,29 @@ lift false F G ts h front = absurd (cc)
 -- releases
 pub release-front-sound : (sys : System) (o : ℕ) (e : Entry) (ts : List Told) → release_front sys o e ts ≡ true → (back : List Told) × (behind_release e (ts ++ back) ≡ Some [])
 unfolding release_front
-release-front-sound sys o e ts h = by (run sys o ts (released e)) refl h
+release-front-sound sys o e ts h = by (stage_after sys o ts (publication_released e)) refl h
   where
-    all : (back : List Told) (b : Bool) → run sys o (ts ++ back) (released e) ≡ Some (end_of b) → (back : List Told) × (behind_release e (ts ++ back) ≡ Some [])
+    all : (back : List Told) (b : Bool) → stage_after sys o (ts ++ back) (publication_released e) ≡ Some (end_of b) → (back : List Told) × (behind_release e (ts ++ back) ≡ Some [])
     all back b is =
         let drops = drops-sound sys o e (ts ++ back) b is in
         (back, subst (λ us. behind_release e us ≡ Some []) (append-nil (ts ++ back)) (release-whole e (ts ++ back) [] drops.1))
 
-    by : (r : Option PublishStage) → run sys o ts (released e) ≡ r → is_some r ≡ true → (back : List Told) × (behind_release e (ts ++ back) ≡ Some [])
+    by : (r : Option PublishStage) → stage_after sys o ts (publication_released e) ≡ r → is_some r ≡ true → (back : List Told) × (behind_release e (ts ++ back) ≡ Some [])
     by None is h = absurd (cc)
     by (Some s) is h = let end = ends ts s is in all end.0 end.1 end.2
       where
-        ends : (us : List Told) (s : PublishStage) → run sys o us (released e) ≡ Some s → (back : List Told) × (b : Bool) × (run sys o (us ++ back) (released e) ≡ Some (end_of b))
+        ends : (us : List Told) (s : PublishStage) → stage_after sys o us (publication_released e) ≡ Some s → (back : List Told) × (b : Bool) × (stage_after sys o (us ++ back) (publication_released e) ≡ Some (end_of b))
         ends [] s is = released-ends sys o e
         ends (u ∷ us) s is =
-            let end = run-ends sys o u us (released e) s is in
-            (end.0, end.1, run-on sys o (u ∷ us) end.0 (released e) s (Some (end_of end.1)) is end.2)
+            let end = run-ends sys o u us (publication_released e) s is in
+            (end.0, end.1, run-on sys o (u ∷ us) end.0 (publication_released e) s (Some (end_of end.1)) is end.2)
 
 pub release-front-whole : (sys : System) (o : ℕ) (e : Entry) (ts back : List Told) → behind_release e (ts ++ back) ≡ Some [] → release_front sys o e ts ≡ true
 unfolding release_front
 release-front-whole sys o e ts back h =
     let rel = release-sound e (ts ++ back) [] h in
     let drops : Drops e (ts ++ back) = subst (λ us. Drops e us) (sym (rel.2 ∙ append-nil rel.0)) rel.1 in
-    let front = run-front sys o ts back (released e) stage.Whole (drops-whole sys o e (ts ++ back) drops) in
+    let front = run-front sys o ts back (publication_released e) stage.Whole (drops-whole sys o e (ts ++ back) drops) in
     ap is_some front.1
 
 -- a post of a new event's entry

@@ -14,7 +14,7 @@ use Rattle.qp_check_shapes.specs.declared.shape_stage.Ceiling.{Ceiling}
 use Rattle.qp_check_shapes.specs.declared.shape_stage.Ceiling.TheVariants as ceiling
 use Rattle.qp_check_shapes.specs.declared.shape_stage.PublishStage.{PublishStage}
 use Rattle.qp_check_shapes.specs.declared.shape_stage.PublishStage.TheVariants as stage
-use Rattle.qp_check_shapes.specs.ShapePublication.{after_posts, next_post, published, posts_next, next, run}
+use Rattle.qp_check_shapes.specs.ShapePublication.{after_posts, next_post, published, posts_next, publish_next, stage_after}
 use Rattle.qp_check_shapes.proofs.ShapePostLemmas.{new-static, new-block}
 use Rattle.qp_check_shapes.proofs.ShapePartLemmas.{goes-first}
 use Rattle.qp_check_shapes.proofs.ShapeStageLemmas.{run-step, given-is, made-is, lock-is, StartRecord, OfBlock, OfSet, start-is}
@@ -54,19 +54,19 @@ source-raises former [] = (refl, refl)
 source-raises former (a ∷ others) = (refl, refl)
 
 -- at an object's publication the ceiling rises first
-risen-sound : (sys : System) (o : ℕ) (e : Entry) (set k : ℕ) (b : Bool) (g : List Told) → run sys (suc o) g (stage.Posts (posting e set ceiling.Rises k)) ≡ Some (end_of b)
+risen-sound : (sys : System) (o : ℕ) (e : Entry) (set k : ℕ) (b : Bool) (g : List Told) → stage_after sys (suc o) g (stage.Posts (posting e set ceiling.Rises k)) ≡ Some (end_of b)
     → Published sys (suc o) e (suc k ∷ members_below k set) b g
-unfolding run next posts_next raising restoring
+unfolding stage_after publish_next posts_next raising restoring
 risen-sound sys o e set k true [] h = absurd (cc)
 risen-sound sys o e set k false [] h = absurd (cc)
 risen-sound sys o e set k b (t ∷ ts) h =
     let step = run-step sys (suc o) t ts (stage.Posts (posting e set ceiling.Rises k)) (end_of b) h in
     let lock = lock-is (posting e set ceiling.Rises k) t step.0 step.1 in
-    let behind : run sys (suc o) ts (stage.Posts (posting e set (ceiling.Rose lock.0) k)) ≡ Some (end_of b) = subst (λ x. run sys (suc o) ts x ≡ Some (end_of b)) lock.2 step.2 in
+    let behind : stage_after sys (suc o) ts (stage.Posts (posting e set (ceiling.Rose lock.0) k)) ≡ Some (end_of b) = subst (λ x. stage_after sys (suc o) ts x ≡ Some (end_of b)) lock.2 step.2 in
     let finish = step-sound sys (suc o) e set (ceiling.Rose lock.0) k b ts refl (λ rest. posts-sound sys (suc o) e set (ceiling.Rose lock.0) k b rest refl) behind in
     as-published sys (suc o) e (ceiling.Rose lock.0) (suc k ∷ members_below k set) b lock.0 (t ∷ ts) ts (ap (λ u. u ∷ ts) lock.1) refl finish
 
-pub published-sound : (sys : System) (o : ℕ) (e : Entry) (set : ℕ) (b : Bool) (g : List Told) → run sys o g (published o e set) ≡ Some (end_of b) → Published sys o e (members set) b g
+pub published-sound : (sys : System) (o : ℕ) (e : Entry) (set : ℕ) (b : Bool) (g : List Told) → stage_after sys o g (published o e set) ≡ Some (end_of b) → Published sys o e (members set) b g
 unfolding published members raising restoring PostsToAll
 published-sound sys zero e set b g h =
     let source = source-raises 0 (members_below 32 set) in
@@ -76,17 +76,17 @@ published-sound sys (suc o) e set b g h = by (first-member set 32)
     some : (suc o == 0) ≡ false
     some = grind (arith, nat_tests)
 
-    rises : run sys (suc o) g (next_post e set ceiling.Rises 32) ≡ Some (end_of b)
+    rises : stage_after sys (suc o) g (next_post e set ceiling.Rises 32) ≡ Some (end_of b)
     rises = rw some at h
 
     by : First set 32 → Published sys (suc o) e (members_below 32 set) b g
     by (NoMember none after) =
-        let end = ending-sound sys (suc o) e ceiling.Rises g b (subst (λ x. run sys (suc o) g x ≡ Some (end_of b)) (after e ceiling.Rises) rises) in
+        let end = ending-sound sys (suc o) e ceiling.Rises g b (subst (λ x. stage_after sys (suc o) g x ≡ Some (end_of b)) (after e ceiling.Rises) rises) in
         subst (λ ms. Published sys (suc o) e ms b g) (sym none)
         (as-published sys (suc o) e ceiling.Rises [] b 0 g g refl refl (Finishes [] end.1 end.0 refl end.2 end.3))
     by (Member k first after) =
         subst (λ ms. Published sys (suc o) e ms b g) (sym first)
-        (risen-sound sys o e set k b g (subst (λ x. run sys (suc o) g x ≡ Some (end_of b)) (after e ceiling.Rises) rises))
+        (risen-sound sys o e set k b g (subst (λ x. stage_after sys (suc o) g x ≡ Some (end_of b)) (after e ceiling.Rises) rises))
 
 -- the answer of a publication by its end
 abbrev pub answer_of : Bool → Answer
@@ -129,46 +129,46 @@ IsPublication sys o b g = (sig : ℕ) × (pars : List ℕ) × Publishes (is_stat
 
 made-sound : (sys : System) (o p n k from sig free r : ℕ) (pars : List ℕ) (b : Bool) (g : List Told)
     → MakesNew (is_static sys sig) (sizes_of sys) sig pars None (told_new p n k from sig pars free ∷ plain (item.Inc p k r) ∷ []) (entry p k r)
-    → run sys o g (stage.Made (entry p k r) sig) ≡ Some (end_of b) → IsPublication sys o b (told_new p n k from sig pars free ∷ plain (item.Inc p k r) ∷ g)
-unfolding run next
+    → stage_after sys o g (stage.Made (entry p k r) sig) ≡ Some (end_of b) → IsPublication sys o b (told_new p n k from sig pars free ∷ plain (item.Inc p k r) ∷ g)
+unfolding stage_after publish_next
 made-sound sys o p n k from sig free r pars true [] makes h = absurd (cc)
 made-sound sys o p n k from sig free r pars false [] makes h = absurd (cc)
 made-sound sys o p n k from sig free r pars b (t ∷ ts) makes h =
     let step = run-step sys o t ts (stage.Made (entry p k r) sig) (end_of b) h in
     let is = made-is o (entry p k r) sig t step.0 step.1 in
-    let shown = published-sound sys o (entry p k r) is.1 b ts (subst (λ x. run sys o ts x ≡ Some (end_of b)) is.3 step.2) in
+    let shown = published-sound sys o (entry p k r) is.1 b ts (subst (λ x. stage_after sys o ts x ≡ Some (end_of b)) is.3 step.2) in
     let whole = publishes sys o sig pars (told_new p n k from sig pars free ∷ plain (item.Inc p k r) ∷ []) (entry p k r) is.0 is.1 b ts makes shown in
     (sig, pars, subst (λ u. Publishes (is_static sys sig) (sizes_of sys) (ring_of sys) o sig pars None (answer_of b) (told_new p n k from sig pars free ∷ plain (item.Inc p k r) ∷ u ∷ ts)) (sym is.2) whole)
 
 given-sound : (sys : System) (o p n k from sig free : ℕ) (pars : List ℕ) (b : Bool) (g : List Told)
     → ((r : ℕ) → MakesNew (is_static sys sig) (sizes_of sys) sig pars None (told_new p n k from sig pars free ∷ plain (item.Inc p k r) ∷ []) (entry p k r))
-    → run sys o g (stage.Given p k sig) ≡ Some (end_of b) → IsPublication sys o b (told_new p n k from sig pars free ∷ g)
-unfolding run next
+    → stage_after sys o g (stage.Given p k sig) ≡ Some (end_of b) → IsPublication sys o b (told_new p n k from sig pars free ∷ g)
+unfolding stage_after publish_next
 given-sound sys o p n k from sig free pars true [] makes h = absurd (cc)
 given-sound sys o p n k from sig free pars false [] makes h = absurd (cc)
 given-sound sys o p n k from sig free pars b (t ∷ ts) makes h =
     let step = run-step sys o t ts (stage.Given p k sig) (end_of b) h in
     let is = given-is p k sig t step.0 step.1 in
     subst (λ u. IsPublication sys o b (told_new p n k from sig pars free ∷ u ∷ ts)) (sym is.1)
-    (made-sound sys o p n k from sig free is.0 pars b ts (makes is.0) (subst (λ x. run sys o ts x ≡ Some (end_of b)) is.2 step.2))
+    (made-sound sys o p n k from sig free is.0 pars b ts (makes is.0) (subst (λ x. stage_after sys o ts x ≡ Some (end_of b)) is.2 step.2))
 
 -- what is read from the start to an end is a publication
-pub start-sound : (sys : System) (o : ℕ) (b : Bool) (g : List Told) → run sys o g stage.Start ≡ Some (end_of b) → IsPublication sys o b g
-unfolding run next MakesBlock
+pub start-sound : (sys : System) (o : ℕ) (b : Bool) (g : List Told) → stage_after sys o g stage.Start ≡ Some (end_of b) → IsPublication sys o b g
+unfolding stage_after publish_next MakesBlock
 start-sound sys o true [] h = absurd (cc)
 start-sound sys o false [] h = absurd (cc)
 start-sound sys o b (t ∷ ts) h = let step = run-step sys o t ts stage.Start (end_of b) h in by step.0 (start-is sys o t step.0 step.1) step.2
   where
-    by : (x : PublishStage) → StartRecord sys o t x → run sys o ts x ≡ Some (end_of b) → IsPublication sys o b (t ∷ ts)
+    by : (x : PublishStage) → StartRecord sys o t x → stage_after sys o ts x ≡ Some (end_of b) → IsPublication sys o b (t ∷ ts)
     by x (OfBlock p n k from sig free pars t_is above goes pooled x_is) h =
         subst (λ u. IsPublication sys o b (u ∷ ts)) (sym t_is)
         (given-sound sys o p n k from sig free pars b ts
         (λ r. new-block (is_static sys sig) (sizes_of sys) sig pars None _ (entry p k r) pooled (p, n, k, from, free, r, refl, refl, goes-first (sizes_of sys) (length pars) p goes, above))
-        (subst (λ y. run sys o ts y ≡ Some (end_of b)) x_is h))
+        (subst (λ y. stage_after sys o ts y ≡ Some (end_of b)) x_is h))
     by x (OfSet sig n set t_is fixed x_is) h =
         subst (λ u. IsPublication sys o b (u ∷ ts)) (sym t_is) (
           sig,
           [],
           publishes sys o sig [] [] (entry 0 sig 0) n set b ts (new-static (is_static sys sig) (sizes_of sys) sig [] None fixed)
-              (published-sound sys o (entry 0 sig 0) set b ts (subst (λ y. run sys o ts y ≡ Some (end_of b)) x_is h)),
+              (published-sound sys o (entry 0 sig 0) set b ts (subst (λ y. stage_after sys o ts y ≡ Some (end_of b)) x_is h)),
         )

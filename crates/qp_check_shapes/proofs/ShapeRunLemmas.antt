@@ -18,7 +18,7 @@ use Rattle.qp_check_shapes.specs.declared.shape_stage.Ceiling.TheVariants as cei
 use Rattle.qp_check_shapes.specs.declared.shape_stage.Posting.{Posting}
 use Rattle.qp_check_shapes.specs.declared.shape_stage.PublishStage.{PublishStage}
 use Rattle.qp_check_shapes.specs.declared.shape_stage.PublishStage.TheVariants as stage
-use Rattle.qp_check_shapes.specs.ShapePublication.{released, after_posts, next_post, post_next, reference_next, posts_next, left_next, next, run}
+use Rattle.qp_check_shapes.specs.ShapePublication.{publication_released, after_posts, next_post, post_next, reference_next, posts_next, left_next, publish_next, stage_after}
 use Rattle.qp_check_shapes.proofs.ShapePostLemmas.{again-static, again-pooled, none-drops}
 use Rattle.qp_check_shapes.proofs.ShapeStageLemmas.{run-step, raised-is, posted-is, dropped-is, reference-is, PostRecord, OfPost, OfNoEntry, post-is}
 
@@ -46,40 +46,40 @@ pub data Finish (sys : System) (e : Entry) (c : Ceiling) (ms : List ℕ) (b : Bo
   Cuts : b ≡ false → PostsUpTo (ring_of sys) e ms g → Finish sys e c ms b g
 
 -- nothing stands behind the end
-whole-run : (sys : System) (o : ℕ) (g : List Told) (b : Bool) → run sys o g stage.Whole ≡ Some (end_of b) → (b ≡ true) × (g ≡ [])
-unfolding run next
+whole-run : (sys : System) (o : ℕ) (g : List Told) (b : Bool) → stage_after sys o g stage.Whole ≡ Some (end_of b) → (b ≡ true) × (g ≡ [])
+unfolding stage_after publish_next
 whole-run sys o [] true h = (refl, refl)
 whole-run sys o [] false h = absurd (cc)
 whole-run sys o (t ∷ ts) b h = absurd (cc)
 
-cut-run : (sys : System) (o : ℕ) (g : List Told) (b : Bool) → run sys o g stage.Cut ≡ Some (end_of b) → (b ≡ false) × (g ≡ [])
-unfolding run next
+cut-run : (sys : System) (o : ℕ) (g : List Told) (b : Bool) → stage_after sys o g stage.Cut ≡ Some (end_of b) → (b ≡ false) × (g ≡ [])
+unfolding stage_after publish_next
 cut-run sys o [] false h = (refl, refl)
 cut-run sys o [] true h = absurd (cc)
 cut-run sys o (t ∷ ts) b h = absurd (cc)
 
-dropped-run : (sys : System) (o p k d : ℕ) (g : List Told) (b : Bool) → run sys o g (stage.Dropped p k d) ≡ Some (end_of b) → (b ≡ true) × (n : ℕ) × (g ≡ plain (item.Back p n k (d + 1)) ∷ [])
-unfolding run next
+dropped-run : (sys : System) (o p k d : ℕ) (g : List Told) (b : Bool) → stage_after sys o g (stage.Dropped p k d) ≡ Some (end_of b) → (b ≡ true) × (n : ℕ) × (g ≡ plain (item.Back p n k (d + 1)) ∷ [])
+unfolding stage_after publish_next
 dropped-run sys o p k d [] true h = absurd (cc)
 dropped-run sys o p k d [] false h = absurd (cc)
 dropped-run sys o p k d (t ∷ ts) b h =
     let step = run-step sys o t ts (stage.Dropped p k d) (end_of b) h in
     let is = dropped-is p k d t step.0 step.1 in
-    let end = whole-run sys o ts b (subst (λ x. run sys o ts x ≡ Some (end_of b)) is.2 step.2) in
+    let end = whole-run sys o ts b (subst (λ x. stage_after sys o ts x ≡ Some (end_of b)) is.2 step.2) in
     let none : ts ≡ [] = end.1 in
     let first : t ≡ plain (item.Back p is.0 k (d + 1)) = is.1 in
     (end.0, is.0, cc)
 
-posted-run : (sys : System) (o : ℕ) (e : Entry) (g : List Told) (b : Bool) → run sys o g (stage.Posted e) ≡ Some (end_of b) → (b ≡ true) × Releases e.pool e.block e.name g
-unfolding run next
+posted-run : (sys : System) (o : ℕ) (e : Entry) (g : List Told) (b : Bool) → stage_after sys o g (stage.Posted e) ≡ Some (end_of b) → (b ≡ true) × Releases e.pool e.block e.name g
+unfolding stage_after publish_next
 posted-run sys o e [] true h = absurd (cc)
 posted-run sys o e [] false h = absurd (cc)
 posted-run sys o e (t ∷ ts) b h =
     let step = run-step sys o t ts (stage.Posted e) (end_of b) h in
     let is = posted-is e t step.0 step.1 in
-    by is.0 is.1 is.2 (subst (λ x. run sys o ts x ≡ Some (end_of b)) is.3 step.2)
+    by is.0 is.1 is.2 (subst (λ x. stage_after sys o ts x ≡ Some (end_of b)) is.3 step.2)
   where
-    by : (d left : ℕ) → t ≡ dropped e.pool e.block d e.name left → run sys o ts (left_next e.pool e.block d left) ≡ Some (end_of b) → (b ≡ true) × Releases e.pool e.block e.name (t ∷ ts)
+    by : (d left : ℕ) → t ≡ dropped e.pool e.block d e.name left → stage_after sys o ts (left_next e.pool e.block d left) ≡ Some (end_of b) → (b ≡ true) × Releases e.pool e.block e.name (t ∷ ts)
     by d zero is h = let back = dropped-run sys o e.pool e.block d ts b h in let behind : ts ≡ plain (item.Back e.pool back.1 e.block (d + 1)) ∷ [] = back.2 in (back.0, inr (d, back.1, cc))
     by d (suc left) is h = let end = whole-run sys o ts b h in let none : ts ≡ [] = end.1 in (end.0, inl (d, left, cc))
 
@@ -92,17 +92,17 @@ pooled-drops e g is h = by e.pool is
     by (suc p) is = h
 
 -- the publication's own release
-pub drops-sound : (sys : System) (o : ℕ) (e : Entry) (g : List Told) (b : Bool) → run sys o g (released e) ≡ Some (end_of b) → (b ≡ true) × Drops e g
+pub drops-sound : (sys : System) (o : ℕ) (e : Entry) (g : List Told) (b : Bool) → stage_after sys o g (publication_released e) ≡ Some (end_of b) → (b ≡ true) × Drops e g
 drops-sound sys o e g b h = by (e.pool == 0) refl h
   where
-    by : (fixed : Bool) → (e.pool == 0) ≡ fixed → run sys o g (cond fixed stage.Whole (stage.Posted e)) ≡ Some (end_of b) → (b ≡ true) × Drops e g
+    by : (fixed : Bool) → (e.pool == 0) ≡ fixed → stage_after sys o g (cond fixed stage.Whole (stage.Posted e)) ≡ Some (end_of b) → (b ≡ true) × Drops e g
     by true is h = let end = whole-run sys o g b h in (end.0, subst (λ us. Drops e us) (sym end.1) (none-drops e (eqb-true e.pool 0 is)))
     by false is h = let rel = posted-run sys o e g b h in (rel.0, pooled-drops e g is rel.1)
 
 -- what follows the posts
-pub ending-sound : (sys : System) (o : ℕ) (e : Entry) (c : Ceiling) (g : List Told) (b : Bool) → run sys o g (after_posts e c) ≡ Some (end_of b)
+pub ending-sound : (sys : System) (o : ℕ) (e : Entry) (c : Ceiling) (g : List Told) (b : Bool) → stage_after sys o g (after_posts e c) ≡ Some (end_of b)
     → (b ≡ true) × (rel : List Told) × Drops e rel × (g ≡ restored c ++ rel)
-unfolding run next
+unfolding stage_after publish_next
 ending-sound sys o e ceiling.Stays g b h = let rel = drops-sound sys o e g b h in (rel.0, g, rel.1, refl)
 ending-sound sys o e ceiling.Rises g b h = let rel = drops-sound sys o e g b h in (rel.0, g, rel.1, refl)
 ending-sound sys o e (ceiling.Rose former) [] true h = absurd (cc)
@@ -110,23 +110,23 @@ ending-sound sys o e (ceiling.Rose former) [] false h = absurd (cc)
 ending-sound sys o e (ceiling.Rose former) (t ∷ ts) b h =
     let step = run-step sys o t ts (stage.Raised e former) (end_of b) h in
     let is = raised-is e former t step.0 step.1 in
-    let rel = drops-sound sys o e ts b (subst (λ x. run sys o ts x ≡ Some (end_of b)) is.1 step.2) in
+    let rel = drops-sound sys o e ts b (subst (λ x. stage_after sys o ts x ≡ Some (end_of b)) is.1 step.2) in
     let first : t ≡ plain (item.Unlock former) = is.0 in
     (rel.0, ts, rel.1, cc)
 
 -- one post, and what stands behind it
 data One (sys : System) (o : ℕ) (p : Posting) (b : Bool) (g : List Told) : Type 0 where
-  Goes : (one rest : List Told) → g ≡ one ++ rest → PostsOne (ring_of sys p.to) p.entry p.to Granted one → run sys o rest (next_post p.entry p.set p.ceiling p.below) ≡ Some (end_of b) → One sys o p b g
+  Goes : (one rest : List Told) → g ≡ one ++ rest → PostsOne (ring_of sys p.to) p.entry p.to Granted one → stage_after sys o rest (next_post p.entry p.set p.ceiling p.below) ≡ Some (end_of b) → One sys o p b g
   Ends : b ≡ false → PostsOne (ring_of sys p.to) p.entry p.to AtQueue g → One sys o p b g
 
 tail-one : (sys : System) (o : ℕ) (p : Posting) (b : Bool) (head : List Told) (e : Entry) (t : Told) (ts : List Told) (x : PublishStage)
-    → MakesAgain p.entry head e → PostRecord sys p e t x → run sys o ts x ≡ Some (end_of b) → One sys o p b (head ++ (t ∷ ts))
+    → MakesAgain p.entry head e → PostRecord sys p e t x → stage_after sys o ts x ≡ Some (end_of b) → One sys o p b (head ++ (t ∷ ts))
 unfolding PostsOne Posts had_room
 tail-one sys o p b head e t ts x again (OfPost f l m t_is room x_is) h =
     Goes (head ++ (plain (item.Post p.to f l m e) ∷ [])) ts (ap (λ u. head ++ (u ∷ ts)) t_is ∙ sym (append_assoc head (plain (item.Post p.to f l m e) ∷ []) ts))
-    (head, e, again, (f, l, m, refl, room)) (subst (λ y. run sys o ts y ≡ Some (end_of b)) x_is h)
+    (head, e, again, (f, l, m, refl, room)) (subst (λ y. stage_after sys o ts y ≡ Some (end_of b)) x_is h)
 tail-one sys o p b head e t ts x again (OfNoEntry f l m t_is x_is) h =
-    let end = cut-run sys o ts b (subst (λ y. run sys o ts y ≡ Some (end_of b)) x_is h) in
+    let end = cut-run sys o ts b (subst (λ y. stage_after sys o ts y ≡ Some (end_of b)) x_is h) in
     let none : ts ≡ [] = end.1 in
     let all : t ∷ ts ≡ plain (item.NoEntry p.to f l m) ∷ [] = cc in
     Ends end.0 (head, e, again, (f, l, m, ap (λ us. head ++ us) all))
@@ -139,9 +139,9 @@ posts-other sys p ceiling.Stays body known low = refl
 posts-other sys p ceiling.Rises body known low = absurd (cc)
 posts-other sys p (ceiling.Rose former) body known low = refl
 
-referred-sound : (sys : System) (o : ℕ) (p : Posting) (b : Bool) (r : ℕ) (g : List Told) → (p.entry.pool == 0) ≡ false → run sys o g (stage.Referred p r) ≡ Some (end_of b)
+referred-sound : (sys : System) (o : ℕ) (p : Posting) (b : Bool) (r : ℕ) (g : List Told) → (p.entry.pool == 0) ≡ false → stage_after sys o g (stage.Referred p r) ≡ Some (end_of b)
     → One sys o p b (plain (item.Inc p.entry.pool p.entry.block r) ∷ g)
-unfolding run next
+unfolding stage_after publish_next
 referred-sound sys o p true r [] is h = absurd (cc)
 referred-sound sys o p false r [] is h = absurd (cc)
 referred-sound sys o p b r (t ∷ ts) is h =
@@ -153,26 +153,26 @@ referred-sound sys o p b r (t ∷ ts) is h =
     positive : (k : ℕ) → (k == 0) ≡ false → nat_lt 0 k ≡ true
     positive k h = grind (arith, nat_tests)
 
-one-sound : (sys : System) (o : ℕ) (p : Posting) (b : Bool) (g : List Told) → is_rising p.ceiling ≡ false → run sys o g (stage.Posts p) ≡ Some (end_of b) → One sys o p b g
-unfolding run next
+one-sound : (sys : System) (o : ℕ) (p : Posting) (b : Bool) (g : List Told) → is_rising p.ceiling ≡ false → stage_after sys o g (stage.Posts p) ≡ Some (end_of b) → One sys o p b g
+unfolding stage_after publish_next
 one-sound sys o p true [] low h = absurd (cc)
 one-sound sys o p false [] low h = absurd (cc)
 one-sound sys o p b (t ∷ ts) low h =
     let step = run-step sys o t ts (stage.Posts p) (end_of b) h in
     by step.0 (p.entry.pool == 0) refl (sym (posts-other sys p p.ceiling t.body t.known low) ∙ step.1) step.2
   where
-    by : (x : PublishStage) (fixed : Bool) → (p.entry.pool == 0) ≡ fixed → cond fixed (post_next sys p p.entry t.body t.known) (reference_next p t.body t.known) ≡ Some x → run sys o ts x ≡ Some (end_of b)
+    by : (x : PublishStage) (fixed : Bool) → (p.entry.pool == 0) ≡ fixed → cond fixed (post_next sys p p.entry t.body t.known) (reference_next p t.body t.known) ≡ Some x → stage_after sys o ts x ≡ Some (end_of b)
         → One sys o p b (t ∷ ts)
     by x true is k behind = tail-one sys o p b [] p.entry t ts x (again-static p.entry (eqb-true p.entry.pool 0 is)) (post-is sys p p.entry t x k) behind
     by x false is k behind =
         let ref = reference-is p t x k in
         let first : t ≡ plain (item.Inc p.entry.pool p.entry.block ref.0) = ref.1 in
-        subst (λ u. One sys o p b (u ∷ ts)) (sym first) (referred-sound sys o p b ref.0 ts is (subst (λ y. run sys o ts y ≡ Some (end_of b)) ref.2 behind))
+        subst (λ u. One sys o p b (u ∷ ts)) (sym first) (referred-sound sys o p b ref.0 ts is (subst (λ y. stage_after sys o ts y ≡ Some (end_of b)) ref.2 behind))
 
 -- a post to the highest member, and those to the others
 pub step-sound : (sys : System) (o : ℕ) (e : Entry) (set : ℕ) (c : Ceiling) (k : ℕ) (b : Bool) (g : List Told) → is_rising c ≡ false
-    → ((rest : List Told) → run sys o rest (next_post e set c k) ≡ Some (end_of b) → Finish sys e c (members_below k set) b rest)
-    → run sys o g (stage.Posts (posting e set c k)) ≡ Some (end_of b) → Finish sys e c (suc k ∷ members_below k set) b g
+    → ((rest : List Told) → stage_after sys o rest (next_post e set c k) ≡ Some (end_of b) → Finish sys e c (members_below k set) b rest)
+    → stage_after sys o g (stage.Posts (posting e set c k)) ≡ Some (end_of b) → Finish sys e c (suc k ∷ members_below k set) b g
 unfolding PostsToAll PostsUpTo
 step-sound sys o e set c k b g low behind h = by (one-sound sys o (posting e set c k) b g low h)
   where
@@ -187,12 +187,12 @@ step-sound sys o e set c k b g low behind h = by (one-sound sys o (posting e set
 
 -- the posts to the members up to n
 pub posts-sound : (sys : System) (o : ℕ) (e : Entry) (set : ℕ) (c : Ceiling) (n : ℕ) (b : Bool) (g : List Told) → is_rising c ≡ false
-    → run sys o g (next_post e set c n) ≡ Some (end_of b) → Finish sys e c (members_below n set) b g
+    → stage_after sys o g (next_post e set c n) ≡ Some (end_of b) → Finish sys e c (members_below n set) b g
 unfolding next_post members_below PostsToAll
 posts-sound sys o e set c zero b g low h = let end = ending-sound sys o e c g b h in Finishes [] end.1 end.0 refl end.2 end.3
 posts-sound sys o e set c (suc n) b g low h = by ((set / 2 ^ n) % 2 == 1) (λ rest. posts-sound sys o e set c n b rest low) h
   where
-    by : (bit : Bool) → ((rest : List Told) → run sys o rest (next_post e set c n) ≡ Some (end_of b) → Finish sys e c (members_below n set) b rest)
-        → run sys o g (cond bit (stage.Posts (posting e set c n)) (next_post e set c n)) ≡ Some (end_of b) → Finish sys e c (cond bit (suc n ∷ members_below n set) (members_below n set)) b g
+    by : (bit : Bool) → ((rest : List Told) → stage_after sys o rest (next_post e set c n) ≡ Some (end_of b) → Finish sys e c (members_below n set) b rest)
+        → stage_after sys o g (cond bit (stage.Posts (posting e set c n)) (next_post e set c n)) ≡ Some (end_of b) → Finish sys e c (cond bit (suc n ∷ members_below n set) (members_below n set)) b g
     by true behind h = step-sound sys o e set c n b g low behind h
     by false behind h = behind g h

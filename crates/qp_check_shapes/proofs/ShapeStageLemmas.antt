@@ -18,7 +18,7 @@ use Rattle.qp_check_shapes.specs.declared.shape_stage.Ceiling.TheVariants as cei
 use Rattle.qp_check_shapes.specs.declared.shape_stage.Posting.{Posting}
 use Rattle.qp_check_shapes.specs.declared.shape_stage.PublishStage.{PublishStage}
 use Rattle.qp_check_shapes.specs.declared.shape_stage.PublishStage.TheVariants as stage
-use Rattle.qp_check_shapes.specs.ShapePublication.{stage_if, released, next_post, published, start_first, given_next, made_next, post_next, reference_next, lock_next, raised_next, left_next, posted_next, dropped_next, next, run}
+use Rattle.qp_check_shapes.specs.ShapePublication.{stage_if, publication_released, next_post, published, start_first, given_next, made_next, post_next, reference_next, lock_next, raised_next, left_next, posted_next, dropped_next, publish_next, stage_after}
 use Rattle.qp_model.proofs.RecordLemmas.{same_entry-is, told-is}
 
 -- a test that is passed, and the stage behind it
@@ -27,18 +27,18 @@ stage-passed true s x h = (refl, cc)
 stage-passed false s x h = absurd (none-some _ h)
 
 -- the first of more records
-pub run-step : (sys : System) (o : ℕ) (t : Told) (ts : List Told) (s end : PublishStage) → run sys o (t ∷ ts) s ≡ Some end
-    → (x : PublishStage) × (next sys o s t.body t.known ≡ Some x) × (run sys o ts x ≡ Some end)
-unfolding run
-run-step sys o t ts s end h = by (next sys o s t.body t.known) refl h
+pub run-step : (sys : System) (o : ℕ) (t : Told) (ts : List Told) (s end : PublishStage) → stage_after sys o (t ∷ ts) s ≡ Some end
+    → (x : PublishStage) × (publish_next sys o s t.body t.known ≡ Some x) × (stage_after sys o ts x ≡ Some end)
+unfolding stage_after
+run-step sys o t ts s end h = by (publish_next sys o s t.body t.known) refl h
   where
-    by : (r : Option PublishStage) → next sys o s t.body t.known ≡ r → option_and_then (λ x. run sys o ts x) r ≡ Some end
-        → (x : PublishStage) × (next sys o s t.body t.known ≡ Some x) × (run sys o ts x ≡ Some end)
+    by : (r : Option PublishStage) → publish_next sys o s t.body t.known ≡ r → option_and_then (λ x. stage_after sys o ts x) r ≡ Some end
+        → (x : PublishStage) × (publish_next sys o s t.body t.known ≡ Some x) × (stage_after sys o ts x ≡ Some end)
     by None is h = absurd (cc)
     by (Some x) is h = (x, is, h)
 
-pub step-run : (sys : System) (o : ℕ) (t : Told) (ts : List Told) (s x : PublishStage) (r : Option PublishStage) → next sys o s t.body t.known ≡ Some x → run sys o ts x ≡ r → run sys o (t ∷ ts) s ≡ r
-unfolding run
+pub step-run : (sys : System) (o : ℕ) (t : Told) (ts : List Told) (s x : PublishStage) (r : Option PublishStage) → publish_next sys o s t.body t.known ≡ Some x → stage_after sys o ts x ≡ r → stage_after sys o (t ∷ ts) s ≡ r
+unfolding stage_after
 step-run sys o t ts s x r is h = rw is h
 
 pub given-is : (p b sig : ℕ) (t : Told) (x : PublishStage) → given_next p b sig t.body t.known ≡ Some x → (r : ℕ) × (t ≡ plain (item.Inc p b r)) × (x ≡ stage.Made (entry p b r) sig)
@@ -66,12 +66,12 @@ made-is o e sig t x h = by t.body t.known refl refl h
         (n, set, cc, test.1)
     by body known is_body is_known h = absurd (none-some _ h)
 
-pub raised-is : (e : Entry) (former : ℕ) (t : Told) (x : PublishStage) → raised_next e former t.body t.known ≡ Some x → (t ≡ plain (item.Unlock former)) × (x ≡ released e)
+pub raised-is : (e : Entry) (former : ℕ) (t : Told) (x : PublishStage) → raised_next e former t.body t.known ≡ Some x → (t ≡ plain (item.Unlock former)) × (x ≡ publication_released e)
 raised-is e former t x h = by t.body t.known refl refl h
   where
-    by : (body : Body) (known : Known) → t.body ≡ body → t.known ≡ known → raised_next e former body known ≡ Some x → (t ≡ plain (item.Unlock former)) × (x ≡ released e)
+    by : (body : Body) (known : Known) → t.body ≡ body → t.known ≡ known → raised_next e former body known ≡ Some x → (t ≡ plain (item.Unlock former)) × (x ≡ publication_released e)
     by (item.Unlock c) Nothing is_body is_known h =
-        let test = stage-passed (c == former) (released e) x h in
+        let test = stage-passed (c == former) (publication_released e) x h in
         let e1 : c ≡ former = eqb-true c former test.0 in
         let whole : t ≡ plain (item.Unlock c) = told-is t _ _ is_body is_known in
         (cc, test.1)

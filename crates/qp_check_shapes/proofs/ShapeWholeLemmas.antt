@@ -15,7 +15,7 @@ use Rattle.qp_model.specs.Parts.{is_static, sizes_of}
 use Rattle.qp_model.specs.Sites.{ring_of}
 use Rattle.qp_model.specs.Shapes.{Fits, FitsAny, Drops, MakesBlock, MakesAgain, MakesAgainNow, PostsNew, PostsNewFront, Forwards, Defers, Recalls, Flushes, Subscribes, Unsubscribes, Arms, Rearms, Disarms}
 use Rattle.qp_model.proofs.LineLemmas.{same_number, same_entry-refl}
-use Rattle.qp_check_shapes.specs.ShapeUnit.{is_single, IsUnit, SaysValue, MakesCall, FlushesOne, is_static_entry, is_static_now, works_on_static, some_static, behind_again, behind_entry, behind_lifo, behind_recall, plain_first, given_first, behind_unit}
+use Rattle.qp_check_shapes.specs.ShapeUnit.{is_unit_call, IsUnit, SaysValue, MakesCall, FlushesOne, is_static_entry, is_static_now, works_on_static, some_static, behind_again, behind_entry, behind_lifo, behind_recall, plain_first, given_first, behind_unit}
 use Rattle.qp_check_shapes.proofs.ShapeReleaseLemmas.{release-whole}
 use Rattle.qp_check_shapes.proofs.ShapePostLemmas.{Posted, posts-posted, entry-static, new-cases, no-block, again-cases, drops-none, front-is, IsPosted, IsRefused}
 use Rattle.qp_check_shapes.proofs.ShapePartLemmas.{static-some, first-goes}
@@ -219,7 +219,7 @@ disarm-whole sys o now t Refused g rest h calm = rw h.1 refl
 disarm-whole sys o now t _ g rest h calm = absurd h
 
 call-whole : (sys : System) (o : ℕ) (now : Option Entry) (x : Call) (answer : Answer) (g rest : List Told)
-    → is_single x ≡ true → FitsAny sys o now x answer g → is_assertion answer ≡ false → behind_unit sys o now (g ++ rest) ≡ Some rest
+    → is_unit_call x ≡ true → FitsAny sys o now x answer g → is_assertion answer ≡ false → behind_unit sys o now (g ++ rest) ≡ Some rest
 unfolding FitsAny Fits
 call-whole sys o now (call.Post to sig pars margin reserve) answer g rest single h calm = post-whole sys o now to sig pars margin reserve answer g rest h calm
 call-whole sys o now (call.Lifo sig pars reserve) answer g rest single h calm = post_front-whole sys o now sig pars reserve answer g rest h calm

@@ -34,8 +34,8 @@ abbrev pub is_unbegun : Cut → List Told → Bool
 is_unbegun Whole told = false
 is_unbegun cut told = length told == 0
 
-abbrev pub kinds : System → ℕ → Cut → Kinds
-kinds sys o cut = record {
+abbrev pub group_kinds : System → ℕ → Cut → Kinds
+group_kinds sys o cut = record {
   act = IsWhole sys o;
   last = LastOf sys o cut;
   first = LastOf sys o (start_cut cut) None;

@@ -15,9 +15,9 @@ abbrev pub taken_first : Body → Known → Option Entry
 taken_first (item.Took f l m e) known = Some e
 taken_first body known = None
 
-abbrev pub taken_entry : List Told → Option Entry
-taken_entry [] = None
-taken_entry (t ∷ rest) = taken_first t.body t.known
+abbrev pub entry_taken_first : List Told → Option Entry
+entry_taken_first [] = None
+entry_taken_first (t ∷ rest) = taken_first t.body t.known
 
 -- which row handles the event, or that none does
 abbrev pub tells_head : Body → Known → Bool
@@ -56,9 +56,9 @@ abbrev pub spent_first : Body → Known → List Told → Bool
 spent_first item.Spent Nothing rest = length rest == 0
 spent_first body known rest = false
 
-abbrev pub is_spent : List Told → Bool
-is_spent [] = true
-is_spent (t ∷ rest) = spent_first t.body t.known rest
+abbrev pub is_spent_list : List Told → Bool
+is_spent_list [] = true
+is_spent_list (t ∷ rest) = spent_first t.body t.known rest
 
 -- a front of the release of an entry
 abbrev pub drop_front : Entry → Body → Known → List Told → Bool

@@ -22,9 +22,9 @@ pub record Kinds : Type 1 where
   pub anywhere : Bool
 
 -- groups, `done`, and more
-unfoldable pub Closes : (List Told → Type 0) → (List Told → Type 0) → List Told → Type 0
+unfoldable pub GroupsThenDone : (List Told → Type 0) → (List Told → Type 0) → List Told → Type 0
 unfolding Sequence
-Closes W M bs = (g more : List Told) × Sequence (IsElement W) g × M more × (bs ≡ g ++ (plain item.Done ∷ more))
+GroupsThenDone W M bs = (g more : List Told) × Sequence (IsElement W) g × M more × (bs ≡ g ++ (plain item.Done ∷ more))
 
 -- a queue found empty, or looked at in the place of a take
 abbrev pub looks_at_queue : Body → Bool
@@ -34,7 +34,7 @@ looks_at_queue _ = false
 
 -- a step, or such a look
 pub data IsTurnOf (act : Option Entry → List Told → Type 0) (release : Entry → List Told → Type 0) (nils : Bool) (bs : List Told) : Type 0 where
-  Steps : (e : Entry) (head body : List Told) → StepHead e head → Closes (act (Some e)) (release e) body → bs ≡ head ++ body → IsTurnOf act release nils bs
+  Steps : (e : Entry) (head body : List Told) → StepHead e head → GroupsThenDone (act (Some e)) (release e) body → bs ≡ head ++ body → IsTurnOf act release nils bs
   Finds : (b : Body) → IsTrue (looks_at_queue b) → IsTrue nils → bs ≡ plain b ∷ [] → IsTurnOf act release nils bs
 
 -- a front of a release
@@ -47,7 +47,7 @@ pub data IsTailOf (k : Kinds) (bs : List Told) : Type 0 where
   IsSpent : bs ≡ plain item.Spent ∷ [] → IsTailOf k bs
   BreaksOffIn : (e : Entry) (head body : List Told) → IsTrue k.cuts → StepHead e head → Breaks (k.act (Some e)) (k.last (Some e)) body → bs ≡ head ++ body → IsTailOf k bs
   TakesOnly : (f l m : ℕ) (e : Entry) (known : Known) → IsTrue k.anywhere → bs ≡ takes f l m e known ∷ [] → IsTailOf k bs
-  ReleasesOnly : (e : Entry) (head body : List Told) → IsTrue k.anywhere → StepHead e head → Closes (k.act (Some e)) (FrontOf (k.release e)) body → bs ≡ head ++ body
+  ReleasesOnly : (e : Entry) (head body : List Told) → IsTrue k.anywhere → StepHead e head → GroupsThenDone (k.act (Some e)) (FrontOf (k.release e)) body → bs ≡ head ++ body
       → IsTailOf k bs
 
 -- turns, and a tail
@@ -57,15 +57,15 @@ TurnsOf k nils bs = (turns tail : List Told) × Sequence (IsTurnOf k.act k.relea
 
 -- a start and then turns, or a start that breaks off
 pub data IsObjectList (k : Kinds) (nils : Bool) (bs : List Told) : Type 0 where
-  Starts : (body : List Told) → Closes (k.act None) (TurnsOf k nils) body → bs ≡ plain item.Begin ∷ body → IsObjectList k nils bs
+  Starts : (body : List Told) → GroupsThenDone (k.act None) (TurnsOf k nils) body → bs ≡ plain item.Begin ∷ body → IsObjectList k nils bs
   BreaksStart : (body : List Told) → IsTrue k.cuts → Breaks (k.act None) k.first body → bs ≡ plain item.Begin ∷ body → IsObjectList k nils bs
 
 -- what may stand behind a step's first two records, where it isn't whole
 pub data IsStepEnd (k : Kinds) (e : Entry) (body : List Told) : Type 0 where
   BreaksIt : IsTrue k.cuts → Breaks (k.act (Some e)) (k.last (Some e)) body → IsStepEnd k e body
-  ReleasesIt : IsTrue k.anywhere → Closes (k.act (Some e)) (FrontOf (k.release e)) body → IsStepEnd k e body
+  ReleasesIt : IsTrue k.anywhere → GroupsThenDone (k.act (Some e)) (FrontOf (k.release e)) body → IsStepEnd k e body
 
 -- what may stand behind a start's `begin`
 pub data IsStartEnd (k : Kinds) (nils : Bool) (body : List Told) : Type 0 where
-  GoesOn : Closes (k.act None) (TurnsOf k nils) body → IsStartEnd k nils body
+  GoesOn : GroupsThenDone (k.act None) (TurnsOf k nils) body → IsStartEnd k nils body
   BreaksFirst : IsTrue k.cuts → Breaks (k.act None) k.first body → IsStartEnd k nils body

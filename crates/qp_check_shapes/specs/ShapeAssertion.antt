@@ -10,11 +10,11 @@ use Rattle.qp_model.specs.Calls.{Call, Answer, is_assertion}
 use Rattle.qp_model.specs.Parts.{is_static, sizes_of}
 use Rattle.qp_model.specs.Shapes.{FitsAny}
 use Rattle.qp_check_shapes.specs.ShapeRelease.{when}
-use Rattle.qp_check_shapes.specs.ShapeUnit.{is_single, is_used, goes_to, some_static, works_on, works_on_static}
+use Rattle.qp_check_shapes.specs.ShapeUnit.{is_unit_call, is_used, goes_to, some_static, works_on, works_on_static}
 
 -- the records of a single call that ends in its assertion
 pub data IsAsserted (sys : System) (o : ℕ) (now : Option Entry) (g : List Told) : Type 0 where
-  Asserts : (x : Call) (answer : Answer) → is_single x ≡ true → FitsAny sys o now x answer g → IsTrue (is_assertion answer) → IsAsserted sys o now g
+  Asserts : (x : Call) (answer : Answer) → is_unit_call x ≡ true → FitsAny sys o now x answer g → IsTrue (is_assertion answer) → IsAsserted sys o now g
 
 -- behind a post that finds no entry
 abbrev pub no_entry_first : Body → Known → List Told → Option (List Told)

@@ -13,12 +13,12 @@ use Rattle.qp_model.specs.Parts.{is_static, sizes_of}
 use Rattle.qp_check_shapes.specs.ShapeRelease.{behind_release}
 use Rattle.qp_check_shapes.specs.ShapeUnit.{goes_to, works_on, had_room, again_first, new_first, plain_first, given_first, unit_first}
 use Rattle.qp_check_shapes.specs.ShapeAssertion.{no_entry_first, no_lifo_first, cut_first, plain_cut, given_cut, assertion_first}
-use Rattle.qp_check_shapes.specs.ShapePublication.{released, run, is_nothing_behind}
+use Rattle.qp_check_shapes.specs.ShapePublication.{publication_released, stage_after, is_nothing_behind}
 
 -- a front of the release of an entry
 unfoldable pub release_front : System → ℕ → Entry → List Told → Bool
-unfolding run
-release_front sys o e told = is_some (run sys o told (released e))
+unfolding stage_after
+release_front sys o e told = is_some (stage_after sys o told (publication_released e))
 
 -- a front of what a post of a new event's entry leaves
 unfoldable pub entry_front_first : System → ℕ → Entry → Body → Known → List Told → Bool

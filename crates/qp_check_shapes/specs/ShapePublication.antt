@@ -22,13 +22,13 @@ abbrev pub stage_if : Bool → PublishStage → Option PublishStage
 stage_if passed s = if passed then Some s else None
 
 -- the publication's own reference is released last; a static event has none
-abbrev pub released : Entry → PublishStage
-released e = if e.pool == 0 then stage.Whole else stage.Posted e
+abbrev pub publication_released : Entry → PublishStage
+publication_released e = if e.pool == 0 then stage.Whole else stage.Posted e
 
 -- a ceiling that rose is restored behind the last post
 abbrev pub after_posts : Entry → Ceiling → PublishStage
 after_posts e (ceiling.Rose former) = stage.Raised e former
-after_posts e c = released e
+after_posts e c = publication_released e
 
 -- the post to the highest member up to n is next
 unfoldable pub next_post : Entry → ℕ → Ceiling → ℕ → PublishStage
@@ -80,7 +80,7 @@ posts_next sys p ceiling.Rises body known = lock_next p body known
 posts_next sys p c body known = if p.entry.pool == 0 then post_next sys p p.entry body known else reference_next p body known
 
 abbrev pub raised_next : Entry → ℕ → Body → Known → Option PublishStage
-raised_next e former (item.Unlock c) Nothing = stage_if (c == former) (released e)
+raised_next e former (item.Unlock c) Nothing = stage_if (c == former) (publication_released e)
 raised_next e former body known = None
 
 abbrev pub left_next : ℕ → ℕ → ℕ → ℕ → PublishStage
@@ -96,24 +96,24 @@ dropped_next p b d (item.Back q n c to) Nothing = stage_if ((q == p) && (c == b)
 dropped_next p b d body known = None
 
 -- the stage behind a record, where it can stand there
-unfoldable pub next : System → ℕ → PublishStage → Body → Known → Option PublishStage
+unfoldable pub publish_next : System → ℕ → PublishStage → Body → Known → Option PublishStage
 unfolding start_first made_next posts_next post_next
-next sys o stage.Start body known = start_first sys o body known
-next sys o (stage.Given p b sig) body known = given_next p b sig body known
-next sys o (stage.Made e sig) body known = made_next o e sig body known
-next sys o (stage.Posts p) body known = posts_next sys p p.ceiling body known
-next sys o (stage.Referred p r) body known = post_next sys p (entry p.entry.pool p.entry.block r) body known
-next sys o (stage.Raised e former) body known = raised_next e former body known
-next sys o (stage.Posted e) body known = posted_next e body known
-next sys o (stage.Dropped p b d) body known = dropped_next p b d body known
-next sys o stage.Whole body known = None
-next sys o stage.Cut body known = None
+publish_next sys o stage.Start body known = start_first sys o body known
+publish_next sys o (stage.Given p b sig) body known = given_next p b sig body known
+publish_next sys o (stage.Made e sig) body known = made_next o e sig body known
+publish_next sys o (stage.Posts p) body known = posts_next sys p p.ceiling body known
+publish_next sys o (stage.Referred p r) body known = post_next sys p (entry p.entry.pool p.entry.block r) body known
+publish_next sys o (stage.Raised e former) body known = raised_next e former body known
+publish_next sys o (stage.Posted e) body known = posted_next e body known
+publish_next sys o (stage.Dropped p b d) body known = dropped_next p b d body known
+publish_next sys o stage.Whole body known = None
+publish_next sys o stage.Cut body known = None
 
 -- the stage behind all these records
-unfoldable pub run : System → ℕ → List Told → PublishStage → Option PublishStage
-unfolding next
-run sys o [] s = Some s
-run sys o (t ∷ ts) s = option_and_then (λ x. run sys o ts x) (next sys o s t.body t.known)
+unfoldable pub stage_after : System → ℕ → List Told → PublishStage → Option PublishStage
+unfolding publish_next
+stage_after sys o [] s = Some s
+stage_after sys o (t ∷ ts) s = option_and_then (λ x. stage_after sys o ts x) (publish_next sys o s t.body t.known)
 
 abbrev pub is_whole_publication : PublishStage → Bool
 is_whole_publication stage.Whole = true
@@ -121,9 +121,9 @@ is_whole_publication s = false
 
 -- what stands behind the records that make the publication whole
 unfoldable pub behind_stage : System → ℕ → List Told → PublishStage → Option (List Told)
-unfolding next
+unfolding publish_next
 behind_stage sys o [] s = if is_whole_publication s then Some [] else None
-behind_stage sys o (t ∷ ts) s = if is_whole_publication s then Some (t ∷ ts) else option_and_then (λ x. behind_stage sys o ts x) (next sys o s t.body t.known)
+behind_stage sys o (t ∷ ts) s = if is_whole_publication s then Some (t ∷ ts) else option_and_then (λ x. behind_stage sys o ts x) (publish_next sys o s t.body t.known)
 
 -- nothing stands behind
 abbrev pub is_nothing_behind : Option (List Told) → Bool

@@ -17,15 +17,15 @@ use Rattle.qp_model.specs.Shapes.{FitsAny, Flushes}
 use Rattle.qp_check_shapes.specs.ShapeRelease.{when, behind_release}
 
 -- no publication, whose posts are as many as its members, and no flush, whose entries are any number
-abbrev pub is_single : Call → Bool
-is_single (call.Publish sig pars reserve) = false
-is_single call.Flush = false
-is_single x = true
+abbrev pub is_unit_call : Call → Bool
+is_unit_call (call.Publish sig pars reserve) = false
+is_unit_call call.Flush = false
+is_unit_call x = true
 
 -- the records of a value said, of a single call that doesn't end in an assertion, or of one flushed entry
 pub data IsUnit (sys : System) (o : ℕ) (now : Option Entry) (g : List Told) : Type 0 where
   SaysValue : (value : ℕ) → g ≡ plain (item.Say value) ∷ [] → IsUnit sys o now g
-  MakesCall : (x : Call) (answer : Answer) → is_single x ≡ true → FitsAny sys o now x answer g → IsFalse (is_assertion answer) → IsUnit sys o now g
+  MakesCall : (x : Call) (answer : Answer) → is_unit_call x ≡ true → FitsAny sys o now x answer g → IsFalse (is_assertion answer) → IsUnit sys o now g
   FlushesOne : Flushes 1 g → IsUnit sys o now g
 
 -- the size at this place is at least so large, and larger than those before it

@@ -8,10 +8,10 @@ ghost use Rattle.qp_model.specs.Shapes.{Drops};
 ghost use Rattle.qp_model.specs.ObjectShape.{CutGroups, HasShape, nothing_after, asserts_last};
 ghost use Rattle.qp_model.specs.Ends.{is_assert};
 ghost use Rattle.qp_check_shapes.specs.ShapeAction.{IsWhole};
-ghost use Rattle.qp_check_shapes.specs.GroupsLast.{LastOf, kinds, start_cut, is_anywhere, is_cut, is_unbegun};
+ghost use Rattle.qp_check_shapes.specs.GroupsLast.{LastOf, group_kinds, start_cut, is_anywhere, is_cut, is_unbegun};
 ghost use Rattle.qp_check_shapes.specs.GroupsRead.{Breaks};
-ghost use Rattle.qp_check_shapes.specs.ObjectRead.{Closes, FrontOf, IsStepEnd, IsStartEnd, IsTailOf, IsObjectList};
-ghost use Rattle.qp_check_shapes.specs.ObjectFirst.{behind_begin, is_spent, drop_front, release_first};
+ghost use Rattle.qp_check_shapes.specs.ObjectRead.{GroupsThenDone, FrontOf, IsStepEnd, IsStartEnd, IsTailOf, IsObjectList};
+ghost use Rattle.qp_check_shapes.specs.ObjectFirst.{behind_begin, is_spent_list, drop_front, release_first};
 
 use crate::groups::{behind_done, behind_groups};
 use crate::groups_end::breaks_off;
@@ -80,7 +80,7 @@ fn is_release_front(e: Entry, told: &[Told]) -> bool
 
 /// Whether a step ends in a front of its entry's release.
 fn ends_in_release(scene: &Scene, e: Entry, told: &[Told]) -> bool
-    ensures { Decides result (Closes (IsWhole scene.now.sys.now scene.now.o (Some e)) (FrontOf (Drops e)) told.now) }
+    ensures { Decides result (GroupsThenDone (IsWhole scene.now.sys.now scene.now.o (Some e)) (FrontOf (Drops e)) told.now) }
 {
     match behind_done(behind_groups(scene, Some(e), told)) {
         Some(rest) => is_release_front(e, rest),
@@ -90,7 +90,7 @@ fn ends_in_release(scene: &Scene, e: Entry, told: &[Told]) -> bool
 
 /// Whether these may stand behind the first two records of a step that isn't whole.
 fn ends_step(scene: &Scene, e: Entry, cut: Cut, told: &[Told]) -> bool
-    ensures { Decides result (IsStepEnd (kinds scene.now.sys.now scene.now.o (as_cut cut)) e told.now) }
+    ensures { Decides result (IsStepEnd (group_kinds scene.now.sys.now scene.now.o (as_cut cut)) e told.now) }
 {
     if !is_cut(cut) {
         return false;
@@ -107,7 +107,7 @@ fn ends_step(scene: &Scene, e: Entry, cut: Cut, told: &[Told]) -> bool
 
 /// Whether these are nothing, or `spent` alone.
 fn is_spent(told: &[Told]) -> bool
-    ensures { result ≡ is_spent told.now }
+    ensures { result ≡ is_spent_list told.now }
 {
     match told.split_first() {
         Some((first, rest)) => match (&first.body, &first.known) {
@@ -127,7 +127,7 @@ fn is_taken_only(cut: Cut, told: &[Told]) -> bool
 
 /// Whether these may stand behind whole turns.
 fn is_tail(scene: &Scene, cut: Cut, told: &[Told]) -> bool
-    ensures { Decides result (IsTailOf (kinds scene.now.sys.now scene.now.o (as_cut cut)) told.now) }
+    ensures { Decides result (IsTailOf (group_kinds scene.now.sys.now scene.now.o (as_cut cut)) told.now) }
 {
     match taken_entry(told) {
         Some(e) => match behind_head(told) {
@@ -163,7 +163,7 @@ fn breaks_start(scene: &Scene, cut: Cut, told: &[Told]) -> bool
 
 /// Whether these may stand behind a start's `begin`.
 fn ends_start(scene: &Scene, nils: bool, cut: Cut, told: &[Told]) -> bool
-    ensures { Decides result (IsStartEnd (kinds scene.now.sys.now scene.now.o (as_cut cut)) nils told.now) }
+    ensures { Decides result (IsStartEnd (group_kinds scene.now.sys.now scene.now.o (as_cut cut)) nils told.now) }
 {
     match behind_done(behind_groups(scene, None, told)) {
         Some(rest) => is_tail(scene, cut, behind_turns(scene, nils, rest)),

@@ -6,8 +6,8 @@ ghost use Rattle.qp_model.specs.Shapes.{Drops};
 ghost use Rattle.qp_check_shapes.specs.ShapeRelease.{IsUnambiguous};
 ghost use Rattle.qp_check_shapes.specs.ShapeAction.{IsWhole};
 ghost use Rattle.qp_check_shapes.specs.GroupsRead.{ReadsAll};
-ghost use Rattle.qp_check_shapes.specs.ObjectRead.{Closes, IsTurnOf, looks_at_queue};
-ghost use Rattle.qp_check_shapes.specs.ObjectFirst.{taken_first, taken_entry, tells_head, behind_second, behind_head, behind_look};
+ghost use Rattle.qp_check_shapes.specs.ObjectRead.{GroupsThenDone, IsTurnOf, looks_at_queue};
+ghost use Rattle.qp_check_shapes.specs.ObjectFirst.{taken_first, entry_taken_first, tells_head, behind_second, behind_head, behind_look};
 
 use crate::groups::{behind_done, behind_groups};
 use crate::shape_release::behind_release;
@@ -18,7 +18,7 @@ use qp_model::{Body, Entry};
 
 /// The entry that a step takes, where a list begins with one.
 pub fn taken_entry(told: &[Told]) -> Option<Entry>
-    ensures { result ≡ taken_entry told.now }
+    ensures { result ≡ entry_taken_first told.now }
 {
     let first = told.first()?;
     match &first.body {
@@ -72,7 +72,7 @@ fn behind_look<'a>(nils: bool, told: &'a [Told]) -> Option<&'a [Told]>
 
 /// What stands behind the groups of a step, its `done`, and the release of the entry that it took.
 fn behind_body<'a>(scene: &Scene, e: Entry, told: &'a [Told]) -> Option<&'a [Told]>
-    ensures { IsUnambiguous (Closes (IsWhole scene.now.sys.now scene.now.o (Some e)) (Drops e)) told.now (option_map (λ x. x.now) result) }
+    ensures { IsUnambiguous (GroupsThenDone (IsWhole scene.now.sys.now scene.now.o (Some e)) (Drops e)) told.now (option_map (λ x. x.now) result) }
 {
     match behind_done(behind_groups(scene, Some(e), told)) {
         Some(rest) => behind_release(e, rest),

@@ -11,7 +11,7 @@ ghost use Rattle.qp_check_shapes.specs.ShapeUnit.{behind_unit};
 ghost use Rattle.qp_check_shapes.specs.ShapeAssertion.{behind_assertion};
 ghost use Rattle.qp_check_shapes.specs.ShapeAction.{IsWhole, IsCut, StopsInside};
 ghost use Rattle.qp_check_shapes.specs.declared.shape_stage.PublishStage.TheVariants as stage;
-ghost use Rattle.qp_check_shapes.specs.ShapePublication.{run, behind_stage, is_nothing_behind, is_cut_publication, else_behind};
+ghost use Rattle.qp_check_shapes.specs.ShapePublication.{stage_after, behind_stage, is_nothing_behind, is_cut_publication, else_behind};
 
 use crate::shape_assertion::assertion_first;
 use crate::shape_publication::{behind_stage, run};
@@ -58,7 +58,7 @@ fn is_cut(stage: Option<PublishStage>) -> bool
 
 fn asserts_first(scene: &Scene, now: Option<Entry>, told: &[Told]) -> bool
     ensures { result ≡ (is_nothing_behind (behind_assertion scene.now.sys.now scene.now.o now told.now) || is_cut_publication
-        (run scene.now.sys.now scene.now.o told.now stage.Start)) }
+        (stage_after scene.now.sys.now scene.now.o told.now stage.Start)) }
 {
     is_done(assertion_first(scene, now, told)) || is_cut(run(scene, PublishStage::Start, told))
 }
@@ -90,7 +90,7 @@ fn ends_in_post(told: &[Told]) -> bool
 }
 
 fn stops_first(scene: &Scene, told: &[Told]) -> bool
-    ensures { result ≡ (ends_in_post told.now && is_some (run scene.now.sys.now scene.now.o told.now stage.Start)) }
+    ensures { result ≡ (ends_in_post told.now && is_some (stage_after scene.now.sys.now scene.now.o told.now stage.Start)) }
 {
     ends_in_post(told) && run(scene, PublishStage::Start, told).is_some()
 }

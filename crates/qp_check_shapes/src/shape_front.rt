@@ -6,7 +6,7 @@ ghost use Rattle.qp_check_calls.specs.Decides.{Decides};
 ghost use Rattle.qp_check_shapes.specs.ShapeUnit.{behind_unit};
 ghost use Rattle.qp_check_shapes.specs.ShapeAction.{IsFront};
 ghost use Rattle.qp_check_shapes.specs.declared.shape_stage.PublishStage.TheVariants as stage;
-ghost use Rattle.qp_check_shapes.specs.ShapePublication.{run};
+ghost use Rattle.qp_check_shapes.specs.ShapePublication.{stage_after};
 ghost use Rattle.qp_check_shapes.specs.ShapeFront.{release_front, entry_front, again_front, new_front, lifo_front, reference_front, recall_front, plain_front, given_front, unit_front};
 
 use crate::shape_action::is_done;
@@ -170,7 +170,7 @@ fn unit_front(scene: &Scene, now: Option<Entry>, told: &[Told]) -> bool
 }
 
 fn begins(scene: &Scene, now: Option<Entry>, told: &[Told]) -> bool
-    ensures { result ≡ (is_some (run scene.now.sys.now scene.now.o told.now stage.Start) || unit_front scene.now.sys.now
+    ensures { result ≡ (is_some (stage_after scene.now.sys.now scene.now.o told.now stage.Start) || unit_front scene.now.sys.now
         scene.now.o now told.now) }
 {
     run(scene, PublishStage::Start, told).is_some() || unit_front(scene, now, told)

@@ -3,7 +3,7 @@
 ghost use Rattle.std.specs.Prelude.{◌≡◌, ◌&&◌};
 ghost use Rattle.std.specs.Option.{option_map};
 ghost use Rattle.qp_model.specs.Record.{entry};
-ghost use Rattle.qp_check_shapes.specs.ShapePublication.{stage_if, start_first, given_next, made_next, post_next, reference_next, lock_next, posts_next, raised_next, posted_next, dropped_next, next, run, behind_stage, is_whole_publication};
+ghost use Rattle.qp_check_shapes.specs.ShapePublication.{stage_if, start_first, given_next, made_next, post_next, reference_next, lock_next, posts_next, raised_next, posted_next, dropped_next, publish_next, stage_after, behind_stage, is_whole_publication};
 
 use crate::shape_pools::goes_to;
 use crate::shape_scene::Scene;
@@ -190,9 +190,9 @@ fn dropped_next(p: u64, b: u64, d: u64, t: &Told) -> Option<PublishStage>
 }
 
 /// The stage behind a record, where it can stand there.
-#[tactic(auto, unfolding(crate::specs::ShapePublication::next))]
+#[tactic(auto, unfolding(crate::specs::ShapePublication::publish_next))]
 fn next(scene: &Scene, stage: PublishStage, t: &Told) -> Option<PublishStage>
-    ensures { result ≡ next scene.now.sys.now scene.now.o stage t.now.body t.now.known }
+    ensures { result ≡ publish_next scene.now.sys.now scene.now.o stage t.now.body t.now.known }
 {
     match stage {
         PublishStage::Start => start_first(scene, t),
@@ -211,9 +211,9 @@ fn next(scene: &Scene, stage: PublishStage, t: &Told) -> Option<PublishStage>
 }
 
 /// The stage behind all records of a list, from a stage on.
-#[tactic(auto, unfolding(crate::specs::ShapePublication::run))]
+#[tactic(auto, unfolding(crate::specs::ShapePublication::stage_after))]
 pub fn run(scene: &Scene, stage: PublishStage, told: &[Told]) -> Option<PublishStage>
-    ensures { result ≡ run scene.now.sys.now scene.now.o told.now stage }
+    ensures { result ≡ stage_after scene.now.sys.now scene.now.o told.now stage }
 {
     let Some((first, rest)) = told.split_first() else {
         return Some(stage);

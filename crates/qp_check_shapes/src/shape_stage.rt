@@ -1,7 +1,7 @@
 //! What a publication waits for, record by record.
 
 ghost use Rattle.std.specs.Prelude.{◌≡◌, ◌/◌, ◌%◌, ◌^◌, ◌==◌};
-ghost use Rattle.qp_check_shapes.specs.ShapePublication.{released, after_posts, next_post, published};
+ghost use Rattle.qp_check_shapes.specs.ShapePublication.{publication_released, after_posts, next_post, published};
 
 use qp_model::Entry;
 
@@ -47,7 +47,7 @@ pub enum PublishStage {
 
 /// Where no post is left and the ceiling is as before.
 pub fn released(entry: Entry) -> PublishStage
-    ensures { result ≡ released entry }
+    ensures { result ≡ publication_released entry }
 {
     if entry.pool == 0 {
         PublishStage::Whole

@@ -9,7 +9,7 @@ use Rattle.qp_model.specs.Lists.{all_below}
 use Rattle.qp_model.specs.History.{Touch, Draws, Shows, Neither, touch, same_word, drawn_on, drawn_as, drawn_below, total, numbered, hist, is_numbered}
 use Rattle.qp_model.specs.WordOf.{number_before}
 use Rattle.qp_check_lanes.specs.Groups.{has_key, of_key, grouped_from, grouped, groups_joined}
-use Rattle.qp_check_words.specs.Marks.{word_use, touched, draws, draws_below, draw_count, drawn_number, drawn_key, by_number, is_single, numbers_hold, history_of}
+use Rattle.qp_check_words.specs.Marks.{word_use, touched, draws_number, draws_below, draw_count, drawn_number, drawn_key, by_number, has_one, numbers_hold, history_of}
 
 -- where all that pass p pass q, and r is p there
 pub filter_within : (p q r : Item → Bool) → ((i : Item) → q i ≡ true → r i ≡ p i) → ((i : Item) → q i ≡ false → p i ≡ false) → (xs : List Item) → filter r (filter q xs) ≡ filter p xs
@@ -32,7 +32,7 @@ list_all_within p q r same other (x ∷ xs) = go (q x) refl (list_all_within p q
 and-both : {a b c d : Bool} → a ≡ c → b ≡ d → (a && b) ≡ (c && d)
 and-both h k = rw (h, k) refl
 
-draws-on : (w : Word) (t : Touch) → word_use w t ≡ true → draws t ≡ drawn_on w t
+draws-on : (w : Word) (t : Touch) → word_use w t ≡ true → draws_number t ≡ drawn_on w t
 draws-on w (Draws v n) h = go (same_word v w) h
   where
     go : (b : Bool) → (b || false) ≡ true → true ≡ b
@@ -53,7 +53,7 @@ off-drawn w Neither h = refl
 pub total-touched : (w : Word) (items : List Item) → draw_count (touched w items) ≡ total w items
 unfolding draw_count touched total
 total-touched w items =
-    ap length (filter_within (λ i. drawn_on w (touch i)) (λ i. word_use w (touch i)) (λ i. draws (touch i)) (λ i. draws-on w (touch i)) (λ i. off-drawn w (touch i)) items)
+    ap length (filter_within (λ i. drawn_on w (touch i)) (λ i. word_use w (touch i)) (λ i. draws_number (touch i)) (λ i. draws-on w (touch i)) (λ i. off-drawn w (touch i)) items)
 
 before-is : (n k : ℕ) → n < 2 ^ 64 → has_key n (number_before k) ≡ (k == suc n)
 before-is n zero lt = grind (arith, nat_tests)
@@ -121,12 +121,12 @@ module _ (w : Word) (items : List Item) where
 
   -- each number of a word once
   module _ (test : ℕ → Bool) (tests : (n : ℕ) → test n ≡ (length (filter (λ i. drawn_as w n (touch i)) items) == 1)) where
-    once_from : (k n : ℕ) → k + n ≤ 2 ^ 64 → (all_below k test && list_all is_single (grouped_from drawn_key k n (touched w items))) ≡ all_below (k + n) test
+    once_from : (k n : ℕ) → k + n ≤ 2 ^ 64 → (all_below k test && list_all has_one (grouped_from drawn_key k n (touched w items))) ≡ all_below (k + n) test
     unfolding all_below grouped_from
     once_from k zero le = let e : k ≡ k + zero = omega arith in and-true (all_below k test) ∙ ap (λ n. all_below n test) e
     once_from k (suc n) le =
-        let later : (all_below (suc k) test && list_all is_single (grouped_from drawn_key (suc k) n (touched w items))) ≡ all_below (suc k + n) test = once_from (suc k) n (omega arith) in
-        let here : is_single (of_key drawn_key k (touched w items)) ≡ test k = ap is_single (of_number k (omega arith)) ∙ sym (tests k) in
+        let later : (all_below (suc k) test && list_all has_one (grouped_from drawn_key (suc k) n (touched w items))) ≡ all_below (suc k + n) test = once_from (suc k) n (omega arith) in
+        let here : has_one (of_key drawn_key k (touched w items)) ≡ test k = ap has_one (of_number k (omega arith)) ∙ sym (tests k) in
         let e : suc k + n ≡ k + suc n = omega arith in
         rw here (sym (and_assoc (all_below k test) (test k) _) ∙ later ∙ ap (λ n. all_below n test) e)
 

@@ -10,10 +10,10 @@ use Rattle.qp_check_words.specs.declared.marks.Mark.{Mark}
 use Rattle.qp_check_words.specs.declared.marks.Mark.TheVariants as mark
 use Rattle.qp_check_lanes.specs.Groups.{grouped, groups_joined}
 
-abbrev pub mark_in : Touch → Mark
-mark_in (Draws w n) = mark.Drawn n
-mark_in (Shows w n) = mark.Shown n
-mark_in Neither = mark.Unmarked
+abbrev pub mark_touched : Touch → Mark
+mark_touched (Draws w n) = mark.Drawn n
+mark_touched (Shows w n) = mark.Shown n
+mark_touched Neither = mark.Unmarked
 
 -- the number of a mark, 0 where there is none
 abbrev pub mark_number : Touch → ℕ
@@ -22,9 +22,9 @@ mark_number (Shows w n) = n
 mark_number Neither = 0
 
 -- the record draws a number
-abbrev pub draws : Touch → Bool
-draws (Draws w n) = true
-draws _ = false
+abbrev pub draws_number : Touch → Bool
+draws_number (Draws w n) = true
+draws_number _ = false
 
 -- the record draws a number of w or shows w
 abbrev pub word_use : Word → Touch → Bool
@@ -52,7 +52,7 @@ shown_key i = shown_number (touch i)
 
 -- how many of these records draw a number
 unfoldable pub draw_count : List Item → ℕ
-draw_count items = length (filter (λ i. draws (touch i)) items)
+draw_count items = length (filter (λ i. draws_number (touch i)) items)
 
 -- where it draws a number, it is one below n
 abbrev pub draws_below : ℕ → Touch → Bool
@@ -64,13 +64,13 @@ unfoldable pub by_number : List Item → List (List Item)
 unfolding draw_count grouped
 by_number items = grouped drawn_key (draw_count items) items
 
-abbrev pub is_single : List Item → Bool
-is_single g = length g == 1
+abbrev pub has_one : List Item → Bool
+has_one g = length g == 1
 
 -- of records on one word: their numbers are 0, 1 and so on, each drawn once
 unfoldable pub numbers_hold : List Item → Bool
 unfolding by_number draw_count
-numbers_hold items = list_all (λ i. draws_below (draw_count items) (touch i)) items && list_all is_single (by_number items)
+numbers_hold items = list_all (λ i. draws_below (draw_count items) (touch i)) items && list_all has_one (by_number items)
 
 -- of records on one word: those that draw its numbers, in their order
 unfoldable pub history_of : List Item → List Item

@@ -5,7 +5,7 @@ ghost use Rattle.std.specs.List.{list_all};
 ghost use Rattle.qp_model.specs.History.{touch};
 ghost use Rattle.qp_model.specs.Record.{item_of};
 ghost use Rattle.qp_check_lanes.specs.Groups.{groups_joined};
-ghost use Rattle.qp_check_words.specs.Marks.{by_number, draw_count, draws, draws_below, history_of, is_single, numbers_hold};
+ghost use Rattle.qp_check_words.specs.Marks.{by_number, draw_count, draws_number, draws_below, history_of, has_one, numbers_hold};
 
 use crate::marks::{DrawnNumber, Mark, mark_of};
 use qp_check_lanes::groups::{Group, Groups, grouped};
@@ -58,7 +58,7 @@ pub fn draw_count(touched: &Group) -> usize
 }
 
 fn is_drawn(r: &Rec) -> bool
-    ensures { result ≡ draws (touch (item_of r.now)) }
+    ensures { result ≡ draws_number (touch (item_of r.now)) }
 {
     match mark_of(r) {
         Mark::Drawn(_) => true,
@@ -88,7 +88,7 @@ fn is_below(r: &Rec, count: usize) -> bool
 }
 
 fn all_single(groups: &Groups) -> bool
-    ensures { result ≡ list_all is_single groups.now }
+    ensures { result ≡ list_all has_one groups.now }
 {
     for g in &groups.items {
         if g.items.len() != 1 {

@@ -4,7 +4,7 @@ ghost use Rattle.std.specs.Prelude.{◌≡◌};
 ghost use Rattle.qp_model.specs.Record.{item_of};
 ghost use Rattle.qp_model.specs.History.{touch};
 ghost use Rattle.qp_model.specs.WordOf.{number_before, fitting_number};
-ghost use Rattle.qp_check_words.specs.Marks.{drawn_key, mark_in, shown_key};
+ghost use Rattle.qp_check_words.specs.Marks.{drawn_key, mark_touched, shown_key};
 
 use qp_check_lanes::groups::Key;
 use qp_model::{Rec, Touched};
@@ -21,7 +21,7 @@ pub enum Mark {
 
 /// What the record does to its word.
 pub fn mark_of(r: &Rec) -> Mark
-    ensures { result ≡ mark_in (touch (item_of r.now)) }
+    ensures { result ≡ mark_touched (touch (item_of r.now)) }
 {
     match Touched::by(r) {
         Touched::Draws { mark, .. } => Mark::Drawn(mark),

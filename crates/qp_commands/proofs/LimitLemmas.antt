@@ -11,7 +11,7 @@ use Rattle.qp_commands.specs.declared.values.Output.{Output}
 use Rattle.qp_commands.specs.declared.values.Kind.{Kind}
 use Rattle.qp_commands.specs.declared.values.Form.{Form}
 use Rattle.qp_commands.specs.declared.values.Form.TheVariants.{Two}
-use Rattle.qp_commands.specs.WordTable.{Asked, CheckWords, asked_by, budget_in, check, command_in, decode_app, decode_in, decode_with, default_form, files_app, files_in, form_fit, form_in, form_under, found_in, generate_app, generate_in, generate_with, is_form_of, is_in_limits, kernel_in, kind_in, made_in, migrate_app, migrate_in, migrate_with, output_in, replay, run_app, run_in, run_with, within}
+use Rattle.qp_commands.specs.WordTable.{Asked, CheckWords, asked_by, budget_in, check, command_in, decode_app, decode_in, decode_with, default_form, files_app, files_in, form_fit, form_in, form_under, found_in, generate_app, generate_in, generate_with, is_form_of, is_in_limits, kernel_named, kind_named, made_in, migrate_app, migrate_in, migrate_with, output_in, replay, run_app, run_in, run_with, within}
 
 is_to : ℕ → ℕ → Bool
 is_to most n = nat_le 1 n && nat_le n most
@@ -119,9 +119,9 @@ asked-has : (word : Text) (words : List Text) → InLimits (asked_by word words)
 unfolding asked_by
 asked-has word words =
     if-has (bytes_eq word (codes "run")) _ _
-    (then-has run_in (λ rows. run-has (kernel_in (first_of (codes "kernel") rows)) _ (output_in (first_of (codes "out") rows)) (first_of (codes "form") rows) _ _ (budget-within (first_of (codes "budget") rows))) (found_in run_app words))
+    (then-has run_in (λ rows. run-has (kernel_named (first_of (codes "kernel") rows)) _ (output_in (first_of (codes "out") rows)) (first_of (codes "form") rows) _ _ (budget-within (first_of (codes "budget") rows))) (found_in run_app words))
     (if-has (bytes_eq word (codes "decode")) _ _ (then-has decode_in (λ rows. decode-has (first_of (codes "frames") rows)) (found_in decode_app words))
-    (if-has (bytes_eq word (codes "migrate")) _ _ (then-has migrate_in (λ rows. migrate-has (kind_in (first_of (codes "from") rows)) (form_in Two (first_of (codes "to") rows)) _) (found_in migrate_app words))
+    (if-has (bytes_eq word (codes "migrate")) _ _ (then-has migrate_in (λ rows. migrate-has (kind_named (first_of (codes "from") rows)) (form_in Two (first_of (codes "to") rows)) _) (found_in migrate_app words))
     (if-has (bytes_eq word (codes "check")) _ _ (check-has (option_and_then files_in (found_in (files_app (codes "check")) words)))
     (if-has (bytes_eq word (codes "replay")) _ _ (replay-has (option_and_then files_in (found_in (files_app (codes "replay")) words)))
     (if-has (bytes_eq word (codes "gen")) _ _ (then-has generate_in (λ rows. generate-has (made_in (first_of (codes "number") rows)) (made-within (first_of (codes "number") rows))) (found_in generate_app words)) none-has)))))

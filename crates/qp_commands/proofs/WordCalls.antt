@@ -20,8 +20,8 @@ use Rattle.qp_commands.specs.declared.values.Output.{Output}
 use Rattle.qp_commands.specs.declared.values.Output.TheVariants.{Whole, Summary}
 use Rattle.qp_commands.specs.declared.values.Kind.{Kind}
 use Rattle.qp_commands.specs.declared.values.Kind.TheVariants.{Journal, Frames}
-use Rattle.qp_commands.specs.WordLaws.{BudgetWords, CheckOfNames, CooperativeWords, DecodeOfName, EachBudget, GenerateOfNumber, MigrateInFull, MigrateOfName, RefusedCalls, ReplayOfNames, RunInFull, RunOfNames, is_name, word_of_form, word_of_kernel, word_of_kind, word_of_output}
-use Rattle.qp_commands.specs.WordTable.{asked_by, budget_in, check, check_words, command_in, decode_app, decode_in, decode_with, default_form, files_app, files_in, files_with, form_in, form_under, found_in, generate_app, generate_in, generate_with, is_form_of, kernel_in, kind_in, made_in, migrate_app, migrate_in, migrate_with, output_in, replay, run_app, run_in, run_with}
+use Rattle.qp_commands.specs.WordLaws.{BudgetWords, CheckOfNames, CooperativeWords, DecodeOfName, EachBudget, GenerateOfNumber, MigrateInFull, MigrateOfName, RefusedCalls, ReplayOfNames, RunInFull, RunOfNames, is_operand, word_of_form, word_of_kernel, word_of_kind, word_of_output}
+use Rattle.qp_commands.specs.WordTable.{asked_by, budget_in, check, check_words, command_in, decode_app, decode_in, decode_with, default_form, files_app, files_in, files_with, form_in, form_under, found_in, generate_app, generate_in, generate_with, is_form_of, kernel_named, kind_named, made_in, migrate_app, migrate_in, migrate_with, output_in, replay, run_app, run_in, run_with}
 use Rattle.qp_commands.proofs.WordNames.{found-walked, name-turn, name-walked, next_at, standing}
 
 -- ---- options, and then one name or two
@@ -38,14 +38,14 @@ walk_fault-append s names w (x ∷ xs) ys =
     ap (or_else (turn_fault s names w x)) (walk_fault-append s names (walked s.rules names w x) xs ys)
     ∙ sym (or_else-assoc (turn_fault s names w x) _ _)
 
-one_walked : (rules : List Rule) (options : List Text) (h : Held) (x : Text) → is_name x ≡ true
+one_walked : (rules : List Rule) (options : List Text) (h : Held) (x : Text) → is_operand x ≡ true
     → walk rules [] nothing_held options ≡ standing h 1
     → walk rules [] nothing_held (options ++ x ∷ []) ≡ next_at rules h 1 x
 one_walked rules options h x name stands =
     fold-append (walked rules []) (walk_from nothing_held) options (x ∷ [])
     ∙ (ap (λ (w : Walk). walked rules [] w x) stands ∙ name-walked rules h 1 x name)
 
-one_faults : (s : Shape) (options : List Text) (h : Held) (x : Text) → is_name x ≡ true
+one_faults : (s : Shape) (options : List Text) (h : Held) (x : Text) → is_operand x ≡ true
     → walk s.rules [] nothing_held options ≡ standing h 1 → walk_fault s [] (walk_from nothing_held) options ≡ []
     → step_fault s 1 h value ≡ []
     → walk_fault s [] (walk_from nothing_held) (options ++ x ∷ []) ≡ []
@@ -54,7 +54,7 @@ one_faults s options h x name stands none first =
     walk_fault-append s [] (walk_from nothing_held) options (x ∷ [])
     ∙ ap₂ or_else none (ap (λ (w : Walk). walk_fault s [] w (x ∷ [])) stands ∙ ap₂ or_else (name-turn s h 1 x name ∙ first) refl)
 
-two_walked : (rules : List Rule) (options : List Text) (h g : Held) (x y : Text) → is_name x ≡ true → is_name y ≡ true
+two_walked : (rules : List Rule) (options : List Text) (h g : Held) (x y : Text) → is_operand x ≡ true → is_operand y ≡ true
     → walk rules [] nothing_held options ≡ standing h 1 → next_at rules h 1 x ≡ standing g 2
     → walk rules [] nothing_held (options ++ x ∷ y ∷ []) ≡ next_at rules g 2 y
 two_walked rules options h g x y name_x name_y stands next =
@@ -62,7 +62,7 @@ two_walked rules options h g x y name_x name_y stands next =
     ∙ (ap (λ (w : Walk). walked rules [] (walked rules [] w x) y) stands
     ∙ (ap (λ (w : Walk). walked rules [] w y) (name-walked rules h 1 x name_x ∙ next) ∙ name-walked rules g 2 y name_y))
 
-two_faults : (s : Shape) (options : List Text) (h g : Held) (x y : Text) → is_name x ≡ true → is_name y ≡ true
+two_faults : (s : Shape) (options : List Text) (h g : Held) (x y : Text) → is_operand x ≡ true → is_operand y ≡ true
     → walk s.rules [] nothing_held options ≡ standing h 1 → walk_fault s [] (walk_from nothing_held) options ≡ []
     → next_at s.rules h 1 x ≡ standing g 2 → step_fault s 1 h value ≡ [] → step_fault s 2 g value ≡ []
     → walk_fault s [] (walk_from nothing_held) (options ++ x ∷ y ∷ []) ≡ []
@@ -74,14 +74,14 @@ two_faults s options h g x y name_x name_y stands none next first second =
     (ap (λ (w : Walk). walk_fault s [] w (y ∷ [])) (name-walked s.rules h 1 x name_x ∙ next)
     ∙ ap₂ or_else (name-turn s g 2 y name_y ∙ second) refl))
 
-three_walked : (rules : List Rule) (g k : Held) (x y z : Text) → is_name x ≡ true → is_name y ≡ true → is_name z ≡ true
+three_walked : (rules : List Rule) (g k : Held) (x y z : Text) → is_operand x ≡ true → is_operand y ≡ true → is_operand z ≡ true
     → next_at rules nothing_held 1 x ≡ standing g 2 → next_at rules g 2 y ≡ standing k 3
     → walk rules [] nothing_held (x ∷ y ∷ z ∷ []) ≡ next_at rules k 3 z
 three_walked rules g k x y z name_x name_y name_z first second =
     ap (λ (w : Walk). walked rules [] (walked rules [] w y) z) (name-walked rules nothing_held 1 x name_x ∙ first)
     ∙ (ap (λ (w : Walk). walked rules [] w z) (name-walked rules g 2 y name_y ∙ second) ∙ name-walked rules k 3 z name_z)
 
-three_faults : (s : Shape) (g k : Held) (x y z : Text) → is_name x ≡ true → is_name y ≡ true → is_name z ≡ true
+three_faults : (s : Shape) (g k : Held) (x y z : Text) → is_operand x ≡ true → is_operand y ≡ true → is_operand z ≡ true
     → next_at s.rules nothing_held 1 x ≡ standing g 2 → next_at s.rules g 2 y ≡ standing k 3
     → step_fault s 1 nothing_held value ≡ [] → step_fault s 2 g value ≡ [] → step_fault s 3 k value ≡ []
     → walk_fault s [] (walk_from nothing_held) (x ∷ y ∷ z ∷ []) ≡ []
@@ -104,7 +104,7 @@ pending rows id text = record { rows = rows; pending = Some (id, text ∷ []); s
 -- ---- names alone
 
 pub run-names : RunOfNames
-unfolding run_app command_in asked_by run_with kernel_in budget_in output_in form_in form_under walk_fault defaults_fault
+unfolding run_app command_in asked_by run_with kernel_named budget_in output_in form_in form_under walk_fault defaults_fault
 run-names x y name_x name_y =
     ap (option_and_then run_in) (found-walked run_app (codes "run" ∷ x ∷ y ∷ []) (next_at (built run_app).top.rules (pending [] (codes "system") x) 2 y)
     (two_walked (built run_app).top.rules [] nothing_held (pending [] (codes "system") x) x y name_x name_y refl refl)
@@ -117,7 +117,7 @@ decode-name x name =
     (one_walked (built decode_app).top.rules [] nothing_held x name refl) (one_faults (built decode_app).top [] nothing_held x name refl refl refl))
 
 pub migrate-name : MigrateOfName
-unfolding migrate_app command_in asked_by migrate_with kind_in form_in walk_fault defaults_fault
+unfolding migrate_app command_in asked_by migrate_with kind_named form_in walk_fault defaults_fault
 migrate-name x name =
     ap (option_and_then migrate_in) (found-walked migrate_app (codes "migrate" ∷ x ∷ []) (next_at (built migrate_app).top.rules nothing_held 1 x)
     (one_walked (built migrate_app).top.rules [] nothing_held x name refl) (one_faults (built migrate_app).top [] nothing_held x name refl refl refl))
@@ -128,7 +128,7 @@ one_held x = pending [] (codes "system") x
 abbrev two_held : Text → Text → Held
 two_held x y = pending (given (codes "system") x ∷ []) (codes "stimuli") y
 
-files_found : (word x y z : Text) → is_name x ≡ true → is_name y ≡ true → is_name z ≡ true
+files_found : (word x y z : Text) → is_operand x ≡ true → is_operand y ≡ true → is_operand z ≡ true
     → option_and_then files_in (found_in (files_app word) (word ∷ x ∷ y ∷ z ∷ [])) ≡ Some (check_words x y z)
 unfolding files_app files_with walk_fault defaults_fault
 files_found word x y z name_x name_y name_z =
@@ -239,8 +239,8 @@ module _ (kernel : KernelName) (out : Output) (form : Form) where
       (ap (λ (w : Walk). walk_fault (built run_app).top [] w third_option) (out_stands (word_of_kernel kernel) out)
       ∙ form_faultless (word_of_kernel kernel) (word_of_output out) form)))
 
-kernel_in-word : (k : KernelName) → kernel_in (Some (word_of_kernel k)) ≡ Some k
-unfolding kernel_in
+kernel_in-word : (k : KernelName) → kernel_named (Some (word_of_kernel k)) ≡ Some k
+unfolding kernel_named
 kernel_in-word Sim = refl
 kernel_in-word Qk = refl
 kernel_in-word Port = refl
@@ -253,8 +253,8 @@ output_in-word (Whole Journal) = refl
 output_in-word (Whole Frames) = refl
 output_in-word Summary = refl
 
-kind_in-word : (k : Kind) → kind_in (Some (word_of_kind k)) ≡ Some k
-unfolding kind_in
+kind_in-word : (k : Kind) → kind_named (Some (word_of_kind k)) ≡ Some k
+unfolding kind_named
 kind_in-word Journal = refl
 kind_in-word Frames = refl
 
@@ -263,10 +263,10 @@ unfolding form_in
 form_in-word default One = refl
 form_in-word default Two = refl
 
-run_read : (kernel : KernelName) (out : Output) (form : Form) (x y : Text) → is_name x ≡ true → is_name y ≡ true
+run_read : (kernel : KernelName) (out : Output) (form : Form) (x y : Text) → is_operand x ≡ true → is_operand y ≡ true
     → command_in (codes "run" ∷ run_options kernel out form ++ x ∷ y ∷ [])
-    ≡ run_with (kernel_in (Some (word_of_kernel kernel))) (budget_in None) (output_in (Some (word_of_output out)))
-    (option_and_then (λ k. form_under k (Some (word_of_form form))) (kernel_in (Some (word_of_kernel kernel)))) (Some x) (Some y)
+    ≡ run_with (kernel_named (Some (word_of_kernel kernel))) (budget_in None) (output_in (Some (word_of_output out)))
+    (option_and_then (λ k. form_under k (Some (word_of_form form))) (kernel_named (Some (word_of_kernel kernel)))) (Some x) (Some y)
 unfolding run_app command_in asked_by defaults_fault
 run_read kernel out form x y name_x name_y =
     ap (option_and_then run_in) (found-walked run_app (codes "run" ∷ run_options kernel out form ++ x ∷ y ∷ []) (next_at (built run_app).top.rules (run_next kernel out form x) 2 y)
@@ -284,7 +284,7 @@ run-full kernel out form x y fits name_x name_y =
     run_read kernel out form x y name_x name_y ∙ rw (kernel_in-word kernel, output_in-word out, form_under-word kernel form fits) refl
 
 pub cooperative-words : CooperativeWords
-unfolding clap_on_literals command_in asked_by run_app run_with kernel_in budget_in output_in form_in form_under
+unfolding clap_on_literals command_in asked_by run_app run_with kernel_named budget_in output_in form_in form_under
 cooperative-words = refl
 
 abbrev migrate_options : Kind → Form → List Text
@@ -307,9 +307,9 @@ migrate_faultless Journal Two = refl
 migrate_faultless Frames One = refl
 migrate_faultless Frames Two = refl
 
-migrate_read : (from : Kind) (to : Form) (x : Text) → is_name x ≡ true
+migrate_read : (from : Kind) (to : Form) (x : Text) → is_operand x ≡ true
     → command_in (codes "migrate" ∷ migrate_options from to ++ x ∷ [])
-    ≡ migrate_with (kind_in (Some (word_of_kind from))) (form_in Two (Some (word_of_form to))) (Some x)
+    ≡ migrate_with (kind_named (Some (word_of_kind from))) (form_in Two (Some (word_of_form to))) (Some x)
 unfolding migrate_app command_in asked_by defaults_fault
 migrate_read from to x name =
     ap (option_and_then migrate_in) (found-walked migrate_app (codes "migrate" ∷ migrate_options from to ++ x ∷ []) (next_at (built migrate_app).top.rules (migrate_held from to) 1 x)
@@ -323,13 +323,13 @@ migrate-full from to x name = migrate_read from to x name ∙ rw (kind_in-word f
 -- ---- calls that are refused
 
 pub calls-refused : RefusedCalls
-unfolding clap_on_literals command_in asked_by run_app decode_app migrate_app files_app generate_app run_with decode_with migrate_with files_with generate_with kernel_in budget_in made_in output_in kind_in form_in form_under digits
+unfolding clap_on_literals command_in asked_by run_app decode_app migrate_app files_app generate_app run_with decode_with migrate_with files_with generate_with kernel_named budget_in made_in output_in kind_named form_in form_under digits
 calls-refused = refl
 
 -- ---- budgets
 
 pub budget-words : BudgetWords
-unfolding clap_on_literals command_in asked_by run_app run_with kernel_in budget_in output_in form_in form_under digits
+unfolding clap_on_literals command_in asked_by run_app run_with kernel_named budget_in output_in form_in form_under digits
 budget-words = (refl, refl)
 
 pub each-budget : EachBudget
@@ -338,7 +338,7 @@ each-budget n some most = rw (number_of-decimal n (omega (arith, most)), le-leb 
 
 -- ---- a number to be made
 
-name-above : (text : Text) → 48 < get_or text 0 0 → is_name text ≡ true
+name-above : (text : Text) → 48 < get_or text 0 0 → is_operand text ≡ true
 name-above [] above = refl
 name-above (b ∷ bs) above = go (b == 45) refl
   where
@@ -346,7 +346,7 @@ name-above (b ∷ bs) above = go (b == 45) refl
     go true e = let same : b ≡ 45 = eqb-true b 45 e in absurd (omega (arith, same, above))
     go false e = refl
 
-generate-name : (x : Text) → is_name x ≡ true → command_in (codes "gen" ∷ x ∷ []) ≡ generate_with (made_in (Some x))
+generate-name : (x : Text) → is_operand x ≡ true → command_in (codes "gen" ∷ x ∷ []) ≡ generate_with (made_in (Some x))
 unfolding generate_app command_in asked_by walk_fault defaults_fault
 generate-name x name =
     ap (option_and_then generate_in) (found-walked generate_app (codes "gen" ∷ x ∷ []) (next_at (built generate_app).top.rules nothing_held 1 x)

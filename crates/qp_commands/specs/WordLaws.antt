@@ -13,34 +13,34 @@ use Rattle.qp_commands.specs.declared.values.Form.TheVariants.{One, Two}
 use Rattle.qp_commands.specs.WordTable.{budget_in, check, command_in, decode, generate, is_form_of, migrate, replay, run}
 
 -- the word doesn't begin with `-`
-abbrev pub is_name : Text → Bool
-is_name [] = true
-is_name (b ∷ bs) = not (b == 45)
+abbrev pub is_operand : Text → Bool
+is_operand [] = true
+is_operand (b ∷ bs) = not (b == 45)
 
 -- a run of two names has the defaults
 abbrev pub RunOfNames : Type 0
-RunOfNames = (system stimuli : Text) → is_name system ≡ true → is_name stimuli ≡ true
+RunOfNames = (system stimuli : Text) → is_operand system ≡ true → is_operand stimuli ≡ true
     → command_in (codes "run" ∷ system ∷ stimuli ∷ [])
     ≡ Some (run (record { kernel = Sim; budget = 100000; out = Whole Journal; form = One; system = system; stimuli = stimuli }))
 
 -- the name of a file of frames is decoded
 abbrev pub DecodeOfName : Type 0
-DecodeOfName = (frames : Text) → is_name frames ≡ true → command_in (codes "decode" ∷ frames ∷ []) ≡ Some (decode frames)
+DecodeOfName = (frames : Text) → is_operand frames ≡ true → command_in (codes "decode" ∷ frames ∷ []) ≡ Some (decode frames)
 
 -- a migration of a name reads text, and goes to form 2
 abbrev pub MigrateOfName : Type 0
-MigrateOfName = (file : Text) → is_name file ≡ true
+MigrateOfName = (file : Text) → is_operand file ≡ true
     → command_in (codes "migrate" ∷ file ∷ []) ≡ Some (migrate (record { from = Journal; to = Two; file = file }))
 
 -- three names are a system, its stimuli and a journal
 abbrev pub CheckOfNames : Type 0
-CheckOfNames = (system stimuli journal : Text) → is_name system ≡ true → is_name stimuli ≡ true → is_name journal ≡ true
+CheckOfNames = (system stimuli journal : Text) → is_operand system ≡ true → is_operand stimuli ≡ true → is_operand journal ≡ true
     → command_in (codes "check" ∷ system ∷ stimuli ∷ journal ∷ [])
     ≡ Some (check (record { system = system; stimuli = stimuli; journal = journal }))
 
 -- and they are a replay
 abbrev pub ReplayOfNames : Type 0
-ReplayOfNames = (system stimuli journal : Text) → is_name system ≡ true → is_name stimuli ≡ true → is_name journal ≡ true
+ReplayOfNames = (system stimuli journal : Text) → is_operand system ≡ true → is_operand stimuli ≡ true → is_operand journal ≡ true
     → command_in (codes "replay" ∷ system ∷ stimuli ∷ journal ∷ [])
     ≡ Some (replay (record { system = system; stimuli = stimuli; journal = journal }))
 
@@ -76,7 +76,7 @@ word_of_form Two = codes "2"
 -- every run of names with the default budget, every budget, and every migration of names can be asked for
 
 abbrev pub RunInFull : Type 0
-RunInFull = (kernel : KernelName) (out : Output) (form : Form) (system stimuli : Text) → is_form_of kernel form ≡ true → is_name system ≡ true → is_name stimuli ≡ true
+RunInFull = (kernel : KernelName) (out : Output) (form : Form) (system stimuli : Text) → is_form_of kernel form ≡ true → is_operand system ≡ true → is_operand stimuli ≡ true
     → command_in (codes "run" ∷ codes "--kernel" ∷ word_of_kernel kernel ∷ codes "--out" ∷ word_of_output out ∷ codes "--form" ∷ word_of_form form
     ∷ system ∷ stimuli ∷ [])
     ≡ Some (run (record { kernel = kernel; budget = 100000; out = out; form = form; system = system; stimuli = stimuli }))
@@ -99,7 +99,7 @@ BudgetWords = (command_in (run_with_budget (codes "1")) ≡ Some (run (record { 
     × (command_in (run_with_budget (codes "1000000")) ≡ Some (run (record { kernel = Sim; budget = 1000000; out = Whole Journal; form = One; system = codes "a"; stimuli = codes "b" })))
 
 abbrev pub MigrateInFull : Type 0
-MigrateInFull = (from : Kind) (to : Form) (file : Text) → is_name file ≡ true
+MigrateInFull = (from : Kind) (to : Form) (file : Text) → is_operand file ≡ true
     → command_in (codes "migrate" ∷ codes "--from" ∷ word_of_kind from ∷ codes "--to" ∷ word_of_form to ∷ file ∷ [])
     ≡ Some (migrate (record { from = from; to = to; file = file }))
 

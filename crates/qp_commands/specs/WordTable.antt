@@ -74,9 +74,9 @@ found_in app words = rows_unless (fault_of app words) (matches_of app words)
 
 -- ---- the values of options; without the option the default
 
-unfoldable pub kernel_in : Option Text → Option KernelName
-kernel_in None = Some Sim
-kernel_in (Some word) =
+unfoldable pub kernel_named : Option Text → Option KernelName
+kernel_named None = Some Sim
+kernel_named (Some word) =
     if bytes_eq word (codes "sim") then Some Sim
     else (if bytes_eq word (codes "qk") then Some Qk
     else (if bytes_eq word (codes "port") then Some Port
@@ -104,9 +104,9 @@ output_in (Some word) =
     else (if bytes_eq word (codes "frames") then Some (Whole Frames)
     else (if bytes_eq word (codes "summary") then Some Summary else None))
 
-unfoldable pub kind_in : Option Text → Option Kind
-kind_in None = Some Journal
-kind_in (Some word) =
+unfoldable pub kind_named : Option Text → Option Kind
+kind_named None = Some Journal
+kind_named (Some word) =
     if bytes_eq word (codes "journal") then Some Journal
     else (if bytes_eq word (codes "frames") then Some Frames else None)
 
@@ -221,7 +221,7 @@ run_with _ _ _ _ _ _ = None
 
 abbrev pub run_in : List Row → Option Asked
 run_in rows =
-    let kernel = kernel_in (first_of (codes "kernel") rows) in
+    let kernel = kernel_named (first_of (codes "kernel") rows) in
     run_with kernel (budget_in (first_of (codes "budget") rows)) (output_in (first_of (codes "out") rows))
     (option_and_then (λ k. form_under k (first_of (codes "form") rows)) kernel) (first_of (codes "system") rows) (first_of (codes "stimuli") rows)
 
@@ -237,7 +237,7 @@ migrate_with (Some k) (Some f) (Some file) = Some (migrate (record { from = k; t
 migrate_with _ _ _ = None
 
 abbrev pub migrate_in : List Row → Option Asked
-migrate_in rows = migrate_with (kind_in (first_of (codes "from") rows)) (form_in Two (first_of (codes "to") rows)) (first_of (codes "file") rows)
+migrate_in rows = migrate_with (kind_named (first_of (codes "from") rows)) (form_in Two (first_of (codes "to") rows)) (first_of (codes "file") rows)
 
 -- all three files are there
 unfoldable pub files_with : (system stimuli journal : Option Text) → Option CheckWords

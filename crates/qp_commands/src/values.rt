@@ -1,6 +1,6 @@
 //! The values of the options.
 ghost use Rattle.std.specs.Prelude.{◌≡◌, option_map};
-ghost use Rattle.qp_commands.specs.WordTable.{budget_in, form_in, form_under, kernel_in, kind_in, made_in, number_of_form, output_in};
+ghost use Rattle.qp_commands.specs.WordTable.{budget_in, form_in, form_under, kernel_named, kind_named, made_in, number_of_form, output_in};
 
 use crate::numbers::number;
 
@@ -57,9 +57,9 @@ impl Form {
 }
 
 /// The kernel of `--kernel`; without the option it is `sim`.
-#[tactic(auto, unfolding(crate::specs::WordTable::kernel_in))]
+#[tactic(auto, unfolding(crate::specs::WordTable::kernel_named))]
 pub(crate) fn kernel_of(value: Option<&str>) -> Option<KernelName>
-    ensures { result ≡ kernel_in (option_map (λ word. word.now) value.entry) }
+    ensures { result ≡ kernel_named (option_map (λ word. word.now) value.entry) }
 {
     match value {
         None | Some("sim") => Some(KernelName::Sim),
@@ -119,9 +119,9 @@ pub(crate) fn output_of(value: Option<&str>) -> Option<Output>
 }
 
 /// The kind of `--from`; without the option it is text.
-#[tactic(auto, unfolding(crate::specs::WordTable::kind_in))]
+#[tactic(auto, unfolding(crate::specs::WordTable::kind_named))]
 pub(crate) fn kind_of(value: Option<&str>) -> Option<Kind>
-    ensures { result ≡ kind_in (option_map (λ word. word.now) value.entry) }
+    ensures { result ≡ kind_named (option_map (λ word. word.now) value.entry) }
 {
     match value {
         None | Some("journal") => Some(Kind::Journal),

@@ -12,12 +12,12 @@ use Rattle.qp_model.specs.declared.systems.System.{System}
 use Rattle.qp_model.proofs.ListLemmas.{take-next}
 use Rattle.qp_base.specs.declared.faults.Memory.{Memory}
 use Rattle.qp_table.specs.declared.view.Serve.{Serve}
-use Rattle.qp_core_steps.specs.Words.{Steps}
+use Rattle.qp_core_steps.specs.Words.{StepsAs}
 use Rattle.qp_core_steps.specs.Keeps.{HasOwn, StepKeeps}
 use Rattle.qp_core.specs.Standing.{has_number, TableHolds}
 use Rattle.qp_core.specs.State.{stands_as, seat_in, bare_seat, serves_set, may_pass, may_split, out_part, giving_up, split_off, may_join, joining, Joins, StepsSeat, may_change, Changes, may_apply, Applies}
 use Rattle.qp_core_steps.specs.Steps.{may_step, Steps_one}
-use Rattle.qp_core.specs.Runs.{HoldsOf, Runs, LeadsTo, RefusesStep}
+use Rattle.qp_core.specs.Runs.{HoldsOf, CoreRuns, LeadsTo, RefusesStep}
 use Rattle.qp_core_steps.specs.declared.seats.Seat.{Seat}
 use Rattle.qp_core.specs.declared.state.CoreState.{CoreState}
 use Rattle.qp_core_steps.specs.declared.ops.Op.{Op}
@@ -104,21 +104,21 @@ module _ (seats s1 s2 : List Seat) (at there from : ℕ) (z x y b c d : Seat) (p
 -- A seat takes a step by itself
 
 pub step-at-made : (sys : System) (lanes : ℕ) (words : List ℕ) (seats s1 s2 : List Seat) (at : ℕ) (z b x' x : Seat) (o : Op) (words' : List ℕ) (r : Result Bool Memory) → slice_get seats at ≡ Some z → s1 ≡ set seats at b → s2 ≡ set s1 at x'
-    → Steps (may_step sys lanes words z o) (Steps_one sys words z o words' x') ((words' ≡ words) × (x' ≡ z)) r → (HasOwn lanes z → StepKeeps sys words z words' x') → slice_get seats at ≡ Some x → StepsSeat sys lanes words seats at x o words' s2 r
+    → StepsAs (may_step sys lanes words z o) (Steps_one sys words z o words' x') ((words' ≡ words) × (x' ≡ z)) r → (HasOwn lanes z → StepKeeps sys words z words' x') → slice_get seats at ≡ Some x → StepsSeat sys lanes words seats at x o words' s2 r
 step-at-made sys lanes words seats s1 s2 at z b x' x o words' r there h1 h2 one kept here =
     let same : z ≡ x = cc in
-    let t : Steps (may_step sys lanes words x o) (Steps_one sys words x o words' x') ((words' ≡ words) × (x' ≡ x)) r = subst (λ (y : Seat). Steps (may_step sys lanes words y o) (Steps_one sys words y o words' x') ((words' ≡ words) × (x' ≡ y)) r) same one in
+    let t : StepsAs (may_step sys lanes words x o) (Steps_one sys words x o words' x') ((words' ≡ words) × (x' ≡ x)) r = subst (λ (y : Seat). StepsAs (may_step sys lanes words y o) (Steps_one sys words y o words' x') ((words' ≡ words) × (x' ≡ y)) r) same one in
     let k : HasOwn lanes x → StepKeeps sys words x words' x' = subst (λ (y : Seat). HasOwn lanes y → StepKeeps sys words y words' x') same kept in
     (x', h2 ∙ (ap (λ ys. set ys at x') h1 ∙ set-twice seats at b x'), t, k)
 
 -- Steps
 
-steps-map : (may may' : Bool) (made made' same same' : Type 0) → may' ≡ may → (made → made') → (same → same') → (r : Result Bool Memory) → Steps may made same r → Steps may' made' same' r
+steps-map : (may may' : Bool) (made made' same same' : Type 0) → may' ≡ may → (made → made') → (same → same') → (r : Result Bool Memory) → StepsAs may made same r → StepsAs may' made' same' r
 steps-map may may' made made' same same' e f g (Ok true) h = (h.0 ∙ sym e, f h.1)
 steps-map may may' made made' same same' e f g (Ok false) h = (h.0 ∙ sym e, g h.1)
 steps-map may may' made made' same same' e f g (Err u) h = g h
 
-steps-then : (may : Bool) (made same P : Type 0) → (may ≡ true → made → P) → (same → P) → (r : Result Bool Memory) → Steps may made same r → P
+steps-then : (may : Bool) (made same P : Type 0) → (may ≡ true → made → P) → (same → P) → (r : Result Bool Memory) → StepsAs may made same r → P
 steps-then may made same P f g (Ok true) h = f (sym h.0) h.1
 steps-then may made same P f g (Ok false) h = g h.1
 steps-then may made same P f g (Err u) h = g h
@@ -145,16 +145,16 @@ module _ (s : CoreState) (n at : ℕ) (place : position (stands_as n) s.seats �
 
     -- Split
     module _ (lanes into among : ℕ) (lanes_is : lanes ≡ s.lanes)
-        (g : (z : Seat) → slice_get s.seats at ≡ Some z → Steps (may_split s.seats z into among) (seats' ≡ set s.seats at (giving_up among z) ++ split_off lanes into among z ∷ []) (seats' ≡ s.seats) r) where
-      h : Steps (may_split s.seats x into among) (seats' ≡ set s.seats at (giving_up among x) ++ split_off s.lanes into among x ∷ []) (seats' ≡ s.seats) r
-      h = subst (λ n. Steps (may_split s.seats x into among) (seats' ≡ set s.seats at (giving_up among x) ++ split_off n into among x ∷ []) (seats' ≡ s.seats) r) lanes_is (g x here)
+        (g : (z : Seat) → slice_get s.seats at ≡ Some z → StepsAs (may_split s.seats z into among) (seats' ≡ set s.seats at (giving_up among z) ++ split_off lanes into among z ∷ []) (seats' ≡ s.seats) r) where
+      h : StepsAs (may_split s.seats x into among) (seats' ≡ set s.seats at (giving_up among x) ++ split_off s.lanes into among x ∷ []) (seats' ≡ s.seats) r
+      h = subst (λ n. StepsAs (may_split s.seats x into among) (seats' ≡ set s.seats at (giving_up among x) ++ split_off n into among x ∷ []) (seats' ≡ s.seats) r) lanes_is (g x here)
 
-      split-step : Steps (may_apply s n (op.Split into among)) (Applies s n (op.Split into among) s') (s' ≡ s) r
+      split-step : StepsAs (may_apply s n (op.Split into among)) (Applies s n (op.Split into among) s') (s' ≡ s) r
       split-step = steps-map (may_split s.seats x into among) (may_apply s n (op.Split into among)) (seats' ≡ set s.seats at (giving_up among x) ++ split_off s.lanes into among x ∷ []) (Applies s n (op.Split into among) s') (seats' ≡ s.seats) (s' ≡ s)
           (may-is (op.Split into among)) (λ e. (at, x, place, here, ap (λ ys. record s { seats = ys }) e)) (λ e. ap (λ ys. record s { seats = ys }) e) r h
 
-      pub split-one : (o : Op) → o ≡ op.Split into among → Steps (may_apply s n o) (Applies s n o s') (s' ≡ s) r
-      split-one o is = subst (λ z. Steps (may_apply s n z) (Applies s n z s') (s' ≡ s) r) (sym is) split-step
+      pub split-one : (o : Op) → o ≡ op.Split into among → StepsAs (may_apply s n o) (Applies s n o s') (s' ≡ s) r
+      split-one o is = subst (λ z. StepsAs (may_apply s n z) (Applies s n z s') (s' ≡ s) r) (sym is) split-step
 
       pub split-kept : HoldsOf s → HoldsOf s'
       split-kept t = steps-then (may_split s.seats x into among) (seats' ≡ set s.seats at (giving_up among x) ++ split_off s.lanes into among x ∷ []) (seats' ≡ s.seats) (HoldsOf s')
@@ -168,13 +168,13 @@ module _ (s : CoreState) (n at : ℕ) (place : position (stands_as n) s.seats �
           off false e = refl
 
     -- Join
-    module _ (from : ℕ) (h : (z : Seat) → slice_get s.seats at ≡ Some z → Steps (may_join s.seats z from) (Joins s.seats at z from seats') (seats' ≡ s.seats) r) where
-      join-step : Steps (may_apply s n (op.Join from)) (Applies s n (op.Join from) s') (s' ≡ s) r
+    module _ (from : ℕ) (h : (z : Seat) → slice_get s.seats at ≡ Some z → StepsAs (may_join s.seats z from) (Joins s.seats at z from seats') (seats' ≡ s.seats) r) where
+      join-step : StepsAs (may_apply s n (op.Join from)) (Applies s n (op.Join from) s') (s' ≡ s) r
       join-step = steps-map (may_join s.seats x from) (may_apply s n (op.Join from)) (Joins s.seats at x from seats') (Applies s n (op.Join from) s') (seats' ≡ s.seats) (s' ≡ s)
           (may-is (op.Join from)) (λ e. (at, x, place, here, (e, refl))) (λ e. ap (λ ys. record s { seats = ys }) e) r (h x here)
 
-      pub join-one : (o : Op) → o ≡ op.Join from → Steps (may_apply s n o) (Applies s n o s') (s' ≡ s) r
-      join-one o is = subst (λ z. Steps (may_apply s n z) (Applies s n z s') (s' ≡ s) r) (sym is) join-step
+      pub join-one : (o : Op) → o ≡ op.Join from → StepsAs (may_apply s n o) (Applies s n o s') (s' ≡ s) r
+      join-one o is = subst (λ z. StepsAs (may_apply s n z) (Applies s n z s') (s' ≡ s) r) (sym is) join-step
 
       pub join-kept : HoldsOf s → HoldsOf s'
       join-kept t = steps-then (may_join s.seats x from) (Joins s.seats at x from seats') (seats' ≡ s.seats) (HoldsOf s')
@@ -219,10 +219,10 @@ module _ (s : CoreState) (n at : ℕ) (place : position (stands_as n) s.seats �
     own-is (op.Free q) a c = (refl, λ x' m e. (words', x', m, e))
     own-is (op.Lifo q p b k) a c = (refl, λ x' m e. (words', x', m, e))
 
-    pub own-one : Steps (may_apply s n o) (Applies s n o after) (after ≡ s) r
+    pub own-one : StepsAs (may_apply s n o) (Applies s n o after) (after ≡ s) r
     own-one = go by-it
       where
-        go : StepsSeat s.sys.now s.lanes s.words s.seats at x o words' seats' r → Steps (may_apply s n o) (Applies s n o after) (after ≡ s) r
+        go : StepsSeat s.sys.now s.lanes s.words s.seats at x o words' seats' r → StepsAs (may_apply s n o) (Applies s n o after) (after ≡ s) r
         go k = steps-map (may_step s.sys.now s.lanes s.words x o) (may_apply s n o) (Steps_one s.sys.now s.words x o words' k.0) (Applies s n o after) ((words' ≡ s.words) × (k.0 ≡ x)) (after ≡ s)
             (may-is o ∙ (own-is o no_split no_join).0) (λ m. (at, x, place, here, (own-is o no_split no_join).1 k.0 m (ap (λ ys. record s { words = words'; seats = ys }) k.1)))
             (λ e. let back : seats' ≡ s.seats = k.1 ∙ (ap (λ z. set s.seats at z) e.1 ∙ set-same s.seats at x here) in λ j. record s { words = e.0 j; seats = back j }) r k.2
@@ -238,16 +238,16 @@ module _ (s : CoreState) (n at : ℕ) (place : position (stands_as n) s.seats �
 
 -- Runs of schedules
 
-pub runs-snoc : (s : CoreState) (steps : List (ℕ × Op)) (t : CoreState) (n : ℕ) (o : Op) (u : CoreState) → Runs s steps t → may_apply t n o ≡ true → Applies t n o u → Runs s (steps ++ (n, o) ∷ []) u
+pub runs-snoc : (s : CoreState) (steps : List (ℕ × Op)) (t : CoreState) (n : ℕ) (o : Op) (u : CoreState) → CoreRuns s steps t → may_apply t n o ≡ true → Applies t n o u → CoreRuns s (steps ++ (n, o) ∷ []) u
 runs-snoc s [] t n o u e may made = (u, subst (λ z. may_apply z n o ≡ true) e may, subst (λ z. Applies z n o u) e made, refl)
 runs-snoc s (x ∷ steps) t n o u e may made = (e.0, e.1, e.2, runs-snoc e.0 steps t n o u e.3 may made)
 
-module _ (sys : System) (lanes : ℕ) (steps : List (ℕ × Op)) (i : ℕ) (step : ℕ × Op) (below : i < length steps) (is : step ≡ get_or steps i step) (s s' : CoreState) (r : Result Bool Memory) (b : Bool) (reached : LeadsTo sys lanes (take i steps) s) (one : Steps (may_apply s step.0 step.1) (Applies s step.0 step.1 s') (s' ≡ s) r) (r_is : r ≡ Ok b) where
+module _ (sys : System) (lanes : ℕ) (steps : List (ℕ × Op)) (i : ℕ) (step : ℕ × Op) (below : i < length steps) (is : step ≡ get_or steps i step) (s s' : CoreState) (r : Result Bool Memory) (b : Bool) (reached : LeadsTo sys lanes (take i steps) s) (one : StepsAs (may_apply s step.0 step.1) (Applies s step.0 step.1 s') (s' ≡ s) r) (r_is : r ≡ Ok b) where
   at-step : slice_get steps i ≡ Some step
   at-step = slice_get_read steps (length steps) i step refl below is
 
   outcome : (b ≡ may_apply s step.0 step.1) × MatchBool b (Applies s step.0 step.1 s') (s' ≡ s)
-  outcome = subst (λ q. Steps (may_apply s step.0 step.1) (Applies s step.0 step.1 s') (s' ≡ s) q) r_is one
+  outcome = subst (λ q. StepsAs (may_apply s step.0 step.1) (Applies s step.0 step.1 s') (s' ≡ s) q) r_is one
 
   pub refused : b ≡ false → RefusesStep sys lanes steps i
   refused e = (s, step.0, step.1, reached, at-step, sym outcome.0 ∙ e)
@@ -256,4 +256,4 @@ module _ (sys : System) (lanes : ℕ) (steps : List (ℕ × Op)) (i : ℕ) (step
   reached-more kept e =
       let made : Applies s step.0 step.1 s' = subst (λ q. MatchBool q (Applies s step.0 step.1 s') (s' ≡ s)) e outcome.1 in
       let next : suc i ≡ i + 1 = omega arith in
-      (reached.0, reached.1, subst (λ ys. Runs reached.0 ys s') (take-next steps i step at-step ∙ ap (λ k. take k steps) next) (runs-snoc reached.0 (take i steps) s step.0 step.1 s' reached.2 (sym outcome.0 ∙ e) made), kept reached.3)
+      (reached.0, reached.1, subst (λ ys. CoreRuns reached.0 ys s') (take-next steps i step at-step ∙ ap (λ k. take k steps) next) (runs-snoc reached.0 (take i steps) s step.0 step.1 s' reached.2 (sym outcome.0 ∙ e) made), kept reached.3)

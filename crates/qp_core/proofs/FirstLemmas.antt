@@ -11,7 +11,7 @@ use Rattle.qp_model.specs.Lists.{count_up}
 use Rattle.qp_model.specs.Sound.{IsSound}
 use Rattle.qp_table.specs.Counting.{many}
 use Rattle.qp_table.specs.Rule.{is_number, Holds}
-use Rattle.qp_table.specs.After.{nothing, newcomer}
+use Rattle.qp_table.specs.After.{empty_view, newcomer}
 use Rattle.qp_table.specs.declared.view.Serve.{Serve}
 use Rattle.qp_table.specs.Whole.{later_lanes}
 use Rattle.qp_table.specs.First.{first_word, first_serve, first_serves}
@@ -26,8 +26,8 @@ use Rattle.qp_core.specs.declared.state.CoreState.{CoreState}
 parted : (sys : System) (words ns : List ℕ) (xs : List Serve) → Holds sys words (newcomer ns xs ∷ []) → Holds sys words (bank ns ∷ as_view (first_seat xs) ∷ [])
 parted sys words ns xs h =
     let two = adds-nothing sys words (newcomer ns xs ∷ []) h in
-    let all = keeps sys words (newcomer ns xs ∷ nothing ∷ []) two 0 (newcomer ns xs) refl in
-    swaps sys words (newcomer ns xs ∷ nothing ∷ []) two 0 (newcomer ns xs) refl 1 nothing (λ e. absurd (omega arith)) refl (bank ns) (as_view (first_seat xs))
+    let all = keeps sys words (newcomer ns xs ∷ empty_view ∷ []) two 0 (newcomer ns xs) refl in
+    swaps sys words (newcomer ns xs ∷ empty_view ∷ []) two 0 (newcomer ns xs) refl 1 empty_view (λ e. absurd (omega arith)) refl (bank ns) (as_view (first_seat xs))
     (record {
       fresh = λ t. refl;
       used = λ t. refl;

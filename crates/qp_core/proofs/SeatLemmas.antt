@@ -20,7 +20,7 @@ use Rattle.qp_table.specs.declared.view.Serve.{Serve}
 use Rattle.qp_table.specs.declared.view.View.{View}
 use Rattle.qp_table.specs.Whole.{Unused}
 use Rattle.qp_core_steps.specs.Seats.{as_view}
-use Rattle.qp_core_steps.specs.Blocks.{ended}
+use Rattle.qp_core_steps.specs.Blocks.{give_ended}
 use Rattle.qp_core_steps.specs.Looks.{looked}
 use Rattle.qp_core.specs.Standing.{AreViews, is_own}
 use Rattle.qp_core.specs.State.{stands_as, is_unused, may_pass, in_part, out_part}
@@ -133,9 +133,9 @@ same-looked words x x' (word.Queue a) None e = same-kept x (looked words x (word
 same-looked words x x' (word.Signal a) None e = same-kept x (looked words x (word.Signal a) None) x' e refl refl refl
 same-looked words x x' (word.Timer a) None e = same-kept x (looked words x (word.Timer a) None) x' e refl refl refl
 
-same-ended : (more : Bool) (p b : ℕ) (x y x' : Seat) (r : Rec) → x' ≡ ended more p b y → y.number ≡ x.number → y.stands ≡ x.stands → y.logs ≡ logged r x.logs → Same x x'
+same-ended : (more : Bool) (p b : ℕ) (x y x' : Seat) (r : Rec) → x' ≡ give_ended more p b y → y.number ≡ x.number → y.stands ≡ x.stands → y.logs ≡ logged r x.logs → Same x x'
 same-ended true p b x y x' r e c d f = same-logged x y x' r e c d f
-same-ended false p b x y x' r e c d f = same-logged x (ended false p b y) x' r e c d f
+same-ended false p b x y x' r e c d f = same-logged x (give_ended false p b y) x' r e c d f
 
 pub steps-same : (sys : System) (words : List ℕ) (x : Seat) (words' : List ℕ) (x' : Seat) (o : Op) → Steps_one sys words x o words' x' → Same x x'
 steps-same sys words x words' x' (op.Give p ev) m = same-logged x _ x' m.0 m.3 refl refl refl

@@ -9,7 +9,7 @@ use Rattle.atomic_table.proofs.Lists.{set_again, at_longer, at_last}
 use Rattle.qp_model.specs.declared.systems.System.{System}
 use Rattle.qp_table.specs.Counting.{many, without}
 use Rattle.qp_table.specs.Rule.{is_number, Holds}
-use Rattle.qp_table.specs.After.{nothing, onlooker, granted, handing, handed}
+use Rattle.qp_table.specs.After.{empty_view, onlooker, granted, handing, handed}
 use Rattle.qp_table.specs.declared.view.Glance.{Glance}
 use Rattle.qp_table.specs.declared.view.SeatLog.{SeatLog}
 use Rattle.qp_table.specs.declared.view.View.{View}
@@ -18,14 +18,14 @@ use Rattle.qp_table.proofs.Tokens.{b2n}
 use Rattle.qp_table.proofs.Lanes.{adds-nothing, looks-on, grants, hands-over, joins, set-last, set-longer}
 use Rattle.qp_core_steps.specs.Seats.{as_view}
 use Rattle.qp_core_steps.specs.Keeps.{HasOwn, StepKeeps}
-use Rattle.qp_core.specs.Standing.{bank, is_own, Owns, has_number, TableHolds}
+use Rattle.qp_core.specs.Standing.{bank, is_own, OwnsLog, has_number, TableHolds}
 use Rattle.qp_core.specs.State.{stands_as, bare_seat, may_pass, SetsBy, in_part, giving_up, first_logs, split_off, joining}
 use Rattle.qp_core_steps.specs.declared.seats.Seat.{Seat}
 use Rattle.qp_core.proofs.SeatLemmas.{each-at, each-set, any-set, any-snoc, get-set-else, at-below, at-view, set-view, snoc-view, own-some, own-more, Same, failing-is, passing-is, all-unused}
 
 module _ (sys : System) (lanes : ℕ) (words : List ℕ) (seats : List Seat) (t : TableHolds sys lanes words seats) (i : ℕ) (x : Seat) (at : slice_get seats i ≡ Some x) where
   pub has-own : x.stands ≡ true → HasOwn lanes x
-  has-own stands below = own-some x.number x.logs (each-at (Owns lanes) seats i x t.own at stands below)
+  has-own stands below = own-some x.number x.logs (each-at (OwnsLog lanes) seats i x t.own at stands below)
 
   at-id : get_elem? t.views i ≡ some (as_view x)
   at-id = at-view seats t.views t.seats_are i x at
@@ -38,9 +38,9 @@ module _ (sys : System) (lanes : ℕ) (words : List ℕ) (seats : List Seat) (t 
         views = set t.views i (as_view x');
         holds = k;
         seats_are = set-view seats t.views t.seats_are i x';
-        own = each-set (Owns lanes) seats i x' t.own
+        own = each-set (OwnsLog lanes) seats i x' t.own
             (λ stands below. same.own x'.number ∙ (ap (λ n. is_own n x.logs) same.number
-            ∙ each-at (Owns lanes) seats i x t.own at (sym same.stands ∙ stands) (ap (λ n. nat_lt n lanes) (sym same.number) ∙ below)));
+            ∙ each-at (OwnsLog lanes) seats i x t.own at (sym same.stands ∙ stands) (ap (λ n. nat_lt n lanes) (sym same.number) ∙ below)));
         later = λ n l gone. t.later n l (sym (any-set (has_number n) seats i x x' at (ap (λ m. m == n) same.number)) ∙ gone);
         few = t.few;
       }
@@ -58,8 +58,8 @@ module _ (sys : System) (lanes : ℕ) (words : List ℕ) (seats : List Seat) (t 
         views = set (set t.views j (as_view (bare_seat from false))) i (as_view (joining x y));
         holds = subst (λ vs. Holds sys words (bank t.lane_numbers ∷ vs)) swapped h;
         seats_are = set-view (set seats j (bare_seat from false)) (set t.views j (as_view (bare_seat from false))) (set-view seats t.views t.seats_are j (bare_seat from false)) i (joining x y);
-        own = each-set (Owns lanes) (set seats j (bare_seat from false)) i (joining x y) (each-set (Owns lanes) seats j (bare_seat from false) t.own (λ stands below. absurd (cc)))
-            (λ stands below. own-more x.number x.logs y.logs (each-at (Owns lanes) seats i x t.own at stands below));
+        own = each-set (OwnsLog lanes) (set seats j (bare_seat from false)) i (joining x y) (each-set (OwnsLog lanes) seats j (bare_seat from false) t.own (λ stands below. absurd (cc)))
+            (λ stands below. own-more x.number x.logs y.logs (each-at (OwnsLog lanes) seats i x t.own at stands below));
         later = λ n l gone. t.later n l (sym (any-set (has_number n) seats j y (bare_seat from false) there (ap (λ m. m == n) (sym number)))
             ∙ (sym (any-set (has_number n) (set seats j (bare_seat from false)) i x (joining x y) (get-set-else seats i j (bare_seat from false) (λ e. apart (sym e)) ∙ at) refl) ∙ gone));
         few = t.few;
@@ -67,7 +67,7 @@ module _ (sys : System) (lanes : ℕ) (words : List ℕ) (seats : List Seat) (t 
 
 -- a view that has seen something, and has these logs
 abbrev Began : List Glance → List SeatLog → View
-Began s gs = record nothing { logs = gs; seen = s }
+Began s gs = record empty_view { logs = gs; seen = s }
 
 -- the lane number goes to the new view where it is one of the lanes, and all other numbers stay
 pub record Granted (sys : System) (words : List ℕ) (views : List View) (rest : List ℕ) (s : List Glance) (into : ℕ) (gs : List SeatLog) : Type 0 where
@@ -79,10 +79,10 @@ module _ (sys : System) (words : List ℕ) (views : List View) (rest : List ℕ)
   -- a view is added that has seen what another has
   looking : Holds sys words (bank rest ∷ (views ++ Began v.seen [] ∷ []))
   looking =
-      let h = looks-on sys words (bank rest ∷ (views ++ nothing ∷ [])) (adds-nothing sys words (bank rest ∷ views) holds) (suc i) v (at_longer views (nothing ∷ []) i v at) (suc (length views)) nothing
-      (λ e. let l = at-below views i v at in absurd (omega arith)) (at_last views nothing (length views) refl) refl in
-      let same = set_again (views ++ nothing ∷ []) i v (at_longer views (nothing ∷ []) i v at) in
-      subst (λ vs. Holds sys words (bank rest ∷ vs)) (ap (λ vs. set vs (length views) (onlooker v)) same ∙ set-last views nothing (onlooker v)) h
+      let h = looks-on sys words (bank rest ∷ (views ++ empty_view ∷ [])) (adds-nothing sys words (bank rest ∷ views) holds) (suc i) v (at_longer views (empty_view ∷ []) i v at) (suc (length views)) empty_view
+      (λ e. let l = at-below views i v at in absurd (omega arith)) (at_last views empty_view (length views) refl) refl in
+      let same = set_again (views ++ empty_view ∷ []) i v (at_longer views (empty_view ∷ []) i v at) in
+      subst (λ vs. Holds sys words (bank rest ∷ vs)) (ap (λ vs. set vs (length views) (onlooker v)) same ∙ set-last views empty_view (onlooker v)) h
 
   granting-lane : (into : ℕ) → into < 49 → 0 < many (is_number into) rest → Granted sys words views rest v.seen into (record { number = into; recs = [] } ∷ [])
   granting-lane into few mine =
@@ -128,7 +128,7 @@ module _ (sys : System) (lanes : ℕ) (words : List ℕ) (seats : List Seat) (t 
         views = set t.views i (as_view (giving_up objects x)) ++ as_view (split_off lanes into objects x) ∷ [];
         holds = subst (λ vs. Holds sys words (bank lane.left ∷ vs)) (last ∙ (λ k. set t.views i (kept k) ++ given k ∷ [])) h;
         seats_are = snoc-view (set seats i (giving_up objects x)) (set t.views i (as_view (giving_up objects x))) (set-view seats t.views t.seats_are i (giving_up objects x)) (split_off lanes into objects x);
-        own = each-snoc (Owns lanes) (set seats i (giving_up objects x)) (split_off lanes into objects x) (each-set (Owns lanes) seats i (giving_up objects x) t.own (each-at (Owns lanes) seats i x t.own at))
+        own = each-snoc (OwnsLog lanes) (set seats i (giving_up objects x)) (split_off lanes into objects x) (each-set (OwnsLog lanes) seats i (giving_up objects x) t.own (each-at (OwnsLog lanes) seats i x t.own at))
             (λ stands below. subst (λ b. is_own into (cond b (record { number = into; recs = [] } ∷ []) []) ≡ true) (sym below) (eq-eqb into into refl));
         later = λ k l gone. let g = any-snoc (has_number k) (set seats i (giving_up objects x)) (split_off lanes into objects x) gone in
             let m = t.later k l (sym (any-set (has_number k) seats i x (giving_up objects x) at refl) ∙ g.0) in let e = lane.others k g.1 in omega arith;

@@ -37,13 +37,13 @@ pub record IsFirstState (sys : System) (lanes : ℕ) (s : CoreState) : Type 0 wh
   pub fresh : Each IsFreshServe serves
 
 -- the steps lead from the one state to the other, each of them allowed where it is made
-abbrev pub Runs : CoreState → List (ℕ × Op) → CoreState → Type 0
-Runs s [] t = t ≡ s
-Runs s ((n, o) ∷ rest) t = (u : CoreState) × (may_apply s n o ≡ true) × Applies s n o u × Runs u rest t
+abbrev pub CoreRuns : CoreState → List (ℕ × Op) → CoreState → Type 0
+CoreRuns s [] t = t ≡ s
+CoreRuns s ((n, o) ∷ rest) t = (u : CoreState) × (may_apply s n o ≡ true) × Applies s n o u × CoreRuns u rest t
 
 -- they lead there from the first state, and the rule holds there
 abbrev pub LeadsTo : System → ℕ → List (ℕ × Op) → CoreState → Type 0
-LeadsTo sys lanes steps t = (s : CoreState) × IsFirstState sys lanes s × Runs s steps t × HoldsOf t
+LeadsTo sys lanes steps t = (s : CoreState) × IsFirstState sys lanes s × CoreRuns s steps t × HoldsOf t
 
 -- the step at this place, behind those that were made
 abbrev pub RefusesStep : System → ℕ → List (ℕ × Op) → ℕ → Type 0

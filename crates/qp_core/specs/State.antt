@@ -14,7 +14,7 @@ use Rattle.qp_table.specs.declared.view.CellPlace.{CellPlace}
 use Rattle.qp_table.specs.declared.view.Serve.{Serve}
 use Rattle.std.specs.declared.result.Result.{Result}
 use Rattle.qp_base.specs.declared.faults.Memory.{Memory}
-use Rattle.qp_core_steps.specs.Words.{Steps}
+use Rattle.qp_core_steps.specs.Words.{StepsAs}
 use Rattle.qp_core_steps.specs.Keeps.{HasOwn, StepKeeps}
 use Rattle.qp_core.specs.Standing.{has_number}
 use Rattle.qp_core_steps.specs.Steps.{may_step, Steps_one}
@@ -32,8 +32,8 @@ seat_in xs None = None
 seat_in xs (Some i) = slice_get xs i
 
 -- the seat of this number that stands
-abbrev pub standing : List Seat → ℕ → Option Seat
-standing xs n = seat_in xs (position (stands_as n) xs)
+abbrev pub standing_seat : List Seat → ℕ → Option Seat
+standing_seat xs n = seat_in xs (position (stands_as n) xs)
 
 -- a seat that holds nothing
 abbrev pub bare_seat : ℕ → Bool → Seat
@@ -42,30 +42,30 @@ bare_seat n t = record { number = n; stands = t; by = 0; logs = []; fresh = []; 
 -- Split
 
 -- the object is in the set: bit a - 1
-abbrev pub in_set : ℕ → ℕ → Bool
-in_set set a = nat_lt 0 a && nat_le a 32 && (bit_at set (a - 1) == 1)
+abbrev pub is_in_set : ℕ → ℕ → Bool
+is_in_set set a = nat_lt 0 a && nat_le a 32 && (bit_at set (a - 1) == 1)
 
 -- of the objects up to n, those in the set are served
 unfoldable pub serves_set : ℕ → ℕ → List Serve → Bool
 serves_set zero set xs = true
-serves_set (suc n) set xs = (not (in_set set (suc n)) || list_any (is_serve (suc n)) xs) && serves_set n set xs
+serves_set (suc n) set xs = (not (is_in_set set (suc n)) || list_any (is_serve (suc n)) xs) && serves_set n set xs
 
 -- an object that may be handed over: it has no last-in post and no take, and none is under way
 abbrev pub is_unused : List CellPlace → Serve → Bool
 is_unused takes x = (x.lifos == 0) && (x.takes == 0) && not (list_any (on_queue x.object) takes)
 
 abbrev pub may_pass : List CellPlace → ℕ → Serve → Bool
-may_pass takes set x = not (in_set set x.object) || is_unused takes x
+may_pass takes set x = not (is_in_set set x.object) || is_unused takes x
 
 abbrev pub may_split : List Seat → Seat → ℕ → ℕ → Bool
 may_split xs x into set = not (list_any (has_number into) xs) && serves_set 32 set x.serves && list_all (may_pass x.takes set) x.serves
 
 -- the objects in the set, and the others
 abbrev pub in_part : ℕ → Serve → Bool
-in_part set x = in_set set x.object
+in_part set x = is_in_set set x.object
 
 abbrev pub out_part : ℕ → Serve → Bool
-out_part set x = not (in_set set x.object)
+out_part set x = not (is_in_set set x.object)
 
 abbrev pub giving_up : ℕ → Seat → Seat
 giving_up set x = record x { serves = filter (out_part set) x.serves }
@@ -103,7 +103,7 @@ Joins xs i x from xs' = (j : ℕ) × (y : Seat) × (position (stands_as from) xs
 -- seat i, which is x, takes a step by itself, and the rule stands after it
 abbrev pub StepsSeat : System → ℕ → List ℕ → List Seat → ℕ → Seat → Op → List ℕ → List Seat → Result Bool Memory → Type 0
 StepsSeat sys lanes words xs i x o words' xs' r =
-    (x' : Seat) × (xs' ≡ slice_set xs i x') × Steps (may_step sys lanes words x o) (Steps_one sys words x o words' x') ((words' ≡ words) × (x' ≡ x)) r × (HasOwn lanes x → StepKeeps sys words x words' x')
+    (x' : Seat) × (xs' ≡ slice_set xs i x') × StepsAs (may_step sys lanes words x o) (Steps_one sys words x o words' x') ((words' ≡ words) × (x' ≡ x)) r × (HasOwn lanes x → StepKeeps sys words x words' x')
 
 -- The steps of a seat that stands
 abbrev pub may_change : CoreState → Seat → Op → Bool
@@ -119,7 +119,7 @@ Changes s i x o s' = (words' : List ℕ) × (x' : Seat) × Steps_one s.sys.now s
 
 -- A step of the seat with this number: a seat that doesn't stand takes none
 abbrev pub may_apply : CoreState → ℕ → Op → Bool
-may_apply s n o = option_map_or (λ x. may_change s x o) (standing s.seats n) false
+may_apply s n o = option_map_or (λ x. may_change s x o) (standing_seat s.seats n) false
 
 abbrev pub Applies : CoreState → ℕ → Op → CoreState → Type 0
 Applies s n o s' = (i : ℕ) × (x : Seat) × (position (stands_as n) s.seats ≡ Some i) × (slice_get s.seats i ≡ Some x) × Changes s i x o s'
@@ -142,7 +142,7 @@ abbrev pub own_records : Seat → List Rec
 own_records x = lane_records x.number x.logs
 
 abbrev pub records_at : List Seat → ℕ → List Rec
-records_at xs n = option_map_or own_records (standing xs n) []
+records_at xs n = option_map_or own_records (standing_seat xs n) []
 
 -- the object for which the seat adds records is set, and the former one answered; nothing where the seat doesn't stand
 abbrev pub SetsBy : List Seat → ℕ → ℕ → ℕ → List Seat → Type 0

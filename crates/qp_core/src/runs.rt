@@ -2,7 +2,7 @@
 
 ghost use Rattle.std.specs.Prelude.{◌≡◌, ◌<◌, ◌≤◌};
 ghost use Rattle.qp_model.specs.Sound.{IsSound};
-ghost use Rattle.qp_core_steps.specs.Words.{Steps};
+ghost use Rattle.qp_core_steps.specs.Words.{StepsAs};
 ghost use Rattle.std.specs.List.{position};
 ghost use Rattle.qp_core.specs.State.{stands_as, may_apply, Applies};
 ghost use Rattle.qp_core.specs.Runs.{HoldsOf, EndsAs};
@@ -47,7 +47,7 @@ fn system_of<'a>(s: &CoreState<'a>) -> &'a System
 /// Makes one step of the seat `lane`. False exactly where the seat may not take it; nothing has changed then, nor where
 /// memory was refused. The rule of the event table stands after it (docs/EVENT_TABLE.md).
 pub fn apply(alloc: Global, s: &mut CoreState<'_>, lane: u32, op: &Op) -> Result<bool, Memory>
-    ensures one { Steps (may_apply s.old lane op.now) (Applies s.old lane op.now s.new) (s.new ≡ s.old) result }
+    ensures one { StepsAs (may_apply s.old lane op.now) (Applies s.old lane op.now s.new) (s.new ≡ s.old) result }
     ensures kept { HoldsOf s.old → HoldsOf s.new }
 {
     let sys = system_of(s);

@@ -3,9 +3,9 @@
 ghost use Rattle.std.specs.Prelude.{◌≡◌, ◌<◌, ◌==◌, ◌&&◌, ◌++◌, [], ◌∷◌, IfOk, OnOk, OnErr, Some, length, slice_get, slice_set};
 ghost use Rattle.std.specs.List.{filter, list_any, list_all, position};
 ghost use Rattle.qp_table.specs.Rule.{on_queue};
-ghost use Rattle.qp_core_steps.specs.Words.{Steps};
+ghost use Rattle.qp_core_steps.specs.Words.{StepsAs};
 ghost use Rattle.qp_core.specs.Standing.{has_number};
-ghost use Rattle.qp_core.specs.State.{in_set, serves_set, may_pass, may_split, in_part, out_part, giving_up, first_logs, split_off, may_join, joining, Joins, StepsSeat};
+ghost use Rattle.qp_core.specs.State.{is_in_set, serves_set, may_pass, may_split, in_part, out_part, giving_up, first_logs, split_off, may_join, joining, Joins, StepsSeat};
 ghost use Rattle.qp_core_steps.specs.declared.seats.Seat.{Seat as ASeat};
 
 use crate::state::{bare, empty_log, seat_place};
@@ -21,7 +21,7 @@ use std::mem;
 
 /// Whether the object is in the set: bit `a - 1`.
 fn in_set(set: u32, a: u64) -> bool
-    ensures { result ≡ in_set set a }
+    ensures { result ≡ is_in_set set a }
 {
     0 < a && a <= 32 && (set >> (a - 1)) & 1 == 1
 }
@@ -174,7 +174,7 @@ pub fn split(
     set: u32,
 ) -> Result<bool, Memory>
     requires { at < length seats.old }
-    ensures { (x : ASeat) → slice_get seats.old at ≡ Some x → Steps (may_split seats.old x into set)
+    ensures { (x : ASeat) → slice_get seats.old at ≡ Some x → StepsAs (may_split seats.old x into set)
         (seats.new ≡ slice_set seats.old at (giving_up set x) ++ split_off lanes into set x ∷ []) (seats.new ≡ seats.old) result }
 {
     let seat = seat_at(seats, at);
@@ -305,7 +305,7 @@ fn take_over(alloc: Global, seat: &mut Seat, other: &mut Seat) -> Result<(), Mem
 /// The seat at a place takes over the seat `from`, which stands no more.
 pub fn join(alloc: Global, seats: &mut Items<Seat>, at: usize, from: u32) -> Result<bool, Memory>
     requires { at < length seats.old }
-    ensures { (x : ASeat) → slice_get seats.old at ≡ Some x → Steps (may_join seats.old x from) (Joins seats.old at x from seats.new)
+    ensures { (x : ASeat) → slice_get seats.old at ≡ Some x → StepsAs (may_join seats.old x from) (Joins seats.old at x from seats.new)
         (seats.new ≡ seats.old) result }
 {
     if seat_at(seats, at).number == from {

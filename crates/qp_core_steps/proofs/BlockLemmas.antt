@@ -13,9 +13,9 @@ use Rattle.qp_model.specs.declared.record.Rec.{Rec}
 use Rattle.qp_model.specs.declared.bodies.Body.TheVariants.{Back, New}
 use Rattle.qp_model.specs.Sites.{blocks_of}
 use Rattle.qp_model.specs.WordLaw.{is_pool, is_block}
-use Rattle.qp_table.specs.Counting.{Each, total, many, without}
+use Rattle.qp_table.specs.Counting.{Each, sum_over, many, without}
 use Rattle.qp_table.specs.Rule.{pool_at, block_at, event_word_at, bits_value, is_ref, is_spot, gives_of, fills_of, params_of, IsContent, Tells, Holds}
-use Rattle.qp_table.specs.After.{spot, ref, dropped, began, doubled, gave, filled, put_back}
+use Rattle.qp_table.specs.After.{spot, ref, reference_dropped, began, doubled, gave, filled, put_back}
 use Rattle.qp_table.specs.declared.view.Glance.{Glance}
 use Rattle.qp_table.specs.declared.view.Spot.{Spot}
 use Rattle.qp_table.specs.declared.view.PendingGive.{PendingGive}
@@ -25,18 +25,18 @@ use Rattle.qp_table.proofs.Tokens.{fresh-alone}
 use Rattle.qp_table.proofs.Bounds.{Ascends, pool-ascends, pool-count, map-small, bits-off}
 use Rattle.qp_table.proofs.Steps.{pool-of, begins, doubles, drops, gives, puts_back, block-below, x-count, y-is}
 use Rattle.qp_table.proofs.Contents.{fills_in}
-use Rattle.qp_core_steps.specs.Seats.{as_view, may_act, may_add, glance, noting}
-use Rattle.qp_core_steps.specs.Blocks.{added, number_of_word, low_in, lowest, bit_of, size_of, fits, has_left, is_unfinished, may_give, SeatGives, with_give, asks_for, may_fill, Fills, is_ref_to, is_give_over, has_ready, may_make, with_ref, Makes, may_drop, without_ref, Drops, may_back, Backs}
+use Rattle.qp_core_steps.specs.Seats.{as_view, seat_may_act, may_add, glance, noting}
+use Rattle.qp_core_steps.specs.Blocks.{added, number_of_word, low_in, lowest, bit_of, block_size, fits, has_left, is_unfinished, may_give, SeatGives, with_give, asks_for, may_fill, Fills, is_ref_to, is_give_over, has_ready, may_make, with_ref, SeatMakes, may_drop, without_ref, SeatDrops, may_back, Backs}
 use Rattle.qp_core_steps.specs.Keeps.{StepKeeps}
 use Rattle.qp_core_steps.specs.declared.seats.Seat.{Seat}
 use Rattle.qp_core_steps.proofs.ListLemmas.{any-many, none-many}
 use Rattle.qp_core_steps.proofs.Standing.{has-room}
 
 -- the parts of a test
-pub adds : (lanes : ℕ) (x : Seat) (t : Bool) → (may_add lanes x && t) ≡ true → ((nat_lt x.number lanes ≡ true) × (nat_lt (total (λ g. length g.recs) x.logs) 1000001 ≡ true)) × (t ≡ true)
-adds lanes x t h = let a = and_parts (may_add lanes x) t h in let b = and_parts (nat_lt x.number lanes) (nat_lt (total (λ g. length g.recs) x.logs) 1000001) a.0 in ((b.0, b.1), a.1)
+pub adds : (lanes : ℕ) (x : Seat) (t : Bool) → (may_add lanes x && t) ≡ true → ((nat_lt x.number lanes ≡ true) × (nat_lt (sum_over (λ g. length g.recs) x.logs) 1000001 ≡ true)) × (t ≡ true)
+adds lanes x t h = let a = and_parts (may_add lanes x) t h in let b = and_parts (nat_lt x.number lanes) (nat_lt (sum_over (λ g. length g.recs) x.logs) 1000001) a.0 in ((b.0, b.1), a.1)
 
-pub adds-two : (lanes : ℕ) (x : Seat) (t u : Bool) → ((may_add lanes x && t) && u) ≡ true → ((nat_lt x.number lanes ≡ true) × (nat_lt (total (λ g. length g.recs) x.logs) 1000001 ≡ true)) × (t ≡ true) × (u ≡ true)
+pub adds-two : (lanes : ℕ) (x : Seat) (t u : Bool) → ((may_add lanes x && t) && u) ≡ true → ((nat_lt x.number lanes ≡ true) × (nat_lt (sum_over (λ g. length g.recs) x.logs) 1000001 ≡ true)) × (t ≡ true) × (u ≡ true)
 adds-two lanes x t u h = let a = and_parts (may_add lanes x && t) u h in let b = adds lanes x t a.0 in (b.0, b.1, a.1)
 
 bit-is : (b : ℕ) → b < 32 → bit_of b ≡ 2 ^ b
@@ -151,7 +151,7 @@ module _ (sys : System) (lanes : ℕ) (words : List ℕ) (x : Seat) (own : nat_l
   along : (views : List View) (id : ℕ) (ws : List ℕ) (u : View) → ws ≡ words' → u ≡ as_view x' → Holds sys ws (set views id u) → Holds sys words' (set views id (as_view x'))
   along views id ws u e f h = subst (λ (z : List ℕ × View). Holds sys z.0 (set views id z.1)) (λ i. (e i, f i)) h
 
-  pub drop-keeps : (p b k : ℕ) → may_drop sys lanes x p b k ≡ true → Drops words x p b k words' x' → StepKeeps sys words x words' x'
+  pub drop-keeps : (p b k : ℕ) → may_drop sys lanes x p b k ≡ true → SeatDrops words x p b k words' x' → StepKeeps sys words x words' x'
   drop-keeps p b k may made views id holds at_id =
       let t = adds-two lanes x (is_block sys p b) (list_any (is_ref p b k) x.hands) may in
       let q : (is_block sys p b ≡ true) × (list_any (is_ref p b k) x.hands ≡ true) = (t.1, t.2) in
@@ -159,7 +159,7 @@ module _ (sys : System) (lanes : ℕ) (words : List ℕ) (x : Seat) (own : nat_l
       let w : ℕ = get_or words (block_at p b) 0 in
       let n : ℕ = get_or words (block_at p b) 0 + 4294967295 in
       let m : n ≡ added w 4294967295 = sym (mod-eq_of_lt (let l = block-below sys words views holds id (as_view x) at_id room x.by p b q.0 in omega arith)) in
-      let u : View = dropped (as_view x) (block_at p b) n made.0 p b k in
+      let u : View = reference_dropped (as_view x) (block_at p b) n made.0 p b k in
       let e : u ≡ as_view (without_ref x n made.0 p b k) = (λ i. record u { used = if-list (eqb (n % 4294967296) 0) x.used (spot p b (n / 4294967296)) i }) in
       along views id (set words (block_at p b) n) u (ap (set words (block_at p b)) m ∙ sym made.2) (e ∙ ((λ i. as_view (without_ref x (m i) made.0 p b k)) ∙ (λ i. as_view (sym made.3 i))))
       (drops sys words views holds id (as_view x) at_id room x.by p b q.0 k n made.0 made.1 (any-many (is_ref p b k) x.hands q.1) refl)
@@ -179,7 +179,7 @@ module _ (sys : System) (lanes : ℕ) (words : List ℕ) (x : Seat) (own : nat_l
       along views id (set words (pool_at p) n) u (ap (set words (pool_at p)) m ∙ sym made.2) ((λ i. as_view (record (noting made.0 (glance (pool_at p) (m i)) x) { used = without (is_spot p b) x.used })) ∙ (λ i. as_view (sym made.3 i)))
       (puts_back sys words views holds id v at_id room x.by p b q.0 n made.0 (made.1 ∙ back-to x.by p (number_of_word w) b (number_of_word (get_or words (block_at p b) 0)) (holds.now.refs p b).count c) (any-many (is_spot p b) x.used q.1) refl)
 
-  pub make-keeps : (p b : ℕ) → may_make sys lanes x p b ≡ true → Makes words x p b words' x' → StepKeeps sys words x words' x'
+  pub make-keeps : (p b : ℕ) → may_make sys lanes x p b ≡ true → SeatMakes words x p b words' x' → StepKeeps sys words x words' x'
   make-keeps p b may made views id holds at_id =
       let t = adds-two lanes x (is_block sys p b) (list_any (is_ref_to p b) x.hands || has_ready x p b) may in
       let v : View = as_view x in let room = has-room lanes x own t.0 in let w : ℕ = get_or words (block_at p b) 0 in
@@ -223,7 +223,7 @@ module _ (sys : System) (lanes : ℕ) (words : List ℕ) (x : Seat) (own : nat_l
 
   pub fill-keeps : (p b j n : ℕ) → may_fill lanes x p b j n ≡ true → Fills words x p b j n words' x' → StepKeeps sys words x words' x'
   fill-keeps p b j n may made views id holds at_id =
-      let v : View = as_view x in let t = and_parts (may_act lanes x) (list_any (asks_for x.fills p b j n) x.gives) may in
+      let v : View = as_view x in let t = and_parts (seat_may_act lanes x) (list_any (asks_for x.fills p b j n) x.gives) may in
       let beside = holds.events.beside id v at_id in
       let a = asking views id holds at_id p b j n x.gives beside.told t.1 in
       let mine : 0 < many (is_spot p b) x.fresh = (let g = beside.gives p b in let a4 = a.4 in omega arith) in
@@ -268,7 +268,7 @@ module _ (sys : System) (lanes : ℕ) (words : List ℕ) (x : Seat) (own : nat_l
 
       fits-parts : fits sys p sig pars ≡ true → IsContent sys sig pars
       fits-parts e =
-          let a = and_parts (((nat_le 4 sig && nat_lt sig (length sys.signals + 4)) && (length pars == params_of sys sig))) (nat_le (length pars) (size_of sys p)) e in
+          let a = and_parts (((nat_le 4 sig && nat_lt sig (length sys.signals + 4)) && (length pars == params_of sys sig))) (nat_le (length pars) (block_size sys p)) e in
           let c = and_parts (nat_le 4 sig && nat_lt sig (length sys.signals + 4)) (length pars == params_of sys sig) a.0 in
           let d = and_parts (nat_le 4 sig) (nat_lt sig (length sys.signals + 4)) c.0 in
           let d0 = d.0 in let d1 = d.1 in

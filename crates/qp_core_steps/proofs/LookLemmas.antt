@@ -14,7 +14,7 @@ use Rattle.qp_model.specs.declared.bodies.Body.TheVariants.{Short, NoBlock, Nil,
 use Rattle.qp_model.specs.Record.{Item, item_of, body_of}
 use Rattle.qp_model.specs.Sites.{ring_of, blocks_of}
 use Rattle.qp_model.specs.WordLaw.{is_pool, is_object}
-use Rattle.qp_table.specs.Counting.{total}
+use Rattle.qp_table.specs.Counting.{sum_over}
 use Rattle.qp_table.specs.Rule.{pool_at, queue_at, bits_value, Holds}
 use Rattle.qp_table.specs.After.{HasRoom, noted}
 use Rattle.qp_table.specs.declared.view.View.{View}
@@ -23,7 +23,7 @@ use Rattle.qp_table.specs.QueueLaws.{f_in, l_in, m_in}
 use Rattle.qp_table.proofs.Looks.{looks, looks_from, shows-short, shows-no_block, shows-seen, shows-nil, shows-full, shows-no_entry, shows-no_lifo}
 use Rattle.qp_core_steps.specs.Seats.{as_view, noting}
 use Rattle.qp_core_steps.specs.Blocks.{number_of_word, low_in}
-use Rattle.qp_core_steps.specs.Looks.{is_word, ones, counts_match, entries_in, states_pool, states_queue, states, shown, may_state, may_look, looked}
+use Rattle.qp_core_steps.specs.Looks.{is_word, ones, counts_match, entry_count, states_pool, states_queue, states, shown, may_state, may_look, looked}
 use Rattle.qp_core_steps.specs.Keeps.{StepKeeps}
 use Rattle.qp_core_steps.specs.declared.seats.Seat.{Seat}
 use Rattle.qp_core_steps.proofs.Standing.{has-room}
@@ -64,7 +64,7 @@ three a b c h = let x = and_parts (a && b) c h in let y = and_parts a b x.0 in (
 four : (a b c d : Bool) → (((a && b) && c) && d) ≡ true → (a ≡ true) × (b ≡ true) × (c ≡ true) × (d ≡ true)
 four a b c d h = let x = and_parts ((a && b) && c) d h in let y = three a b c x.0 in (y.0, y.1, y.2, x.1)
 
-module _ (sys : System) (lanes : ℕ) (words : List ℕ) (x : Seat) (own : nat_lt x.number lanes ≡ true → 0 < length x.logs) (views : List View) (id : ℕ) (holds : Holds sys words views) (at_id : get_elem? views id ≡ some (as_view x)) (r : Rec) (fits : (nat_lt x.number lanes ≡ true) × (nat_lt (total (λ g. length g.recs) x.logs) 1000001 ≡ true)) where
+module _ (sys : System) (lanes : ℕ) (words : List ℕ) (x : Seat) (own : nat_lt x.number lanes ≡ true → 0 < length x.logs) (views : List View) (id : ℕ) (holds : Holds sys words views) (at_id : get_elem? views id ≡ some (as_view x)) (r : Rec) (fits : (nat_lt x.number lanes ≡ true) × (nat_lt (sum_over (λ g. length g.recs) x.logs) 1000001 ≡ true)) where
   abbrev v : View
   v = as_view x
 
@@ -117,15 +117,15 @@ module _ (sys : System) (lanes : ℕ) (words : List ℕ) (x : Seat) (own : nat_l
       let t = three (r.of == 0) (p == q) (counts_match (word_of q) f l m) h in let c = counts q f l m t.2 in
       shows-seen sys words views holds id v at_id room q object r.of r (item-says r ∙ (ap (item r.of) is ∙ (λ i. item r.of (Seen (eqb-true p q t.1 i) (c.0 i) (c.1 i) (c.2 i)))))
   queue-shown q object (Full a f l m margin) is h =
-      let t = four (r.of == x.by) (a == q) (counts_match (word_of q) f l m) (nat_le (ring_of sys q + 1 - entries_in (word_of q)) margin) h in let c = counts q f l m t.2 in
-      let le : nat_le (ring_of sys q + 1 - entries_in (word_of q)) margin ≡ true = t.3 in let few : ring_of sys q + 1 - entries_in (word_of q) ≤ margin = grind (arith, nat_tests) in
+      let t = four (r.of == x.by) (a == q) (counts_match (word_of q) f l m) (nat_le (ring_of sys q + 1 - entry_count (word_of q)) margin) h in let c = counts q f l m t.2 in
+      let le : nat_le (ring_of sys q + 1 - entry_count (word_of q)) margin ≡ true = t.3 in let few : ring_of sys q + 1 - entry_count (word_of q) ≤ margin = grind (arith, nat_tests) in
       shows-full sys words views holds id v at_id room q object r.of margin r (item-says r ∙ (ap (item r.of) is ∙ (λ i. item r.of (Full (eqb-true a q t.1 i) (c.0 i) (c.1 i) (c.2 i) margin)))) few
   queue-shown q object (NoEntry a f l m) is h =
-      let t = four (r.of == x.by) (a == q) (counts_match (word_of q) f l m) (entries_in (word_of q) == ring_of sys q + 1) h in let c = counts q f l m t.2 in
-      shows-no_entry sys words views holds id v at_id room q object r.of r (item-says r ∙ (ap (item r.of) is ∙ (λ i. item r.of (NoEntry (eqb-true a q t.1 i) (c.0 i) (c.1 i) (c.2 i))))) (eqb-true (entries_in (word_of q)) (ring_of sys q + 1) t.3)
+      let t = four (r.of == x.by) (a == q) (counts_match (word_of q) f l m) (entry_count (word_of q) == ring_of sys q + 1) h in let c = counts q f l m t.2 in
+      shows-no_entry sys words views holds id v at_id room q object r.of r (item-says r ∙ (ap (item r.of) is ∙ (λ i. item r.of (NoEntry (eqb-true a q t.1 i) (c.0 i) (c.1 i) (c.2 i))))) (eqb-true (entry_count (word_of q)) (ring_of sys q + 1) t.3)
   queue-shown q object (NoLifo a f l m) is h =
-      let t = four (r.of == x.by) (a == q) (counts_match (word_of q) f l m) (entries_in (word_of q) == ring_of sys q + 1) h in let c = counts q f l m t.2 in
-      shows-no_lifo sys words views holds id v at_id room q object r.of r (item-says r ∙ (ap (item r.of) is ∙ (λ i. item r.of (NoLifo (eqb-true a q t.1 i) (c.0 i) (c.1 i) (c.2 i))))) (eqb-true (entries_in (word_of q)) (ring_of sys q + 1) t.3)
+      let t = four (r.of == x.by) (a == q) (counts_match (word_of q) f l m) (entry_count (word_of q) == ring_of sys q + 1) h in let c = counts q f l m t.2 in
+      shows-no_lifo sys words views holds id v at_id room q object r.of r (item-says r ∙ (ap (item r.of) is ∙ (λ i. item r.of (NoLifo (eqb-true a q t.1 i) (c.0 i) (c.1 i) (c.2 i))))) (eqb-true (entry_count (word_of q)) (ring_of sys q + 1) t.3)
   queue-shown q object _ is h = cc
 
 module _ (sys : System) (lanes : ℕ) (words : List ℕ) (x : Seat) (own : nat_lt x.number lanes ≡ true → 0 < length x.logs) where

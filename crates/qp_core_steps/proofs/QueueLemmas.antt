@@ -13,7 +13,7 @@ use Rattle.qp_model.specs.WordLaw.{is_block, is_object}
 use Rattle.qp_table.specs.Counting.{Each, many}
 use Rattle.qp_table.specs.Now.{Now}
 use Rattle.qp_table.specs.Rule.{queue_at, cell_at, mark_in, is_ref, InLine, Codable, code, entries_of, Run, is_item, is_place, on_queue, is_serve, Served, Holds}
-use Rattle.qp_table.specs.After.{InHand, place, claimed, put_first, laid, emptied, took, bump}
+use Rattle.qp_table.specs.After.{InHand, place, claimed, put_first, laid, emptied, view_took, bump}
 use Rattle.qp_table.specs.declared.view.SeatLog.{SeatLog}
 use Rattle.qp_table.specs.declared.view.CellPlace.{CellPlace}
 use Rattle.qp_table.specs.declared.view.Serve.{Serve}
@@ -24,9 +24,9 @@ use Rattle.qp_table.specs.QueueLaws.{f_in}
 use Rattle.qp_table.proofs.Lines.{item-is}
 use Rattle.qp_table.proofs.Cells.{lays, empties}
 use Rattle.qp_table.proofs.QueueSteps.{claims, frees, lifos}
-use Rattle.qp_core_steps.specs.Seats.{as_view, may_act, may_add, glance, noting}
+use Rattle.qp_core_steps.specs.Seats.{as_view, seat_may_act, may_add, glance, noting}
 use Rattle.qp_core_steps.specs.Blocks.{added}
-use Rattle.qp_core_steps.specs.Queues.{bumped, entry_for, in_hand, has_room as has_free, count_in, serves_it, may_claim, with_claim, SeatClaims, older, oldest, code_in, is_claimed, may_lay, Lays, front_at, before_at, entry_in, may_empty, Empties, may_free, Frees, may_lifo, Lifos}
+use Rattle.qp_core_steps.specs.Queues.{bumped, entry_for, in_hand, has_free_entry as has_free, operations_in, serves_it, may_claim, with_claim, SeatClaims, older, oldest_claim, code_of_entry, is_claimed, may_lay, Lays, front_at, before_at, decoded_entry, may_empty, SeatEmpties, may_free, Frees, may_lifo, Lifos}
 use Rattle.qp_core_steps.specs.Keeps.{StepKeeps}
 use Rattle.qp_core_steps.specs.declared.seats.Seat.{Seat}
 use Rattle.qp_core_steps.proofs.ListLemmas.{any-many, none-many}
@@ -68,7 +68,7 @@ code-case sys e k false is = let b = k.pooled (pos e.pool is) in large-code e.po
     pos zero e = cc
     pos (suc p) e = omega arith
 
-pub code-is : (sys : System) (e : Entry) → Codable sys e → code_in e ≡ code e
+pub code-is : (sys : System) (e : Entry) → Codable sys e → code_of_entry e ≡ code e
 code-is sys e k = code-case sys e k (e.pool == 0) refl
 
 read-static : (b : ℕ) → b < 65536 → ((9223372036854775808 + b) % 9223372036854775808 / 9007199254740992 ≡ 0) × ((9223372036854775808 + b) % 9223372036854775808 ≡ b)
@@ -78,7 +78,7 @@ read-pooled : (p b k : ℕ) → 0 < p → p < 16 → b < 32 → k < 281474976710
     (c % 9223372036854775808 / 9007199254740992 ≡ p) × (c % 9007199254740992 / 281474976710656 ≡ b) × (c % 281474976710656 ≡ k)
 read-pooled p b k pos lp lb lk = (omega arith, omega arith, omega arith)
 
-read-case : (sys : System) (e : Entry) → Codable sys e → (c : Bool) → (e.pool == 0) ≡ c → entry_in (9223372036854775808 + cond c e.block (e.pool * 9007199254740992 + e.block * 281474976710656 + e.name)) ≡ e
+read-case : (sys : System) (e : Entry) → Codable sys e → (c : Bool) → (e.pool == 0) ≡ c → decoded_entry (9223372036854775808 + cond c e.block (e.pool * 9007199254740992 + e.block * 281474976710656 + e.name)) ≡ e
 read-case sys e k true is =
     let z : e.pool ≡ 0 = eqb-true e.pool 0 is in let t = k.static z in let r = read-static e.block t.1 in
     rw (eq-eqb ((9223372036854775808 + e.block) % 9223372036854775808 / 9007199254740992) 0 r.0) (λ i. record { pool = sym z i; block = r.1 i; name = sym t.2 i })
@@ -91,13 +91,13 @@ read-case sys e k false is =
     positive zero e = cc
     positive (suc p) e = omega arith
 
-pub code-read : (sys : System) (e : Entry) (c : ℕ) → Codable sys e → c ≡ code e → entry_in c ≡ e
-code-read sys e c k is = ap entry_in is ∙ read-case sys e k (e.pool == 0) refl
+pub code-read : (sys : System) (e : Entry) (c : ℕ) → Codable sys e → c ≡ code e → decoded_entry c ≡ e
+code-read sys e c k is = ap decoded_entry is ∙ read-case sys e k (e.pool == 0) refl
 
 -- the oldest claim on a queue is one of the claims
-oldest-in : (a : ℕ) (xs : List CellPlace) (c : CellPlace) → oldest a xs ≡ Some c → (0 < many (is_place a c.cell c.entry) xs)
+oldest-in : (a : ℕ) (xs : List CellPlace) (c : CellPlace) → oldest_claim a xs ≡ Some c → (0 < many (is_place a c.cell c.entry) xs)
 oldest-in a [] c e = cc
-oldest-in a (x ∷ xs) c e = go (x.queue == a) refl (oldest a xs) refl (oldest-in a xs) e
+oldest-in a (x ∷ xs) c e = go (x.queue == a) refl (oldest_claim a xs) refl (oldest-in a xs) e
   where
     self : (y : CellPlace) → (y.queue == a) ≡ true → cond {A = ℕ} (is_place a y.cell y.entry y) 1 0 ≡ 1
     self y h = (λ i. cond {A = ℕ} ((h i && eq-eqb y.cell y.cell refl i) && ((eq-eqb y.entry.pool y.entry.pool refl i && eq-eqb y.entry.block y.entry.block refl i) && eq-eqb y.entry.name y.entry.name refl i)) 1 0)
@@ -108,7 +108,7 @@ oldest-in a (x ∷ xs) c e = go (x.queue == a) refl (oldest a xs) refl (oldest-i
     among : (z : CellPlace) (n : ℕ) → Some z ≡ Some c → 0 < many (is_place a z.cell z.entry) (x ∷ xs) → 0 < many (is_place a c.cell c.entry) (x ∷ xs)
     among z n h there = subst (λ (y : CellPlace). 0 < many (is_place a y.cell y.entry) (x ∷ xs)) (same z c h) there
 
-    pick : (o : Option CellPlace) → oldest a xs ≡ o → ((y : CellPlace) → oldest a xs ≡ Some y → 0 < many (is_place a y.cell y.entry) xs) → (x.queue == a) ≡ true → Some (older x o) ≡ Some c → 0 < many (is_place a c.cell c.entry) (x ∷ xs)
+    pick : (o : Option CellPlace) → oldest_claim a xs ≡ o → ((y : CellPlace) → oldest_claim a xs ≡ Some y → 0 < many (is_place a y.cell y.entry) xs) → (x.queue == a) ≡ true → Some (older x o) ≡ Some c → 0 < many (is_place a c.cell c.entry) (x ∷ xs)
     pick None is rest h e = among x 0 e (let one = self x h in omega arith)
     pick (Some y) is rest h e = choose (nat_le x.number y.number) e
       where
@@ -116,7 +116,7 @@ oldest-in a (x ∷ xs) c e = go (x.queue == a) refl (oldest a xs) refl (oldest-i
         choose true e = among x 0 e (let one = self x h in omega arith)
         choose false e = among y 0 e (let r = rest y is in omega arith)
 
-    go : (t : Bool) → (x.queue == a) ≡ t → (o : Option CellPlace) → oldest a xs ≡ o → ((y : CellPlace) → oldest a xs ≡ Some y → 0 < many (is_place a y.cell y.entry) xs) → cond t (Some (older x o)) o ≡ Some c → 0 < many (is_place a c.cell c.entry) (x ∷ xs)
+    go : (t : Bool) → (x.queue == a) ≡ t → (o : Option CellPlace) → oldest_claim a xs ≡ o → ((y : CellPlace) → oldest_claim a xs ≡ Some y → 0 < many (is_place a y.cell y.entry) xs) → cond t (Some (older x o)) o ≡ Some c → 0 < many (is_place a c.cell c.entry) (x ∷ xs)
     go true h o is rest e = pick o is rest h e
     go false h o is rest e = let r = rest c (is ∙ e) in omega arith
 
@@ -177,7 +177,7 @@ module _ (sys : System) (lanes : ℕ) (words : List ℕ) (x : Seat) (own : nat_l
   word-below : (views : List View) (holds : Holds sys words views) (a : ℕ) → IsTrue (is_object sys a) → get_or words (queue_at a) 0 < 9000000000000000000
   word-below views holds a object = let q = holds.shows.queues a object in let o = own-counts sys words views holds a object in let f = first-small sys words views holds a object in omega arith
 
-  number-is : (a n : ℕ) → mark_in (queue_at a) n ≡ count_in n
+  number-is : (a n : ℕ) → mark_in (queue_at a) n ≡ operations_in n
   number-is a n = high-mark (queue_at a) n (omega arith)
 
   free-is : (a : ℕ) → has_free sys a (get_or words (queue_at a) 0) ≡ true → let w = get_or words (queue_at a) 0 in w % 2097152 + w / 2097152 % 2097152 < w / 4398046511104 + (ring_of sys a + 1)
@@ -191,7 +191,7 @@ module _ (sys : System) (lanes : ℕ) (words : List ℕ) (x : Seat) (own : nat_l
       let e : Entry = entry_for p b k in
       let below = word-below views holds a t.1 in let m : added w 1 ≡ w + 1 = mod-eq_of_lt (omega arith) in
       let u : View = claimed v a (w + 1) made.0 (f_in w % (ring_of sys a + 1)) e (mark_in (queue_at a) (w + 1)) in
-      let number : mark_in (queue_at a) (w + 1) ≡ count_in (added w 1) = number-is a (w + 1) ∙ ap count_in (sym m) in
+      let number : mark_in (queue_at a) (w + 1) ≡ operations_in (added w 1) = number-is a (w + 1) ∙ ap operations_in (sym m) in
       along views id (set words (queue_at a) (w + 1)) u (ap (set words (queue_at a)) (sym m) ∙ sym made.2) ((λ i. as_view (with_claim x made.0 (glance (queue_at a) (sym m i)) a (f_in w % (ring_of sys a + 1)) e (number i))) ∙ (λ i. as_view (sym made.3 i)))
       (claims sys words views holds id v at_id a t.1 room x.by e made.0 made.1 (in-hand-is sys x p b k holds.fitting.signals t.2) (free-is a c.1))
 
@@ -216,18 +216,18 @@ module _ (sys : System) (lanes : ℕ) (words : List ℕ) (x : Seat) (own : nat_l
   before-same views holds a object = let l = line-shows sys words views holds a object in let r : ring_of sys a ≡ ring_of sys a + 1 - 1 = omega arith in
       λ i. (l.2 i + r i * l.1 i + r i) % (ring_of sys a + 1)
 
-  pub empty-keeps : (a : ℕ) → may_empty sys lanes words x a ≡ true → Empties sys words x a words' x' → StepKeeps sys words x words' x'
+  pub empty-keeps : (a : ℕ) → may_empty sys lanes words x a ≡ true → SeatEmpties sys words x a words' x' → StepKeeps sys words x words' x'
   empty-keeps a may made views id holds at_id =
       let v : View = as_view x in
       let j : ℕ = front_at sys a (get_or words (queue_at a) 0) in
-      let c = and_parts (((may_act lanes x && is_object sys a) && serves_it x a) && not (list_any (on_queue a) x.takes)) (not (get_or words (cell_at a j) 0 == 0)) may in
-      let d = and_parts ((may_act lanes x && is_object sys a) && serves_it x a) (not (list_any (on_queue a) x.takes)) c.0 in
-      let e = and_parts (may_act lanes x && is_object sys a) (serves_it x a) d.0 in
-      let o = and_parts (may_act lanes x) (is_object sys a) e.0 in
+      let c = and_parts (((seat_may_act lanes x && is_object sys a) && serves_it x a) && not (list_any (on_queue a) x.takes)) (not (get_or words (cell_at a j) 0 == 0)) may in
+      let d = and_parts ((seat_may_act lanes x && is_object sys a) && serves_it x a) (not (list_any (on_queue a) x.takes)) c.0 in
+      let e = and_parts (seat_may_act lanes x && is_object sys a) (serves_it x a) d.0 in
+      let o = and_parts (seat_may_act lanes x) (is_object sys a) e.0 in
       let full : get_or words (cell_at a j) 0 ≢ 0 = (λ z. let n = not-true (get_or words (cell_at a j) 0 == 0) c.1 in true≢false (sym (eq-eqb (get_or words (cell_at a j) 0) 0 z) ∙ n)) in
       let r = empties sys words views holds id v at_id a o.1 (own o.0) j (front-same views holds a o.1) full (any-many (is_serve a) x.serves e.1) (none-many (on_queue a) x.takes (not-true (list_any (on_queue a) x.takes) d.1)) in
       let u : View = emptied v a j r.0 in
-      let read : entry_in (get_or words (cell_at a j) 0) ≡ r.0 = code-read sys r.0 (get_or words (cell_at a j) 0) r.1 r.2 in
+      let read : decoded_entry (get_or words (cell_at a j) 0) ≡ r.0 = code-read sys r.0 (get_or words (cell_at a j) 0) r.1 r.2 in
       along views id (set words (cell_at a j) 0) u (sym made.0) ((λ i. as_view (record x { takes = x.takes ++ place a j (sym read i) 0 ∷ [] })) ∙ (λ i. as_view (sym made.1 i))) r.3
 
   pub free-keeps : (a : ℕ) → may_free sys lanes x a ≡ true → Frees words x a words' x' → StepKeeps sys words x words' x'
@@ -238,7 +238,7 @@ module _ (sys : System) (lanes : ℕ) (words : List ℕ) (x : Seat) (own : nat_l
       let home = holds.queues.home id v at_id in
       let serves : 0 < many (is_serve a) x.serves = (let y = home.taking a in let z = mine.1 in omega arith) in
       let below = word-below views holds a t.1 in let m : added w 4398046511104 ≡ w + 4398046511104 = mod-eq_of_lt (omega arith) in
-      let u : View = took v a (w + 4398046511104) made.0 q.cell q.entry in
+      let u : View = view_took v a (w + 4398046511104) made.0 q.cell q.entry in
       along views id (set words (queue_at a) (w + 4398046511104)) u (ap (set words (queue_at a)) (sym m) ∙ sym made.4)
       ((λ i. as_view (record (noting made.0 (glance (queue_at a) (sym m i)) x) { takes = u.takes; hands = u.hands; serves = sym (bump-same holds.now x.logs a 0 1 x.serves (omega arith) home.counts) i })) ∙ (λ i. as_view (sym made.5 i)))
       (frees sys words views holds id v at_id a t.1 room q.cell q.entry made.0 made.3 mine.0 serves)
@@ -253,7 +253,7 @@ module _ (sys : System) (lanes : ℕ) (words : List ℕ) (x : Seat) (own : nat_l
       let e : Entry = entry_for p b k in let home = holds.queues.home id v at_id in
       let below = word-below views holds a t.1 in let m : added w 2097152 ≡ w + 2097152 = mod-eq_of_lt (omega arith) in
       let u : View = put_first v a (w + 2097152) made.0 (before_at sys a w) e (mark_in (queue_at a) (w + 2097152)) in
-      let number : mark_in (queue_at a) (w + 2097152) ≡ count_in (added w 2097152) = number-is a (w + 2097152) ∙ ap count_in (sym m) in
+      let number : mark_in (queue_at a) (w + 2097152) ≡ operations_in (added w 2097152) = number-is a (w + 2097152) ∙ ap operations_in (sym m) in
       along views id (set words (queue_at a) (w + 2097152)) u (ap (set words (queue_at a)) (sym m) ∙ sym made.2)
       ((λ i. as_view (record (noting made.0 (glance (queue_at a) (sym m i)) x) { hands = u.hands; claims = x.claims ++ place a (before_at sys a w) e (number i) ∷ []; serves = sym (bump-same holds.now x.logs a 1 0 x.serves (omega arith) home.counts) i })) ∙ (λ i. as_view (sym made.3 i)))
       (lifos sys words views holds id v at_id a t.1 room (before_at sys a w) e made.0 made.1 (before-same views holds a t.1) (in-hand-is sys x p b k holds.fitting.signals g.1) (free-is a f.1)

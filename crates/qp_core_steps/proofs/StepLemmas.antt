@@ -3,7 +3,7 @@ use Rattle.std.proofs.Common.{◌≡◌, ℕ, ◌<◌, nat_lt, List, Bool, true,
 use Rattle.std.specs.declared.result.Result.{Result}
 use Rattle.qp_base.specs.declared.faults.Memory.{Memory}
 use Rattle.qp_model.specs.declared.systems.System.{System}
-use Rattle.qp_core_steps.specs.Words.{Steps}
+use Rattle.qp_core_steps.specs.Words.{StepsAs}
 use Rattle.qp_core_steps.specs.Keeps.{HasOwn, StepKeeps}
 use Rattle.qp_core_steps.specs.Steps.{may_step, Steps_one}
 use Rattle.qp_core_steps.specs.declared.seats.Seat.{Seat}
@@ -32,13 +32,13 @@ step-keeps sys lanes words x own words' x' (op.Lifo a p b k) may made = lifo-kee
 
 -- and so does one that isn't made
 pub step-kept : (sys : System) (lanes : ℕ) (words : List ℕ) (x : Seat) (words' : List ℕ) (x' : Seat) (step : Op) (r : Result Bool Memory)
-    → Steps (may_step sys lanes words x step) (Steps_one sys words x step words' x') ((words' ≡ words) × (x' ≡ x)) r → HasOwn lanes x → StepKeeps sys words x words' x'
+    → StepsAs (may_step sys lanes words x step) (Steps_one sys words x step words' x') ((words' ≡ words) × (x' ≡ x)) r → HasOwn lanes x → StepKeeps sys words x words' x'
 step-kept sys lanes words x words' x' step r made own = go r made
   where
     same : (words' ≡ words) × (x' ≡ x) → StepKeeps sys words x words' x'
     same e = subst (λ (z : List ℕ × Seat). StepKeeps sys words x z.0 z.1) (λ i. (sym e.0 i, sym e.1 i)) (rest-keeps sys lanes words x own)
 
-    go : (r : Result Bool Memory) → Steps (may_step sys lanes words x step) (Steps_one sys words x step words' x') ((words' ≡ words) × (x' ≡ x)) r → StepKeeps sys words x words' x'
+    go : (r : Result Bool Memory) → StepsAs (may_step sys lanes words x step) (Steps_one sys words x step words' x') ((words' ≡ words) × (x' ≡ x)) r → StepKeeps sys words x words' x'
     go (Ok true) h = step-keeps sys lanes words x own words' x' step (sym h.0) h.1
     go (Ok false) h = same h.1
     go (Err e) h = same h

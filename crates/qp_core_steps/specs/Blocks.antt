@@ -9,12 +9,12 @@ use Rattle.qp_model.specs.declared.bodies.Body.TheVariants.{Inc, Dec, Back, New}
 use Rattle.qp_model.specs.Record.{item_of}
 use Rattle.qp_model.specs.WordLaw.{is_pool, is_block}
 use Rattle.qp_table.specs.Counting.{without}
-use Rattle.qp_table.specs.Rule.{pool_at, block_at, event_word_at, is_ref, is_spot, gives_of, fills_of, is_value, params_of}
+use Rattle.qp_table.specs.Rule.{pool_at, block_at, event_word_at, is_ref, is_spot, gives_of, fills_of, fills_with, params_of}
 use Rattle.qp_table.specs.After.{spot, ref, begun_give, fills_for}
 use Rattle.qp_table.specs.declared.view.PendingGive.{PendingGive}
 use Rattle.qp_table.specs.declared.view.Fill.{Fill}
 use Rattle.qp_table.specs.declared.view.Glance.{Glance}
-use Rattle.qp_core_steps.specs.Seats.{may_act, may_add, glance, noting}
+use Rattle.qp_core_steps.specs.Seats.{seat_may_act, may_add, glance, noting}
 use Rattle.qp_core_steps.specs.declared.seats.Seat.{Seat}
 
 -- an addition to a word
@@ -38,12 +38,12 @@ abbrev pub bit_of : ℕ → ℕ
 bit_of b = if nat_lt b 64 then 2 ^ b else 0
 
 -- the size of a pool's blocks
-abbrev pub size_of : System → ℕ → ℕ
-size_of sys p = option_map_or (λ d. d.size) (slice_get sys.pools (p - 1)) 0
+abbrev pub block_size : System → ℕ → ℕ
+block_size sys p = option_map_or (λ d. d.size) (slice_get sys.pools (p - 1)) 0
 
 -- an event of the system for which the pool's blocks have room
 abbrev pub fits : System → ℕ → ℕ → List ℕ → Bool
-fits sys p sig pars = nat_le 4 sig && nat_lt sig (length sys.signals + 4) && (length pars == params_of sys sig) && nat_le (length pars) (size_of sys p)
+fits sys p sig pars = nat_le 4 sig && nat_lt sig (length sys.signals + 4) && (length pars == params_of sys sig) && nat_le (length pars) (block_size sys p)
 
 -- a give is finished where the beginning of the life was read and no word is left to be written
 abbrev pub has_left : List Fill → PendingGive → Bool
@@ -77,10 +77,10 @@ abbrev pub asks_for : List Fill → ℕ → ℕ → ℕ → ℕ → PendingGive 
 asks_for fills p b j n g = gives_of p b g && is_unfinished fills g && nat_lt j (length g.event) && (slice_index g.event j == n)
 
 abbrev pub may_fill : ℕ → Seat → ℕ → ℕ → ℕ → ℕ → Bool
-may_fill lanes x p b j n = may_act lanes x && list_any (asks_for x.fills p b j n) x.gives
+may_fill lanes x p b j n = seat_may_act lanes x && list_any (asks_for x.fills p b j n) x.gives
 
 abbrev pub Fills : List ℕ → Seat → ℕ → ℕ → ℕ → ℕ → List ℕ → Seat → Type 0
-Fills words x p b j n words' x' = (words' ≡ slice_set words (event_word_at p b j) n) × (x' ≡ record x { fills = without (is_value p b j n) x.fills })
+Fills words x p b j n words' x' = (words' ≡ slice_set words (event_word_at p b j) n) × (x' ≡ record x { fills = without (fills_with p b j n) x.fills })
 
 -- Make
 
@@ -97,14 +97,14 @@ abbrev pub may_make : System → ℕ → Seat → ℕ → ℕ → Bool
 may_make sys lanes x p b = may_add lanes x && is_block sys p b && (list_any (is_ref_to p b) x.hands || has_ready x p b)
 
 -- the first reference ends the give
-abbrev pub ended : Bool → ℕ → ℕ → Seat → Seat
-ended more p b y = if more then y else record y { fresh = without (is_spot p b) y.fresh; gives = without (gives_of p b) y.gives }
+abbrev pub give_ended : Bool → ℕ → ℕ → Seat → Seat
+give_ended more p b y = if more then y else record y { fresh = without (is_spot p b) y.fresh; gives = without (gives_of p b) y.gives }
 
 abbrev pub with_ref : Seat → Rec → Glance → ℕ → ℕ → ℕ → Seat
-with_ref x r g p b k = ended (list_any (is_ref_to p b) x.hands) p b (record (noting r g x) { hands = x.hands ++ ref p b k ∷ [] })
+with_ref x r g p b k = give_ended (list_any (is_ref_to p b) x.hands) p b (record (noting r g x) { hands = x.hands ++ ref p b k ∷ [] })
 
-abbrev pub Makes : List ℕ → Seat → ℕ → ℕ → List ℕ → Seat → Type 0
-Makes words x p b words' x' =
+abbrev pub SeatMakes : List ℕ → Seat → ℕ → ℕ → List ℕ → Seat → Type 0
+SeatMakes words x p b words' x' =
     let w = slice_index words (block_at p b) in
     (r : Rec) × (item_of r ≡ record { of = x.by; body = Inc p b (number_of_word w) }) × (words' ≡ slice_set words (block_at p b) (added w 4294967297)) × (x' ≡ with_ref x r (glance (block_at p b) (added w 4294967297)) p b (number_of_word w))
 
@@ -120,8 +120,8 @@ without_ref x n r p b k = record (noting r (glance (block_at p b) n) x) {
   used = x.used ++ (if low_in n == 0 then spot p b (number_of_word n) ∷ [] else []);
 }
 
-abbrev pub Drops : List ℕ → Seat → ℕ → ℕ → ℕ → List ℕ → Seat → Type 0
-Drops words x p b k words' x' =
+abbrev pub SeatDrops : List ℕ → Seat → ℕ → ℕ → ℕ → List ℕ → Seat → Type 0
+SeatDrops words x p b k words' x' =
     let w = slice_index words (block_at p b) in
     (r : Rec) × (item_of r ≡ record { of = x.by; body = Dec p b (number_of_word w) k }) × (words' ≡ slice_set words (block_at p b) (added w 4294967295)) × (x' ≡ without_ref x (added w 4294967295) r p b k)
 

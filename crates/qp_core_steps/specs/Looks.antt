@@ -15,8 +15,8 @@ use Rattle.qp_table.specs.Rule.{pool_at, block_at, queue_at}
 use Rattle.qp_table.specs.After.{reading}
 use Rattle.qp_table.specs.QueueLaws.{f_in, l_in, m_in}
 use Rattle.qp_table.specs.declared.view.Glance.{Glance}
-use Rattle.qp_core_steps.specs.Seats.{may_act, may_add, glance, seeing, noting}
-use Rattle.qp_core_steps.specs.Blocks.{number_of_word, low_in, size_of, is_ref_to}
+use Rattle.qp_core_steps.specs.Seats.{seat_may_act, may_add, glance, seat_seeing, noting}
+use Rattle.qp_core_steps.specs.Blocks.{number_of_word, low_in, block_size, is_ref_to}
 use Rattle.qp_core_steps.specs.Queues.{serves_it}
 use Rattle.qp_core_steps.specs.declared.seats.Seat.{Seat}
 
@@ -49,8 +49,8 @@ ones (suc n) m = m % 2 + ones n (m / 2)
 abbrev pub counts_match : ℕ → ℕ → ℕ → ℕ → Bool
 counts_match w f l m = (f == f_in w) && (l == l_in w) && (m == m_in w)
 
-abbrev pub entries_in : ℕ → ℕ
-entries_in w = f_in w + l_in w - m_in w
+abbrev pub entry_count : ℕ → ℕ
+entry_count w = f_in w + l_in w - m_in w
 
 -- a record for object o that shows a pool's word: at most the reserve is free, or nothing is
 abbrev pub states_pool : ℕ → ℕ → ℕ → ℕ → Body → Bool
@@ -62,9 +62,9 @@ states_pool w q by o _ = false
 abbrev pub states_queue : ℕ → ℕ → ℕ → ℕ → ℕ → Body → Bool
 states_queue ring w q by o (Nil f l m) = (o == by) && (o == q) && counts_match w f l m && (f_in w + l_in w == m_in w)
 states_queue ring w q by o (Seen p f l m) = (o == 0) && (p == q) && counts_match w f l m
-states_queue ring w q by o (Full a f l m margin) = (o == by) && (a == q) && counts_match w f l m && nat_le (ring + 1 - entries_in w) margin
-states_queue ring w q by o (NoEntry a f l m) = (o == by) && (a == q) && counts_match w f l m && (entries_in w == ring + 1)
-states_queue ring w q by o (NoLifo a f l m) = (o == by) && (a == q) && counts_match w f l m && (entries_in w == ring + 1)
+states_queue ring w q by o (Full a f l m margin) = (o == by) && (a == q) && counts_match w f l m && nat_le (ring + 1 - entry_count w) margin
+states_queue ring w q by o (NoEntry a f l m) = (o == by) && (a == q) && counts_match w f l m && (entry_count w == ring + 1)
+states_queue ring w q by o (NoLifo a f l m) = (o == by) && (a == q) && counts_match w f l m && (entry_count w == ring + 1)
 states_queue ring w q by o _ = false
 
 abbrev pub states : System → List ℕ → Word → ℕ → Rec → Bool
@@ -88,13 +88,13 @@ shown words w = glance (place_in w) (word_in words w)
 -- a look at a block's word reads where the life of a fresh block begins
 abbrev pub looked : List ℕ → Seat → Word → Option Rec → Seat
 looked words x w (Some r) = noting r (shown words w) x
-looked words x (word.Block p b) None = record (seeing (shown words (word.Block p b)) x) { gives = reading p b x.gives }
-looked words x w None = seeing (shown words w) x
+looked words x (word.Block p b) None = record (seat_seeing (shown words (word.Block p b)) x) { gives = reading p b x.gives }
+looked words x w None = seat_seeing (shown words w) x
 
 -- Read and Peek
 
 abbrev pub may_read : System → Seat → ℕ → ℕ → ℕ → Bool
-may_read sys x p b j = is_block sys p b && list_any (is_ref_to p b) x.hands && nat_le j (size_of sys p)
+may_read sys x p b j = is_block sys p b && list_any (is_ref_to p b) x.hands && nat_le j (block_size sys p)
 
 abbrev pub may_peek : System → ℕ → Seat → ℕ → Bool
-may_peek sys lanes x a = may_act lanes x && is_object sys a && serves_it x a
+may_peek sys lanes x a = seat_may_act lanes x && is_object sys a && serves_it x a

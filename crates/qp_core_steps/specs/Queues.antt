@@ -12,12 +12,12 @@ use Rattle.qp_model.specs.Sites.{ring_of}
 use Rattle.qp_model.specs.WordLaw.{is_block, is_object}
 use Rattle.qp_table.specs.Counting.{without}
 use Rattle.qp_table.specs.Rule.{queue_at, cell_at, is_ref, is_place, is_serve, on_queue}
-use Rattle.qp_table.specs.After.{place, spent, gained}
+use Rattle.qp_table.specs.After.{place, hands_without, gained}
 use Rattle.qp_table.specs.declared.view.CellPlace.{CellPlace}
 use Rattle.qp_table.specs.declared.view.Glance.{Glance}
 use Rattle.qp_table.specs.declared.view.Serve.{Serve}
 use Rattle.qp_table.specs.QueueLaws.{f_in, l_in, m_in}
-use Rattle.qp_core_steps.specs.Seats.{may_act, may_add, glance, noting}
+use Rattle.qp_core_steps.specs.Seats.{seat_may_act, may_add, glance, noting}
 use Rattle.qp_core_steps.specs.Blocks.{added}
 use Rattle.qp_core_steps.specs.declared.seats.Seat.{Seat}
 
@@ -30,12 +30,12 @@ abbrev pub in_hand : System → Seat → ℕ → ℕ → ℕ → Bool
 in_hand sys x p b k = if p == 0 then (b == 0) && is_static sys k else is_block sys p b && list_any (is_ref p b k) x.hands
 
 -- at these counts an entry of the ring and the front is free
-abbrev pub has_room : System → ℕ → ℕ → Bool
-has_room sys a w = nat_lt (f_in w + l_in w) (m_in w + (ring_of sys a + 1))
+abbrev pub has_free_entry : System → ℕ → ℕ → Bool
+has_free_entry sys a w = nat_lt (f_in w + l_in w) (m_in w + (ring_of sys a + 1))
 
 -- how many operations a queue's word shows
-abbrev pub count_in : ℕ → ℕ
-count_in w = f_in w + l_in w + m_in w
+abbrev pub operations_in : ℕ → ℕ
+operations_in w = f_in w + l_in w + m_in w
 
 abbrev pub serves_it : Seat → ℕ → Bool
 serves_it x a = list_any (is_serve a) x.serves
@@ -50,16 +50,16 @@ bumped a l m xs = map (serve_with a l m) xs
 -- Claim
 
 abbrev pub may_claim : System → ℕ → List ℕ → Seat → ℕ → ℕ → ℕ → ℕ → Bool
-may_claim sys lanes words x a p b k = may_add lanes x && is_object sys a && in_hand sys x p b k && has_room sys a (slice_index words (queue_at a))
+may_claim sys lanes words x a p b k = may_add lanes x && is_object sys a && in_hand sys x p b k && has_free_entry sys a (slice_index words (queue_at a))
 
 abbrev pub with_claim : Seat → Rec → Glance → ℕ → ℕ → Entry → ℕ → Seat
-with_claim x r g a j e n = record (noting r g x) { hands = spent e x.hands; claims = x.claims ++ place a j e n ∷ [] }
+with_claim x r g a j e n = record (noting r g x) { hands = hands_without e x.hands; claims = x.claims ++ place a j e n ∷ [] }
 
 abbrev pub SeatClaims : System → List ℕ → Seat → ℕ → ℕ → ℕ → ℕ → List ℕ → Seat → Type 0
 SeatClaims sys words x a p b k words' x' =
     let w = slice_index words (queue_at a) in
     (r : Rec) × (item_of r ≡ record { of = x.by; body = Post a (f_in w + 1) (l_in w) (m_in w) (entry_for p b k) }) × (words' ≡ slice_set words (queue_at a) (added w 1))
-    × (x' ≡ with_claim x r (glance (queue_at a) (added w 1)) a (f_in w % (ring_of sys a + 1)) (entry_for p b k) (count_in (added w 1)))
+    × (x' ≡ with_claim x r (glance (queue_at a) (added w 1)) a (f_in w % (ring_of sys a + 1)) (entry_for p b k) (operations_in (added w 1)))
 
 -- Lay
 
@@ -68,24 +68,24 @@ abbrev pub older : CellPlace → Option CellPlace → CellPlace
 older x None = x
 older x (Some y) = if nat_le x.number y.number then x else y
 
-abbrev pub oldest : ℕ → List CellPlace → Option CellPlace
-oldest a [] = None
-oldest a (x ∷ xs) = if x.queue == a then Some (older x (oldest a xs)) else oldest a xs
+abbrev pub oldest_claim : ℕ → List CellPlace → Option CellPlace
+oldest_claim a [] = None
+oldest_claim a (x ∷ xs) = if x.queue == a then Some (older x (oldest_claim a xs)) else oldest_claim a xs
 
 -- an entry as a cell has it
-abbrev pub code_in : Entry → ℕ
-code_in e = ((if e.pool == 0 then e.block else ((e.pool * 9007199254740992) % 18446744073709551616 + (e.block * 281474976710656) % 18446744073709551616) % 18446744073709551616 + e.name) % 18446744073709551616 + 9223372036854775808) % 18446744073709551616
+abbrev pub code_of_entry : Entry → ℕ
+code_of_entry e = ((if e.pool == 0 then e.block else ((e.pool * 9007199254740992) % 18446744073709551616 + (e.block * 281474976710656) % 18446744073709551616) % 18446744073709551616 + e.name) % 18446744073709551616 + 9223372036854775808) % 18446744073709551616
 
 abbrev pub is_claimed : Option CellPlace → Bool
 is_claimed None = false
 is_claimed (Some c) = true
 
 abbrev pub may_lay : ℕ → Seat → ℕ → Bool
-may_lay lanes x a = may_act lanes x && is_claimed (oldest a x.claims)
+may_lay lanes x a = seat_may_act lanes x && is_claimed (oldest_claim a x.claims)
 
 abbrev pub Lays : List ℕ → Seat → ℕ → List ℕ → Seat → Type 0
 Lays words x a words' x' =
-    (c : CellPlace) × (oldest a x.claims ≡ Some c) × (words' ≡ slice_set words (cell_at a (c.cell % 256)) (code_in c.entry)) × (x' ≡ record x { claims = without (is_place a c.cell c.entry) x.claims })
+    (c : CellPlace) × (oldest_claim a x.claims ≡ Some c) × (words' ≡ slice_set words (cell_at a (c.cell % 256)) (code_of_entry c.entry)) × (x' ≡ record x { claims = without (is_place a c.cell c.entry) x.claims })
 
 -- Empty
 
@@ -97,20 +97,20 @@ abbrev pub before_at : System → ℕ → ℕ → ℕ
 before_at sys a w = (m_in w + ring_of sys a * l_in w + ring_of sys a) % (ring_of sys a + 1)
 
 -- the entry of which a cell has the code
-abbrev pub entry_in : ℕ → Entry
-entry_in c = if (c % 9223372036854775808) / 9007199254740992 == 0 then record { pool = 0; block = c % 9223372036854775808; name = 0 } else
+abbrev pub decoded_entry : ℕ → Entry
+decoded_entry c = if (c % 9223372036854775808) / 9007199254740992 == 0 then record { pool = 0; block = c % 9223372036854775808; name = 0 } else
     record { pool = (c % 9223372036854775808) / 9007199254740992; block = c % 9007199254740992 / 281474976710656; name = c % 281474976710656 }
 
 abbrev pub front_cell_of : System → List ℕ → ℕ → ℕ
 front_cell_of sys words a = cell_at a (front_at sys a (slice_index words (queue_at a)))
 
 abbrev pub may_empty : System → ℕ → List ℕ → Seat → ℕ → Bool
-may_empty sys lanes words x a = may_act lanes x && is_object sys a && serves_it x a && not (list_any (on_queue a) x.takes) && not (slice_index words (front_cell_of sys words a) == 0)
+may_empty sys lanes words x a = seat_may_act lanes x && is_object sys a && serves_it x a && not (list_any (on_queue a) x.takes) && not (slice_index words (front_cell_of sys words a) == 0)
 
-abbrev pub Empties : System → List ℕ → Seat → ℕ → List ℕ → Seat → Type 0
-Empties sys words x a words' x' =
+abbrev pub SeatEmpties : System → List ℕ → Seat → ℕ → List ℕ → Seat → Type 0
+SeatEmpties sys words x a words' x' =
     let j = front_at sys a (slice_index words (queue_at a)) in
-    (words' ≡ slice_set words (cell_at a j) 0) × (x' ≡ record x { takes = x.takes ++ place a j (entry_in (slice_index words (cell_at a j))) 0 ∷ [] })
+    (words' ≡ slice_set words (cell_at a j) 0) × (x' ≡ record x { takes = x.takes ++ place a j (decoded_entry (slice_index words (cell_at a j))) 0 ∷ [] })
 
 -- Free
 
@@ -129,13 +129,13 @@ Frees words x a words' x' =
 -- Lifo
 
 abbrev pub may_lifo : System → ℕ → List ℕ → Seat → ℕ → ℕ → ℕ → ℕ → Bool
-may_lifo sys lanes words x a p b k = may_add lanes x && is_object sys a && serves_it x a && not (list_any (on_queue a) x.takes) && in_hand sys x p b k && has_room sys a (slice_index words (queue_at a))
+may_lifo sys lanes words x a p b k = may_add lanes x && is_object sys a && serves_it x a && not (list_any (on_queue a) x.takes) && in_hand sys x p b k && has_free_entry sys a (slice_index words (queue_at a))
 
 abbrev pub with_lifo : Seat → Rec → Glance → ℕ → ℕ → Entry → ℕ → Seat
-with_lifo x r g a j e n = record (noting r g x) { hands = spent e x.hands; claims = x.claims ++ place a j e n ∷ []; serves = bumped a 1 0 x.serves }
+with_lifo x r g a j e n = record (noting r g x) { hands = hands_without e x.hands; claims = x.claims ++ place a j e n ∷ []; serves = bumped a 1 0 x.serves }
 
 abbrev pub Lifos : System → List ℕ → Seat → ℕ → ℕ → ℕ → ℕ → List ℕ → Seat → Type 0
 Lifos sys words x a p b k words' x' =
     let w = slice_index words (queue_at a) in
     (r : Rec) × (item_of r ≡ record { of = a; body = Lifo (f_in w) (l_in w + 1) (m_in w) (entry_for p b k) }) × (words' ≡ slice_set words (queue_at a) (added w 2097152))
-    × (x' ≡ with_lifo x r (glance (queue_at a) (added w 2097152)) a (before_at sys a w) (entry_for p b k) (count_in (added w 2097152)))
+    × (x' ≡ with_lifo x r (glance (queue_at a) (added w 2097152)) a (before_at sys a w) (entry_for p b k) (operations_in (added w 2097152)))

@@ -5,6 +5,6 @@ use Rattle.std.specs.Bool.{MatchBool}
 use Rattle.qp_base.specs.declared.faults.Memory.{Memory}
 
 -- `may` is where the step is allowed, and `made` what it does; `same` says that nothing changed
-abbrev pub Steps : Bool → Type 0 → Type 0 → Result Bool Memory → Type 0
-Steps may made same (Ok b) = (b ≡ may) × MatchBool b made same
-Steps may made same (Err e) = same
+abbrev pub StepsAs : Bool → Type 0 → Type 0 → Result Bool Memory → Type 0
+StepsAs may made same (Ok b) = (b ≡ may) × MatchBool b made same
+StepsAs may made same (Err e) = same

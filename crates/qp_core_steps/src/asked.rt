@@ -2,7 +2,7 @@
 
 ghost use Rattle.std.specs.Prelude.{◌≡◌, ◌≤◌};
 ghost use Rattle.qp_model.specs.WordLaw.{is_pool, is_block, is_object};
-ghost use Rattle.qp_core_steps.specs.Blocks.{lowest, fits, size_of, bit_of};
+ghost use Rattle.qp_core_steps.specs.Blocks.{lowest, fits, block_size, bit_of};
 
 use qp_base::Ev;
 use qp_model::System;
@@ -32,7 +32,7 @@ pub fn has_object(sys: &System, a: u8) -> bool
 
 /// The size of a pool's blocks, 0 where there is no such pool.
 pub fn size_of(sys: &System, p: u8) -> u8
-    ensures { result ≡ size_of sys.now p }
+    ensures { result ≡ block_size sys.now p }
 {
     match sys.pools.items.get(usize::from(p.saturating_sub(1))) {
         Some(pool) => pool.size,

@@ -4,8 +4,8 @@ ghost use Rattle.std.specs.Prelude.{◌≡◌, ◌+◌, ◌≤◌, ◌==◌, ◌
 ghost use Rattle.std.specs.Option.{option_to_list};
 ghost use Rattle.qp_table.specs.After.{fills_for, spot};
 ghost use Rattle.qp_core_steps.specs.Seats.{noting};
-ghost use Rattle.qp_core_steps.specs.Words.{Steps};
-ghost use Rattle.qp_core_steps.specs.Blocks.{low_in, number_of_word, may_give, with_give, SeatGives, may_drop, without_ref, Drops, may_back, Backs, may_fill, Fills, ended, may_make, Makes};
+ghost use Rattle.qp_core_steps.specs.Words.{StepsAs};
+ghost use Rattle.qp_core_steps.specs.Blocks.{low_in, number_of_word, may_give, with_give, SeatGives, may_drop, without_ref, SeatDrops, may_back, Backs, may_fill, Fills, give_ended, may_make, SeatMakes};
 
 use crate::asked::{bit_of, fits, has_block, has_pool, lowest};
 use crate::items::{Items, grown, take_out};
@@ -118,7 +118,7 @@ pub fn give(
     p: u8,
     ev: &Ev,
 ) -> Result<bool, Memory>
-    ensures { Steps (may_give sys.now lanes words.old seat.old p ev.now.sig ev.now.pars.items)
+    ensures { StepsAs (may_give sys.now lanes words.old seat.old p ev.now.sig ev.now.pars.items)
         (SeatGives words.old seat.old p ev.now.sig ev.now.pars.items words.new seat.new) ((words.new ≡ words.old) × (seat.new ≡ seat.old))
         result }
 {
@@ -139,7 +139,7 @@ pub fn give(
 
 /// Writes an event word of a give under way.
 pub fn fill(lanes: u32, words: &mut Words, seat: &mut Seat, p: u8, b: u8, j: u8, value: u64) -> bool
-    ensures { Steps (may_fill lanes seat.old p b j value) (Fills words.old seat.old p b j value words.new seat.new)
+    ensures { StepsAs (may_fill lanes seat.old p b j value) (Fills words.old seat.old p b j value words.new seat.new)
         ((words.new ≡ words.old) × (seat.new ≡ seat.old)) (Ok result) }
 {
     if !(seat.number < lanes && seat.is_asked_for(p, b, j, value)) {
@@ -162,7 +162,7 @@ fn may_make(sys: &System, lanes: u32, seat: &Seat, p: u8, b: u8) -> bool
 
 /// Ends the block's give, where this was its first reference.
 fn end_give(seat: &mut Seat, more: bool, p: u8, b: u8)
-    ensures { seat.new ≡ ended more p b seat.old }
+    ensures { seat.new ≡ give_ended more p b seat.old }
 {
     if more {
         return;
@@ -193,7 +193,7 @@ pub fn make(
     p: u8,
     b: u8,
 ) -> Result<bool, Memory>
-    ensures { Steps (may_make sys.now lanes seat.old p b) (Makes words.old seat.old p b words.new seat.new)
+    ensures { StepsAs (may_make sys.now lanes seat.old p b) (SeatMakes words.old seat.old p b words.new seat.new)
         ((words.new ≡ words.old) × (seat.new ≡ seat.old)) result }
 {
     let may = may_make(sys, lanes, seat, p, b);
@@ -269,7 +269,7 @@ pub fn drop_reference(
     b: u8,
     name: u64,
 ) -> Result<bool, Memory>
-    ensures { Steps (may_drop sys.now lanes seat.old p b name) (Drops words.old seat.old p b name words.new seat.new)
+    ensures { StepsAs (may_drop sys.now lanes seat.old p b name) (SeatDrops words.old seat.old p b name words.new seat.new)
         ((words.new ≡ words.old) × (seat.new ≡ seat.old)) result }
 {
     let may = may_drop(sys, lanes, seat, p, b, name);
@@ -301,7 +301,7 @@ pub fn put_back(
     p: u8,
     b: u8,
 ) -> Result<bool, Memory>
-    ensures { Steps (may_back sys.now lanes seat.old p b) (Backs words.old seat.old p b words.new seat.new)
+    ensures { StepsAs (may_back sys.now lanes seat.old p b) (Backs words.old seat.old p b words.new seat.new)
         ((words.new ≡ words.old) × (seat.new ≡ seat.old)) result }
 {
     let may = may_back(sys, lanes, seat, p, b);

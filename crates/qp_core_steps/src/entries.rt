@@ -2,7 +2,7 @@
 
 ghost use Rattle.std.specs.Prelude.{◌≡◌};
 ghost use Rattle.qp_table.specs.QueueLaws.{f_in, l_in, m_in};
-ghost use Rattle.qp_core_steps.specs.Queues.{entry_for, has_room, count_in, code_in, front_at, before_at, entry_in};
+ghost use Rattle.qp_core_steps.specs.Queues.{entry_for, has_free_entry, operations_in, code_of_entry, front_at, before_at, decoded_entry};
 
 use qp_model::{Entry, System};
 
@@ -35,7 +35,7 @@ pub fn takes_in(word: u64) -> u32
 
 /// How many operations a queue's word shows.
 pub fn count_in(word: u64) -> u64
-    ensures { result ≡ count_in word }
+    ensures { result ≡ operations_in word }
 {
     u64::from(posts_in(word)) + u64::from(lifos_in(word)) + u64::from(takes_in(word))
 }
@@ -61,7 +61,7 @@ pub fn entry_for(p: u8, b: u8, name: u64) -> Entry
 
 /// Whether an entry is free at these counts.
 pub fn has_room(sys: &System, a: u8, word: u64) -> bool
-    ensures { result ≡ has_room sys.now a word }
+    ensures { result ≡ has_free_entry sys.now a word }
 {
     u64::from(posts_in(word)) + u64::from(lifos_in(word))
         < u64::from(takes_in(word)) + u64::from(sys.ring_of(u64::from(a))) + 1
@@ -85,7 +85,7 @@ pub fn before_at(sys: &System, a: u8, word: u64) -> u16
 
 /// An entry as a cell has it.
 pub fn code_in(e: Entry) -> u64
-    ensures { result ≡ code_in e }
+    ensures { result ≡ code_of_entry e }
 {
     let low = if e.pool == 0 {
         e.block
@@ -100,7 +100,7 @@ pub fn code_in(e: Entry) -> u64
 
 /// The entry of which a cell has the code.
 pub fn entry_in(code: u64) -> Entry
-    ensures { result ≡ entry_in code }
+    ensures { result ≡ decoded_entry code }
 {
     let low = code % (1 << 63);
     let pool = low / (1 << 53);

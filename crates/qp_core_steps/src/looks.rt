@@ -3,10 +3,10 @@
 ghost use Rattle.std.specs.Prelude.{◌≡◌, ◌+◌, ◌≤◌, ◌==◌, ◌&&◌, ◌++◌, None, Ok, OnOk, OnErr};
 ghost use Rattle.qp_model.specs.Record.{body_of};
 ghost use Rattle.qp_table.specs.After.{reading};
-ghost use Rattle.qp_core_steps.specs.Words.{Steps};
+ghost use Rattle.qp_core_steps.specs.Words.{StepsAs};
 ghost use Rattle.qp_table.specs.QueueLaws.{f_in, l_in, m_in};
 ghost use Rattle.qp_core_steps.specs.Seats.{may_add, noting};
-ghost use Rattle.qp_core_steps.specs.Looks.{is_word, ones, counts_match, entries_in, states_pool, states_queue, states, shown, may_look, looked, may_read, may_peek};
+ghost use Rattle.qp_core_steps.specs.Looks.{is_word, ones, counts_match, entry_count, states_pool, states_queue, states, shown, may_look, looked, may_read, may_peek};
 
 use crate::asked::{has_block, has_object, has_pool, size_of};
 use crate::blocks::ONE;
@@ -81,7 +81,7 @@ fn counts_match(word: u64, f: u64, l: u64, m: u64) -> bool
 
 /// How many entries a queue's word counts.
 fn entries_in(word: u64) -> u64
-    ensures { result ≡ entries_in word }
+    ensures { result ≡ entry_count word }
 {
     let posts = u64::from(posts_in(word)) + u64::from(lifos_in(word));
     posts.saturating_sub(u64::from(takes_in(word)))
@@ -180,7 +180,7 @@ fn show(
     word: Word,
     rec: &Rec,
 ) -> Result<bool, Memory>
-    ensures { Steps (may_add lanes seat.old && states sys.now words.now word seat.old.by rec.now) (seat.new ≡ noting rec.now (shown words.now word) seat.old)
+    ensures { StepsAs (may_add lanes seat.old && states sys.now words.now word seat.old.by rec.now) (seat.new ≡ noting rec.now (shown words.now word) seat.old)
         (seat.new ≡ seat.old) result }
 {
     if !(seat.may_add(lanes) && states(sys, words, word, seat.by, rec)) {
@@ -214,7 +214,7 @@ pub fn look(
     word: Word,
     rec: &Option<Rec>,
 ) -> Result<bool, Memory>
-    ensures { Steps (may_look sys.now lanes words.now seat.old word rec.now) (seat.new ≡ looked words.now seat.old word rec.now)
+    ensures { StepsAs (may_look sys.now lanes words.now seat.old word rec.now) (seat.new ≡ looked words.now seat.old word rec.now)
         (seat.new ≡ seat.old) result }
 {
     if !is_word(sys, word) {

@@ -5,9 +5,9 @@ ghost use Rattle.std.specs.Option.{option_to_list};
 ghost use Rattle.std.specs.List.{list_any, find, position};
 ghost use Rattle.qp_table.specs.Counting.{without};
 ghost use Rattle.qp_table.specs.Rule.{is_serve, on_queue, is_place, is_entry};
-ghost use Rattle.qp_table.specs.After.{spent};
-ghost use Rattle.qp_core_steps.specs.Words.{Steps};
-ghost use Rattle.qp_core_steps.specs.Queues.{serve_with, bumped, in_hand, serves_it, may_claim, with_claim, SeatClaims, oldest, may_lay, Lays, may_empty, Empties, may_free, without_take, Frees, may_lifo, Lifos};
+ghost use Rattle.qp_table.specs.After.{hands_without};
+ghost use Rattle.qp_core_steps.specs.Words.{StepsAs};
+ghost use Rattle.qp_core_steps.specs.Queues.{serve_with, bumped, in_hand, serves_it, may_claim, with_claim, SeatClaims, oldest_claim, may_lay, Lays, may_empty, SeatEmpties, may_free, without_take, Frees, may_lifo, Lifos};
 
 use crate::asked::{has_block, has_object};
 use crate::entries::{
@@ -56,7 +56,7 @@ fn entry_place(hands: &Items<Entry>, e: Entry) -> Option<usize>
 
 /// Takes an entry that isn't static out of the hands.
 fn spend(hands: &mut Items<Entry>, e: Entry)
-    ensures { hands.new ≡ spent e hands.old }
+    ensures { hands.new ≡ hands_without e hands.old }
 {
     if e.pool != 0 {
         let at = entry_place(hands, e);
@@ -133,7 +133,7 @@ pub fn claim(
     b: u8,
     name: u64,
 ) -> Result<bool, Memory>
-    ensures { Steps (may_claim sys.now lanes words.old seat.old a p b name) (SeatClaims sys.now words.old seat.old a p b name words.new
+    ensures { StepsAs (may_claim sys.now lanes words.old seat.old a p b name) (SeatClaims sys.now words.old seat.old a p b name words.new
         seat.new) ((words.new ≡ words.old) × (seat.new ≡ seat.old)) result }
 {
     let may = may_claim(sys, lanes, words, seat, a, p, b, name);
@@ -159,7 +159,7 @@ pub fn claim(
 
 /// The oldest of these places on the queue.
 fn oldest(places: &[CellPlace], a: u8) -> Option<CellPlace>
-    ensures { result ≡ oldest a places.now }
+    ensures { result ≡ oldest_claim a places.now }
 {
     match places {
         [] => None,
@@ -178,7 +178,7 @@ fn oldest(places: &[CellPlace], a: u8) -> Option<CellPlace>
 
 /// Writes the cell of the seat's oldest claim on the queue.
 pub fn lay(lanes: u32, words: &mut Words, seat: &mut Seat, a: u8) -> bool
-    ensures { Steps (may_lay lanes seat.old a) (Lays words.old seat.old a words.new seat.new)
+    ensures { StepsAs (may_lay lanes seat.old a) (Lays words.old seat.old a words.new seat.new)
         ((words.new ≡ words.old) × (seat.new ≡ seat.old)) (Ok result) }
 {
     if seat.number >= lanes {
@@ -213,7 +213,7 @@ pub fn empty(
     seat: &mut Seat,
     a: u8,
 ) -> Result<bool, Memory>
-    ensures { Steps (may_empty sys.now lanes words.old seat.old a) (Empties sys.now words.old seat.old a words.new seat.new)
+    ensures { StepsAs (may_empty sys.now lanes words.old seat.old a) (SeatEmpties sys.now words.old seat.old a words.new seat.new)
         ((words.new ≡ words.old) × (seat.new ≡ seat.old)) result }
 {
     let may = may_empty(sys, lanes, words, seat, a);
@@ -316,7 +316,7 @@ pub fn free(
     seat: &mut Seat,
     a: u8,
 ) -> Result<bool, Memory>
-    ensures { Steps (may_free sys.now lanes seat.old a) (Frees words.old seat.old a words.new seat.new)
+    ensures { StepsAs (may_free sys.now lanes seat.old a) (Frees words.old seat.old a words.new seat.new)
         ((words.new ≡ words.old) × (seat.new ≡ seat.old)) result }
 {
     let may = seat.may_add(lanes) && has_object(sys, a);
@@ -392,7 +392,7 @@ pub fn lifo(
     b: u8,
     name: u64,
 ) -> Result<bool, Memory>
-    ensures { Steps (may_lifo sys.now lanes words.old seat.old a p b name) (Lifos sys.now words.old seat.old a p b name words.new seat.new)
+    ensures { StepsAs (may_lifo sys.now lanes words.old seat.old a p b name) (Lifos sys.now words.old seat.old a p b name words.new seat.new)
         ((words.new ≡ words.old) × (seat.new ≡ seat.old)) result }
 {
     let may = may_lifo(sys, lanes, words, seat, a, p, b, name);

@@ -3,8 +3,8 @@
 ghost use Rattle.std.specs.Prelude.{◌≡◌, ◌==◌, ◌++◌, [], ◌∷◌, ◌&&◌, nat_lt, length, slice_index, OnOk, OnErr};
 ghost use Rattle.std.specs.List.{list_any, position};
 ghost use Rattle.qp_core_steps.specs.Blocks.{has_left, is_unfinished};
-ghost use Rattle.qp_table.specs.Counting.{total, without};
-ghost use Rattle.qp_table.specs.Rule.{is_ref, is_spot, gives_of, is_value};
+ghost use Rattle.qp_table.specs.Counting.{sum_over, without};
+ghost use Rattle.qp_table.specs.Rule.{is_ref, is_spot, gives_of, fills_with};
 ghost use Rattle.qp_table.specs.declared.view.SeatLog.{SeatLog};
 
 use crate::glances::Glances;
@@ -81,7 +81,7 @@ pub fn copy_of_give(give: &SeatGive, read: bool) -> SeatGive
 
 /// Whether the logs have fewer records than this.
 fn is_below(logs: &[SeatLog], limit: u64) -> bool
-    ensures { result ≡ nat_lt (total (λ (g : SeatLog). length g.recs) logs.now) limit }
+    ensures { result ≡ nat_lt (sum_over (λ (g : SeatLog). length g.recs) logs.now) limit }
 {
     match logs {
         [] => 0 < limit,
@@ -167,7 +167,7 @@ pub fn drop_hand(hands: &mut Items<Entry>, p: u8, b: u8, name: u64)
 
 /// Where the word that is still to be written stands.
 pub fn fill_place(fills: &Items<Fill>, p: u8, b: u8, j: u8, value: u64) -> Option<usize>
-    ensures { result ≡ position (is_value p b j value) fills.now }
+    ensures { result ≡ position (fills_with p b j value) fills.now }
 {
     fills.items.iter().position(|x| {
         x.pool == u64::from(p)
@@ -205,7 +205,7 @@ fn is_unfinished(fills: &Items<Fill>, give: &SeatGive) -> bool
 }
 
 impl Seat {
-    ghost use Rattle.qp_core_steps.specs.Seats.{may_act, may_add, noting, seeing};
+    ghost use Rattle.qp_core_steps.specs.Seats.{seat_may_act, may_add, noting, seat_seeing};
     ghost use Rattle.qp_core_steps.specs.Blocks.{is_ref_to, has_ready, is_give_over, asks_for};
 
     /// Whether the seat is one of the lanes' own, and has room for a record.
@@ -217,7 +217,7 @@ impl Seat {
 
     /// Adds what a word showed.
     pub fn see(&mut self, glance: Glance)
-        ensures { self.new ≡ seeing glance self.old }
+        ensures { self.new ≡ seat_seeing glance self.old }
     {
         self.seen = Glances::with(&self.seen, &glance);
     }

@@ -1,7 +1,7 @@
 //! The steps of one seat.
 
 ghost use Rattle.std.specs.Prelude.{◌≡◌};
-ghost use Rattle.qp_core_steps.specs.Words.{Steps};
+ghost use Rattle.qp_core_steps.specs.Words.{StepsAs};
 ghost use Rattle.qp_core_steps.specs.Keeps.{HasOwn, StepKeeps};
 ghost use Rattle.qp_core_steps.specs.Steps.{may_step, Steps_one};
 
@@ -24,7 +24,7 @@ fn step_of(
     seat: &mut Seat,
     op: &Op,
 ) -> Result<bool, Memory>
-    ensures { Steps (may_step sys.now lanes words.old seat.old op.now) (Steps_one sys.now words.old seat.old op.now words.new seat.new)
+    ensures { StepsAs (may_step sys.now lanes words.old seat.old op.now) (Steps_one sys.now words.old seat.old op.now words.new seat.new)
         ((words.new ≡ words.old) × (seat.new ≡ seat.old)) result }
 {
     match op {
@@ -74,7 +74,7 @@ pub fn step(
     seat: &mut Seat,
     op: &Op,
 ) -> Result<bool, Memory>
-    ensures one { Steps (may_step sys.now lanes words.old seat.old op.now) (Steps_one sys.now words.old seat.old op.now words.new seat.new)
+    ensures one { StepsAs (may_step sys.now lanes words.old seat.old op.now) (Steps_one sys.now words.old seat.old op.now words.new seat.new)
         ((words.new ≡ words.old) × (seat.new ≡ seat.old)) result }
     ensures kept { HasOwn lanes seat.old → StepKeeps sys.now words.old seat.old words.new seat.new }
 {

@@ -52,8 +52,8 @@ use Rattle.qp_dispatch.specs.declared.act.Acted.{Acted}
 use Rattle.qp_dispatch.specs.declared.lasting.Lasting.{Lasting}
 use Rattle.qp_dispatch.specs.declared.work.Work.{Work}
 use Rattle.qp_dispatch.specs.CallsDone.{CallCut, CallDone, is_single}
-use Rattle.qp_dispatch.specs.Lasts.{config_of, actor_of, moment_of, names_at, entry_in}
-use Rattle.qp_dispatch.specs.Acting.{Acts, ActDone, ActAsserts, ActCut, Calm, Settles}
+use Rattle.qp_dispatch.specs.Lasts.{config_of, actor_of, moment_of_work, names_at, entry_in}
+use Rattle.qp_dispatch.specs.Acting.{ActsTo, ActDone, ActAsserts, ActCut, Calm, OkTakes}
 use Rattle.qp_dispatch.proofs.Quiet.{Quiet, fits-quiet, quiet-front, quiet-ceiling, quiet-spillless, spills-append}
 use Rattle.qp_dispatch.proofs.Rising.{Mild, fits-mild, mild-rise, mild-kept}
 use Rattle.qp_dispatch.proofs.CallLemmas.{tokens-loose, value-no, value-yes}
@@ -226,15 +226,15 @@ module _ (me : ℕ) (k : Lasting) (work : Work) (p : Plain) (x : Call) (v w : La
   -- the actions that the call does
   reached : (n : ℕ) (answer : Answer) (g : List Told) (kept : List model.Entry) → did.Value n ≡ did_of answer
       → Fits v.sys v.by (entry_in work.entry) x answer g → KeepsDeferred k.list.entries.capacity x g (kept_in k.list) kept → (chart : Chart) (ts : List Task) (leaf : ℕ)
-      → AgendaReaches v.sys (actor_of me chart k) (moment_of work) (tasks_left (Do p ∷ ts) leaf) (config_of k) (tell g ++ Point ∷ []) (tasks_left ts leaf)
+      → AgendaReaches v.sys (actor_of me chart k) (moment_of_work work) (tasks_left (Do p ∷ ts) leaf) (config_of k) (tell g ++ Point ∷ []) (tasks_left ts leaf)
       (record (config_of k) { ok = pos n; kept = kept })
   reached n answer g kept said h keeps chart ts leaf =
       let here : Fits v.sys me (entry_in work.entry) x answer g = subst (λ o. Fits v.sys o (entry_in work.entry) x answer g) mine h in
-      let go = reaches-call v.sys (actor_of me chart k) (moment_of work) ts leaf (config_of k) p x answer g kept is here keeps (value-yes answer (did.Value n) said refl) in
-      subst (λ o. AgendaReaches v.sys (actor_of me chart k) (moment_of work) (tasks_left (Do p ∷ ts) leaf) (config_of k) (tell g ++ Point ∷ []) (tasks_left ts leaf) (record (config_of k) { ok = o; kept = kept })) (ok-value answer n k.ok said)
-      (subst (λ ps. AgendaReaches v.sys (actor_of me chart k) (moment_of work) (tasks_left (Do p ∷ ts) leaf) (config_of k) (ps ++ Point ∷ []) (tasks_left ts leaf) (record (config_of k) { ok = ok_after answer k.ok; kept = kept })) (pieces-single x g single) go)
+      let go = reaches-call v.sys (actor_of me chart k) (moment_of_work work) ts leaf (config_of k) p x answer g kept is here keeps (value-yes answer (did.Value n) said refl) in
+      subst (λ o. AgendaReaches v.sys (actor_of me chart k) (moment_of_work work) (tasks_left (Do p ∷ ts) leaf) (config_of k) (tell g ++ Point ∷ []) (tasks_left ts leaf) (record (config_of k) { ok = o; kept = kept })) (ok-value answer n k.ok said)
+      (subst (λ ps. AgendaReaches v.sys (actor_of me chart k) (moment_of_work work) (tasks_left (Do p ∷ ts) leaf) (config_of k) (ps ++ Point ∷ []) (tasks_left ts leaf) (record (config_of k) { ok = ok_after answer k.ok; kept = kept })) (pieces-single x g single) go)
 
-  pub act-done : (n : ℕ) (list : Deferred) → AnswersKept (entry_in work.entry) x (did.Value n) k.list list v w → ActDone me (moment_of work) p k (record k { list = list; ok = pos n }) v w
+  pub act-done : (n : ℕ) (list : Deferred) → AnswersKept (entry_in work.entry) x (did.Value n) k.list list v w → ActDone me (moment_of_work work) p k (record k { list = list; ok = pos n }) v w
   act-done n list h = record {
     g = h.g;
     grows = h.grows;
@@ -246,7 +246,7 @@ module _ (me : ℕ) (k : Lasting) (work : Work) (p : Plain) (x : Call) (v w : La
   }
 
   pub act-asserts : (code : ℕ) (list : Deferred) → AnswersKept (entry_in work.entry) x (did.Assert code) k.list list v w
-      → ActAsserts me (moment_of work) p code k (record k { list = list }) v w
+      → ActAsserts me (moment_of_work work) p code k (record k { list = list }) v w
   act-asserts code list h =
       let asserted = value-no h.answer (did.Assert code) h.said refl in
       let mild = fits-mild v.sys v.by (entry_in work.entry) x h.answer h.g single asserted h.fits in
@@ -256,8 +256,8 @@ module _ (me : ℕ) (k : Lasting) (work : Work) (p : Plain) (x : Call) (v w : La
         g = h.g;
         grows = h.grows;
         does = λ chart ts.
-            subst (λ ps. DoesLeft v.sys (actor_of me chart k) (moment_of work) None [] (Do p ∷ ts) (config_of k) ps None) (pieces-single x h.g single)
-            (does_left-asserted v.sys (actor_of me chart k) (moment_of work) ts 0 (config_of k) p x h.answer h.g (kept_in list) is here h.keeps asserted);
+            subst (λ ps. DoesLeft v.sys (actor_of me chart k) (moment_of_work work) None [] (Do p ∷ ts) (config_of k) ps None) (pieces-single x h.g single)
+            (does_left-asserted v.sys (actor_of me chart k) (moment_of_work work) ts 0 (config_of k) p x h.answer h.g (kept_in list) is here h.keeps asserted);
         some = last.0;
         last = last.1;
         stand = λ others all.
@@ -267,7 +267,7 @@ module _ (me : ℕ) (k : Lasting) (work : Work) (p : Plain) (x : Call) (v w : La
 
 -- a flush that was cut
 pub cut-flush : (me : ℕ) (k : Lasting) (work : Work) (p : Plain) (list : Deferred) (v w : LaneView) → deed_of (names_at me k work) p ≡ Calls call.Flush → v.by ≡ me
-    → FlushCut k.list list v w → ActCut me (moment_of work) p k (record k { list = list }) v w
+    → FlushCut k.list list v w → ActCut me (moment_of_work work) p k (record k { list = list }) v w
 unfolding Fits KeepsDeferred
 cut-flush me k work p list v w is mine h =
     let finish : Finishes k.list.entries.capacity (kept_in k.list) h.g = by h.answer h.fits in
@@ -305,7 +305,7 @@ cut-none me k m at p v w same still =
 
 -- an assignment
 pub act-set : (me : ℕ) (k : Lasting) (work : Work) (p : Plain) (var : ℕ) (value : Bound) (vars : List ℤ) (x : ℤ) (env : Names) (v : LaneView) → p ≡ action.Set var value → env ≡ names_at me k work
-    → x ≡ value_of env value → SFits w64 x → vars ≡ slice_set k.vars var (to_z w64 (of_z w64 x)) → ActDone me (moment_of work) p k (record k { vars = vars }) v v
+    → x ≡ value_of env value → SFits w64 x → vars ≡ slice_set k.vars var (to_z w64 (of_z w64 x)) → ActDone me (moment_of_work work) p k (record k { vars = vars }) v v
 unfolding deed_of
 act-set me k work p var value vars x env v is same x_is fits set =
     let value_is : x ≡ value_of (names_at me k work) value = x_is ∙ ap (λ n. value_of n value) same in
@@ -314,8 +314,8 @@ act-set me k work p var value vars x env v is same x_is fits set =
       g = [];
       grows = gains-none v;
       reaches = λ chart ts leaf.
-          subst (λ xs. AgendaReaches v.sys (actor_of me chart k) (moment_of work) (tasks_left (Do p ∷ ts) leaf) (config_of k) (Point ∷ []) (tasks_left ts leaf) (record (config_of k) { vars = xs })) (sym new)
-          (reaches-set v.sys (actor_of me chart k) (moment_of work) ts leaf (config_of k) p var (value_of (names_at me k work) value) (rw is refl));
+          subst (λ xs. AgendaReaches v.sys (actor_of me chart k) (moment_of_work work) (tasks_left (Do p ∷ ts) leaf) (config_of k) (Point ∷ []) (tasks_left ts leaf) (record (config_of k) { vars = xs })) (sym new)
+          (reaches-set v.sys (actor_of me chart k) (moment_of_work work) ts leaf (config_of k) p var (value_of (names_at me k work) value) (rw is refl));
       calm = calm-none v;
       keeps = record { leaf = refl; room = refl; few = λ few. few };
       hands = λ t. refl;
@@ -324,7 +324,7 @@ act-set me k work p var value vars x env v is same x_is fits set =
 
 -- `say`
 pub act-said : (me : ℕ) (k : Lasting) (work : Work) (p : Plain) (value : Bound) (x : ℤ) (env : Names) (v w : LaneView) → p ≡ action.Say value → env ≡ names_at me k work
-    → x ≡ value_of env value → SFits w64 x → Grows (plain (item.Say (cast_unsigned w64 (to_z w64 (of_z w64 x)))) ∷ []) v w → ActDone me (moment_of work) p k k v w
+    → x ≡ value_of env value → SFits w64 x → Grows (plain (item.Say (cast_unsigned w64 (to_z w64 (of_z w64 x)))) ∷ []) v w → ActDone me (moment_of_work work) p k k v w
 unfolding deed_of hands_after hands_by
 act-said me k work p value x env v w is same x_is fits grown =
     let value_is : to_z w64 (of_z w64 x) ≡ value_of (names_at me k work) value = to_z-of_z w64 x fits ∙ x_is ∙ ap (λ n. value_of n value) same in
@@ -332,7 +332,7 @@ act-said me k work p value x env v w is same x_is fits grown =
     record {
       g = plain (item.Say (bits_of (value_of (names_at me k work) value))) ∷ [];
       grows = grows;
-      reaches = λ chart ts leaf. reaches-say v.sys (actor_of me chart k) (moment_of work) ts leaf (config_of k) p (bits_of (value_of (names_at me k work) value)) (rw is refl);
+      reaches = λ chart ts leaf. reaches-say v.sys (actor_of me chart k) (moment_of_work work) ts leaf (config_of k) p (bits_of (value_of (names_at me k work) value)) (rw is refl);
       calm = calm-quiet (plain (item.Say (bits_of (value_of (names_at me k work) value))) ∷ []) v w grows refl;
       keeps = record { leaf = refl; room = refl; few = λ few. few };
       hands = λ t. rw grows.hands refl;
@@ -342,7 +342,7 @@ act-said me k work p value x env v w is same x_is fits grown =
 -- what an action's call makes of the object
 pub settled : (me : ℕ) (k m n : Lasting) (work : Work) (p : Plain) (x : Call) (answer : Result Did RoomFault) (a : Acted) (v w : LaneView)
     → deed_of (names_at me k work) p ≡ Calls x → is_single x ≡ true → v.by ≡ me → m ≡ record k { list = m.list }
-    → CallDone (entry_in work.entry) x k.list m.list v w answer → Settles m n answer a → Acts me (moment_of work) p k n v w a
+    → CallDone (entry_in work.entry) x k.list m.list v w answer → OkTakes m n answer a → ActsTo me (moment_of_work work) p k n v w a
 settled me k m n work p x (Ok (did.Value y)) a v w is single mine rest h s =
     let new : n ≡ record k { list = m.list; ok = pos y } = s.1 ∙ rw rest refl in
     rw (s.0, new) (act-done me k work p x v w is single mine y m.list h)
@@ -353,6 +353,6 @@ settled me k m n work p x (Err fault) a v w is single mine rest h s =
     let new : n ≡ record k { list = m.list } = s.1 ∙ rest in
     rw (s.0, new) (by x is h.0, h.1)
   where
-    by : (x : Call) → deed_of (names_at me k work) p ≡ Calls x → CallCut x k.list m.list v w → ActCut me (moment_of work) p k (record k { list = m.list }) v w
+    by : (x : Call) → deed_of (names_at me k work) p ≡ Calls x → CallCut x k.list m.list v w → ActCut me (moment_of_work work) p k (record k { list = m.list }) v w
     by call.Flush is h = cut-flush me k work p m.list v w is mine h
-    by _ is h = cut-none me k (record k { list = m.list }) (moment_of work) p v w (rw h.0 refl) h.1
+    by _ is h = cut-none me k (record k { list = m.list }) (moment_of_work work) p v w (rw h.0 refl) h.1

@@ -19,11 +19,11 @@ use Rattle.qp_calls.specs.declared.deferred.Deferred.{Deferred}
 use Rattle.qp_calls.specs.declared.did.Did.{Did}
 use Rattle.qp_calls.specs.declared.tokens.HeldEntry.{HeldEntry}
 use Rattle.qp_calls.specs.Tokens.{Token, Held, Loose, same_token, token_of}
-use Rattle.qp_calls.specs.Counting.{one, times, count_of}
+use Rattle.qp_calls.specs.Counting.{one_if, times, count_of}
 use Rattle.qp_calls.specs.LaneView.{LaneView}
 use Rattle.qp_calls.specs.Clauses.{entry_of}
 use Rattle.qp_calls.specs.Entries.{did_of, is_value}
-use Rattle.qp_calls.specs.Groups.{CallAnswers, DoesCall}
+use Rattle.qp_calls.specs.Groups.{CallAnswers, CallReturns}
 use Rattle.qp_calls.specs.Deferring.{AnswersKept, DefersCall, FlushesAll, StandAll, kept_in, tokens_in}
 use Rattle.qp_calls.proofs.CountLemmas.{count_in, count-with, stand-same}
 use Rattle.qp_calls.proofs.Flushing.{fault-still}
@@ -34,7 +34,7 @@ use Rattle.qp_dispatch.proofs.Rising.{fits-mild, mild-rise}
 loose-in : (p b : ℕ) (u : Bool) (e : model.Entry) → count_in (Loose p b u) e ≡ 0
 loose-in p b u e = go (e.pool == 0)
   where
-    go : (x : Bool) → (if x then 0 else one (same_token (Loose p b u) (token_of e))) ≡ 0
+    go : (x : Bool) → (if x then 0 else one_if (same_token (Loose p b u) (token_of e))) ≡ 0
     go true = refl
     go false = refl
 
@@ -106,7 +106,7 @@ cut-other call.Flush kept more v w is a b = absurd (cc)
 cut-other _ kept more v w is a b = (a, b)
 
 pub call-other : (now : Option model.Entry) (x : Call) (kept : Deferred) (r : Result Did RoomFault) (v w : LaneView) → is_listless x ≡ true → is_single x ≡ true → StandAll kept.entries.items v
-    → DoesCall now x v w r → CallDone now x kept kept v w r
+    → CallReturns now x v w r → CallDone now x kept kept v w r
 call-other now x kept (Ok d) v w other single stand h = kept-answers now x d kept v w other single stand h
 call-other now x kept (Err fault) v w other single stand h = (cut-other x kept kept v w other refl h.0, fault-still fault v w h.0 h.1)
 
@@ -149,7 +149,7 @@ call-now now x kept more (Err fault) v w is h = h
 
 -- a call that needs neither an entry nor the list
 pub call-alone : (now : Option model.Entry) (x y : Call) (kept : Deferred) (r : Result Did RoomFault) (v w : LaneView) → x ≡ y → is_free x ≡ true → is_listless x ≡ true → is_single x ≡ true
-    → StandAll kept.entries.items v → DoesCall None x v w r → CallDone now y kept kept v w r
+    → StandAll kept.entries.items v → CallReturns None x v w r → CallDone now y kept kept v w r
 call-alone now x y kept r v w same free other single stand h =
     subst (λ z. CallDone now z kept kept v w r) same (call-now now x kept kept r v w free (call-other None x kept r v w other single stand h))
 
@@ -237,7 +237,7 @@ no-entry (Some e) is h = absurd (cc)
 
 -- whatever the call, it is a call on a time event
 pub time-call : (names : Names) (p : Plain) (x : Call) (hand : Option model.Entry) (kept : Deferred) (r : Result Did RoomFault) (v w : LaneView) → deed_of names p ≡ Calls x → is_timing x ≡ true
-    → StandAll kept.entries.items v → DoesCall None x v w r → CallDone hand x kept kept v w r
+    → StandAll kept.entries.items v → CallReturns None x v w r → CallDone hand x kept kept v w r
 time-call names p (call.Arm t ticks interval) hand kept r v w is timing stand h = call-alone hand (call.Arm t ticks interval) (call.Arm t ticks interval) kept r v w refl refl refl refl stand h
 time-call names p (call.Rearm t ticks) hand kept r v w is timing stand h = call-alone hand (call.Rearm t ticks) (call.Rearm t ticks) kept r v w refl refl refl refl stand h
 time-call names p (call.Disarm t) hand kept r v w is timing stand h = call-alone hand (call.Disarm t) (call.Disarm t) kept r v w refl refl refl refl stand h

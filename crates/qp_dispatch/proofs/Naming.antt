@@ -22,11 +22,11 @@ use Rattle.qp_model.proofs.ListLemmas.{every-at}
 use Rattle.qp_calls.specs.declared.tokens.HeldEntry.{HeldEntry}
 use Rattle.qp_calls.specs.LaneView.{LaneView}
 use Rattle.qp_calls.specs.Clauses.{IsEvent, Owns}
-use Rattle.qp_dispatch.specs.SoundFor.{HasTimer, IsHome, MayAct}
+use Rattle.qp_dispatch.specs.SoundFor.{HasTimer, IsObjectWithTimers, MayAct}
 use Rattle.qp_dispatch.specs.declared.part.Under.{Under}
 use Rattle.qp_dispatch.specs.Parts.{IsPublishing}
 
-pub receives : (sys : System) (me : ℕ) (chart : Chart) (to : Target) → IsHome sys me chart → IsReceiver sys to → IsTrue (is_object sys (object_of me to))
+pub receives : (sys : System) (me : ℕ) (chart : Chart) (to : Target) → IsObjectWithTimers sys me chart → IsReceiver sys to → IsTrue (is_object sys (object_of me to))
 unfolding is_object
 receives sys me chart target.Me home h = home.object
 receives sys me chart (target.Object o) home h = rw h.1 refl

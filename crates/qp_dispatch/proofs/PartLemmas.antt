@@ -20,7 +20,7 @@ use Rattle.qp_calls.specs.declared.answers.RoomFault.{RoomFault}
 use Rattle.qp_calls.specs.Tokens.{Token, hands_after, hands_by}
 use Rattle.qp_calls.specs.Counting.{count_of}
 use Rattle.qp_calls.specs.LaneView.{LaneView, Grows, GrowsOf, Roomier, ceiling_in}
-use Rattle.qp_calls.specs.Notes.{MayNote, needs_spare_alone, spare_after, told_note, told_as}
+use Rattle.qp_calls.specs.Notes.{MayNote, needs_spare_alone, spare_after, told_note, note_told}
 use Rattle.qp_calls.specs.Clauses.{IsFault, EntryStands, entry_of}
 use Rattle.qp_calls.specs.Groups.{Refused}
 use Rattle.qp_calls.specs.Deferring.{ChangeAlike, StandAll, is_named, tokens_in}
@@ -33,7 +33,7 @@ use Rattle.qp_dispatch.specs.declared.lasting.Lasting.{Lasting}
 use Rattle.qp_dispatch.specs.declared.part.Under.{Under}
 use Rattle.qp_dispatch.specs.Lasts.{config_of, actor_of}
 use Rattle.qp_dispatch.specs.Acting.{ActDone, ActAsserts, ActionKeeps}
-use Rattle.qp_dispatch.specs.Parts.{Goes, Asserts, CutShort, StandWith, held_by}
+use Rattle.qp_dispatch.specs.Parts.{PartGoes, Asserts, CutShort, StandWith, held_by}
 use Rattle.qp_dispatch.proofs.Quiet.{Quiet, spills-append}
 use Rattle.qp_dispatch.proofs.ActLemmas.{all-right, calm-quiet, counts-join}
 use Rattle.qp_model.proofs.ListLemmas.{list_all-front}
@@ -52,7 +52,7 @@ noted r a v w room is mine some grown spare =
     let by : r.of ≡ v.by = rw room.same (sym mine) in
     let one = adds-note r.of (body_of r) r v w refl is by (omega (arith, some)) grown spare in
     let told : v.told ≡ a.told = rw room.same refl in
-    subst (λ t. Grows (told_as (ceiling_in 0 t) (body_of r) ∷ []) a w) told (grows-room (told_as (ceiling_in 0 v.told) (body_of r) ∷ []) a v w room one.grows)
+    subst (λ t. Grows (note_told (ceiling_in 0 t) (body_of r) ∷ []) a w) told (grows-room (note_told (ceiling_in 0 v.told) (body_of r) ∷ []) a v w room one.grows)
 
 pub rec-mine : (me : ℕ) (b : Body) (r : Rec) (v : LaneView) → item_of r ≡ record { of = me; body = b } → v.by ≡ me → v.by ≡ r.of
 rec-mine me b r v is by = by ∙ sym (of-is me b r is)
@@ -60,9 +60,9 @@ rec-mine me b r v is by = by ∙ sym (of-is me b r is)
 pub rec-note : (me : ℕ) (b : Body) (r : Rec) → item_of r ≡ record { of = me; body = b } → needs_spare_alone b ≡ true → IsTrue (needs_spare_alone (body_of r))
 rec-note me b r is note = rw (body-is me b r is) note
 
-pub rec-told : (me : ℕ) (b : Body) (r : Rec) (v w : LaneView) → item_of r ≡ record { of = me; body = b } → Grows (told_note r v) v w → Grows (told_as (ceiling_in 0 v.told) b ∷ []) v w
+pub rec-told : (me : ℕ) (b : Body) (r : Rec) (v w : LaneView) → item_of r ≡ record { of = me; body = b } → Grows (told_note r v) v w → Grows (note_told (ceiling_in 0 v.told) b ∷ []) v w
 unfolding told_note
-rec-told me b r v w is grown = subst (λ x. Grows (told_as (ceiling_in 0 v.told) x ∷ []) v w) (body-is me b r is) grown
+rec-told me b r v w is grown = subst (λ x. Grows (note_told (ceiling_in 0 v.told) x ∷ []) v w) (body-is me b r is) grown
 
 -- What stands.
 
@@ -101,7 +101,7 @@ keeps-same k m list leaf = record { leaf = leaf; room = rw list refl; few = λ f
 
 -- a note of the agenda
 record IsPlain (b : Body) (c : ℕ) (v : LaneView) : Type 0 where
-  told : told_as c b ≡ plain b
+  told : note_told c b ≡ plain b
   quiet : Quiet (plain b ∷ [])
   note : needs_spare_alone b ≡ true
   hands : hands_after v.hands (for_object v.by (plain b) ∷ []) ≡ v.hands
@@ -128,8 +128,8 @@ note-plain t b c v is = by t is
 pub is-noted : (t : Task) (b : Body) (v : LaneView) → note_of t ≡ Some b → needs_spare_alone b ≡ true
 is-noted t b v is = (note-plain t b 0 v is).note
 
-pub goes-note : (me ceiling : ℕ) (at : Moment) (t : Task) (b : Body) (k : Lasting) (v w : LaneView) → note_of t ≡ Some b → Grows (told_as (ceiling_in 0 v.told) b ∷ []) v w
-    → Goes me at (t ∷ []) [] ceiling ceiling k None k None v w
+pub goes-note : (me ceiling : ℕ) (at : Moment) (t : Task) (b : Body) (k : Lasting) (v w : LaneView) → note_of t ≡ Some b → Grows (note_told (ceiling_in 0 v.told) b ∷ []) v w
+    → PartGoes me at (t ∷ []) [] ceiling ceiling k None k None v w
 goes-note me ceiling at t b k v w is grown =
     let form = note-plain t b (ceiling_in 0 v.told) v is in
     let note : Grows (plain b ∷ []) v w = subst (λ x. Grows (x ∷ []) v w) form.told grown in
@@ -148,8 +148,8 @@ goes-note me ceiling at t b k v w is grown =
     }
 
 -- `locked` begins
-pub goes-raise : (me to c top : ℕ) (at : Moment) (k : Lasting) (v w : LaneView) → top ≡ max c to → c ≡ ceiling_in 0 v.told → Grows (told_as (ceiling_in 0 v.told) (item.Lock top) ∷ []) v w
-    → Goes me at (task.Raise to ∷ []) [] c top k None (record k { former = c }) None v w
+pub goes-raise : (me to c top : ℕ) (at : Moment) (k : Lasting) (v w : LaneView) → top ≡ max c to → c ≡ ceiling_in 0 v.told → Grows (note_told (ceiling_in 0 v.told) (item.Lock top) ∷ []) v w
+    → PartGoes me at (task.Raise to ∷ []) [] c top k None (record k { former = c }) None v w
 unfolding hands_after hands_by ceiling_in
 goes-raise me to c top at k v w top_is is grown =
     let note : Grows (raised (max c to) c ∷ []) v w =
@@ -167,8 +167,8 @@ goes-raise me to c top at k v w top_is is grown =
     }
 
 -- `locked` ends
-pub goes-restore : (me c : ℕ) (at : Moment) (k : Lasting) (v w : LaneView) → Grows (told_as (ceiling_in 0 v.told) (item.Unlock k.former) ∷ []) v w
-    → Goes me at (task.Restore ∷ []) (Point ∷ []) c k.former k None k None v w
+pub goes-restore : (me c : ℕ) (at : Moment) (k : Lasting) (v w : LaneView) → Grows (note_told (ceiling_in 0 v.told) (item.Unlock k.former) ∷ []) v w
+    → PartGoes me at (task.Restore ∷ []) (Point ∷ []) c k.former k None k None v w
 unfolding hands_after hands_by ceiling_in
 goes-restore me c at k v w note =
     record {
@@ -204,7 +204,7 @@ cut-lost me at pre k u f v w h = (cut h.0, fault-still f v w h.0 h.1)
 bare-held : (k : Lasting) (others : List HeldEntry) → held_by k None ++ others ≡ k.list.entries.items ++ others
 bare-held k others = ap (λ x. x ++ others) (append-nil k.list.entries.items)
 
-pub goes-act : (me ceiling : ℕ) (at : Moment) (p : Plain) (k m : Lasting) (v w : LaneView) → ActDone me at p k m v w → Goes me at (task.Do p ∷ []) (Point ∷ []) ceiling ceiling k None m None v w
+pub goes-act : (me ceiling : ℕ) (at : Moment) (p : Plain) (k m : Lasting) (v w : LaneView) → ActDone me at p k m v w → PartGoes me at (task.Do p ∷ []) (Point ∷ []) ceiling ceiling k None m None v w
 goes-act me ceiling at p k m v w h = record {
   g = h.g;
   grows = h.grows;

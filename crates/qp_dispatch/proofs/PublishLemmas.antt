@@ -38,7 +38,7 @@ use Rattle.qp_calls.specs.Notes.{spills_told}
 use Rattle.qp_calls.specs.Clauses.{EntryStands, entry_of}
 use Rattle.qp_calls.specs.Entries.{Unmade}
 use Rattle.qp_calls.specs.Raising.{raised_to}
-use Rattle.qp_calls.specs.Publishing.{AreObjects, Begins, BeginsGoing, PublishingGoesOn, GoesOnGoing, GoesOnAssert, EndsGoing}
+use Rattle.qp_calls.specs.Publishing.{MembersAreObjects, Begins, BeginsGoing, PublishingGoesOn, GoesOnGoing, GoesOnAssert, EndsGoing}
 use Rattle.qp_calls.specs.Deferring.{ChangeAlike, is_named, kept_in}
 use Rattle.qp_calls.proofs.Announcing.{members-none}
 use Rattle.qp_calls.proofs.CountLemmas.{count-with, count-without, stand-same, stands-in, stands-named}
@@ -46,9 +46,9 @@ use Rattle.qp_calls.proofs.NoteLemmas.{last-snoc, ceiling-append}
 use Rattle.qp_dispatch.specs.declared.lasting.Lasting.{Lasting}
 use Rattle.qp_dispatch.specs.declared.part.Under.{Under}
 use Rattle.qp_dispatch.specs.declared.work.Work.{Work}
-use Rattle.qp_dispatch.specs.Lasts.{config_of, actor_of, entry_in, moment_of, names_at}
+use Rattle.qp_dispatch.specs.Lasts.{config_of, actor_of, entry_in, moment_of_work, names_at}
 use Rattle.qp_dispatch.specs.Acting.{ActionKeeps}
-use Rattle.qp_dispatch.specs.Parts.{Goes, Asserts, IsPublishing, held_by, publishing_of}
+use Rattle.qp_dispatch.specs.Parts.{PartGoes, Asserts, IsPublishing, held_by, publishing_of}
 use Rattle.qp_dispatch.proofs.Quiet.{Quiet, no_block-quiet, one-quiet, quiet-append, quiet-ceiling, quiet-drops, quiet-new, quiet-spillless, spills-append, Spillless, spillless-append}
 use Rattle.qp_dispatch.proofs.Rising.{mild-rise, one-mild}
 use Rattle.qp_dispatch.proofs.CallLemmas.{stand-risen, value-no, value-yes}
@@ -181,7 +181,7 @@ module _ (me : ℕ) (k : Lasting) (work : Work) (sig : ℕ) (pars : List Bound) 
     (deed : deed_of (names_at me k work) (action.Publish sig pars reserve) ≡ Calls (call.Publish ev.sig ev.pars reserve)) (mine : v.by ≡ me) (some : 0 < me) where
   -- it begins
   pub goes-publish : (p : Publication) (c : ℕ) → BeginsGoing ev reserve c p v w
-      → Goes me (moment_of work) (task.Do (action.Publish sig pars reserve) ∷ []) [] c (unwrap_or (raised_to p.former (members p.all)) c) k None k (Some (record { publication = p; ceiling = c })) v w
+      → PartGoes me (moment_of_work work) (task.Do (action.Publish sig pars reserve) ∷ []) [] c (unwrap_or (raised_to p.former (members p.all)) c) k None k (Some (record { publication = p; ceiling = c })) v w
   unfolding publishing_left
   goes-publish p c h =
       let fits : PublishesFirst (is_static v.sys ev.sig) (sizes_of v.sys) 1 ev.sig ev.pars reserve (entry_of p.entry) p.former (members p.all) h.g =
@@ -194,7 +194,7 @@ module _ (me : ℕ) (k : Lasting) (work : Work) (sig : ℕ) (pars : List Bound) 
         grows = h.grows;
         reaches = λ chart ts leaf.
             rw (append-nil (tell h.g), left)
-            (reaches-publish v.sys (actor_of me chart k) (moment_of work) ts leaf (config_of k) (action.Publish sig pars reserve) ev.sig ev.pars reserve
+            (reaches-publish v.sys (actor_of me chart k) (moment_of_work work) ts leaf (config_of k) (action.Publish sig pars reserve) ev.sig ev.pars reserve
             (record { entry = entry_of p.entry; former = p.former; members = members p.all }) h.g deed
             (first-any me (is_static v.sys ev.sig) (sizes_of v.sys) ev.sig ev.pars reserve (entry_of p.entry) p.former (members p.all) h.g some fits));
         lane = λ here. rw h.former (first-lane c (members p.all) h.g v w raises h.grows here);
@@ -226,7 +226,7 @@ module _ (me : ℕ) (k : Lasting) (work : Work) (sig : ℕ) (pars : List Bound) 
   unmade-call answer g h = refl
 
   pub goes-refused : (c n : ℕ) → Unmade (is_static v.sys ev.sig) ev reserve (did.Value n) v w
-      → Goes me (moment_of work) (task.Do (action.Publish sig pars reserve) ∷ []) (Point ∷ []) c c k None (record k { ok = pos n }) None v w
+      → PartGoes me (moment_of_work work) (task.Do (action.Publish sig pars reserve) ∷ []) (Point ∷ []) c c k None (record k { ok = pos n }) None v w
   goes-refused c n h =
       let fit = none-fits h.answer h.g h.none in
       let quiet = no_block-quiet (is_static v.sys ev.sig) (sizes_of v.sys) ev.pars reserve h.answer h.g h.none in
@@ -237,9 +237,9 @@ module _ (me : ℕ) (k : Lasting) (work : Work) (sig : ℕ) (pars : List Bound) 
         g = h.g;
         grows = h.grows;
         reaches = λ chart ts leaf.
-            subst (λ o. AgendaReaches v.sys (actor_of me chart k) (moment_of work) (tasks_left (task.Do (action.Publish sig pars reserve) ∷ ts) leaf) (config_of k) (tell h.g ++ Point ∷ []) (tasks_left ts leaf) (record (config_of k) { ok = o })) (ok-value h.answer n k.ok h.said)
-            (subst (λ ps. AgendaReaches v.sys (actor_of me chart k) (moment_of work) (tasks_left (task.Do (action.Publish sig pars reserve) ∷ ts) leaf) (config_of k) (ps ++ Point ∷ []) (tasks_left ts leaf) (record (config_of k) { ok = ok_after h.answer k.ok })) fit.1
-            (reaches-call v.sys (actor_of me chart k) (moment_of work) ts leaf (config_of k) (action.Publish sig pars reserve) (call.Publish ev.sig ev.pars reserve) h.answer h.g (kept_in k.list) deed here
+            subst (λ o. AgendaReaches v.sys (actor_of me chart k) (moment_of_work work) (tasks_left (task.Do (action.Publish sig pars reserve) ∷ ts) leaf) (config_of k) (tell h.g ++ Point ∷ []) (tasks_left ts leaf) (record (config_of k) { ok = o })) (ok-value h.answer n k.ok h.said)
+            (subst (λ ps. AgendaReaches v.sys (actor_of me chart k) (moment_of_work work) (tasks_left (task.Do (action.Publish sig pars reserve) ∷ ts) leaf) (config_of k) (ps ++ Point ∷ []) (tasks_left ts leaf) (record (config_of k) { ok = ok_after h.answer k.ok })) fit.1
+            (reaches-call v.sys (actor_of me chart k) (moment_of_work work) ts leaf (config_of k) (action.Publish sig pars reserve) (call.Publish ev.sig ev.pars reserve) h.answer h.g (kept_in k.list) deed here
             (unmade-call h.answer h.g h.none) (value-yes h.answer (did.Value n) h.said refl)));
         lane = λ at. at ∙ sym calm.ceiling;
         spills = calm.spills;
@@ -250,7 +250,7 @@ module _ (me : ℕ) (k : Lasting) (work : Work) (sig : ℕ) (pars : List Bound) 
       }
 
   pub asserts-publish : (code : ℕ) → Unmade (is_static v.sys ev.sig) ev reserve (did.Assert code) v w
-      → Asserts me (moment_of work) (task.Do (action.Publish sig pars reserve) ∷ []) code k None k None v w
+      → Asserts me (moment_of_work work) (task.Do (action.Publish sig pars reserve) ∷ []) code k None k None v w
   unfolding tasks_left
   asserts-publish code h =
       let fit = none-fits h.answer h.g h.none in
@@ -261,8 +261,8 @@ module _ (me : ℕ) (k : Lasting) (work : Work) (sig : ℕ) (pars : List Bound) 
         g = h.g;
         grows = h.grows;
         does = λ chart ts leaf.
-            subst (λ ps. DoesLeft v.sys (actor_of me chart k) (moment_of work) None [] (task.Do (action.Publish sig pars reserve) ∷ ts) (config_of k) ps None) fit.1
-            (does_left-asserted v.sys (actor_of me chart k) (moment_of work) ts leaf (config_of k) (action.Publish sig pars reserve) (call.Publish ev.sig ev.pars reserve) h.answer h.g (kept_in k.list) deed here
+            subst (λ ps. DoesLeft v.sys (actor_of me chart k) (moment_of_work work) None [] (task.Do (action.Publish sig pars reserve) ∷ ts) (config_of k) ps None) fit.1
+            (does_left-asserted v.sys (actor_of me chart k) (moment_of_work work) ts leaf (config_of k) (action.Publish sig pars reserve) (call.Publish ev.sig ev.pars reserve) h.answer h.g (kept_in k.list) deed here
             (unmade-call h.answer h.g h.none) (value-no h.answer (did.Assert code) h.said refl));
         some = last.0;
         last = last.1;
@@ -271,14 +271,14 @@ module _ (me : ℕ) (k : Lasting) (work : Work) (sig : ℕ) (pars : List Bound) 
 
 -- Its posts, and its end.
 
-objects-rest : (sys : System) (a b to : ℕ) (others : List ℕ) → members a ≡ to ∷ others → members b ≡ others → AreObjects sys a → AreObjects sys b
+objects-rest : (sys : System) (a b to : ℕ) (others : List ℕ) → members a ≡ to ∷ others → members b ≡ others → MembersAreObjects sys a → MembersAreObjects sys b
 objects-rest sys a b to others first rest all =
     let here : list_all (λ x. is_object sys x) (to ∷ others) ≡ true = subst (λ ms. list_all (λ x. is_object sys x) ms ≡ true) first all in
     rw rest (and_parts (is_object sys to) (list_all (λ x. is_object sys x) others) here).1
 
 -- the highest member left was posted to
 pub goes-post : (me c : ℕ) (at : Moment) (k : Lasting) (u : Under) (q : Publication) (v w : LaneView) → IsPublishing (Some u) v → GoesOnGoing u.publication q v w
-    → Goes me at [] (Point ∷ []) c c k (Some u) k (Some (record { publication = q; ceiling = u.ceiling })) v w
+    → PartGoes me at [] (Point ∷ []) c c k (Some u) k (Some (record { publication = q; ceiling = u.ceiling })) v w
 goes-post me c at k u q v w publishing h =
     let p = u.publication in
     let calm = calm-quiet h.g v w h.grows (one-quiet (ring_of v.sys h.to) (entry_of p.entry) h.to Granted h.g h.fits) in
@@ -296,7 +296,7 @@ goes-post me c at k u q v w publishing h =
       keeps = record { leaf = refl; room = refl; few = λ few. few };
       hands = λ t. rw (h.hands, entry) refl;
       stand = λ others all. rw entry (stand-same (held_by k (Some u) ++ others) v w all h.hands h.grows.sys);
-      publishing = (subst (λ s. AreObjects s q.left) (sym h.grows.sys) (objects-rest v.sys p.left q.left h.to h.others h.first h.rest publishing.0), publishing.1 ∙ sym former);
+      publishing = (subst (λ s. MembersAreObjects s q.left) (sym h.grows.sys) (objects-rest v.sys p.left q.left h.to h.others h.first h.rest publishing.0), publishing.1 ∙ sym former);
     }
 
 -- or its queue had no free entry
@@ -324,7 +324,7 @@ asserts-post me code at k u v w h =
 -- the publication has ended
 pub goes-published : (me c later : ℕ) (at : Moment) (k : Lasting) (p : Publication) (former : ℕ) (d : Did) (raised : Bool) (v w : LaneView) → 0 < me → p.left ≡ 0 → former ≡ p.former → EntryStands p.entry v
     → raised ≡ is_some (raised_to p.former (members p.all)) → (raised ≡ true → later ≡ former) → (raised ≡ false → later ≡ c) → EndsGoing p d v w
-    → Goes me at [] (Point ∷ []) c later k (Some (record { publication = p; ceiling = former })) (record k { ok = pos 1 }) None v w
+    → PartGoes me at [] (Point ∷ []) c later k (Some (record { publication = p; ceiling = former })) (record k { ok = pos 1 }) None v w
 goes-published me c later at k p former d raised v w some left same stands is was not h =
     let restores = restores-last (entry_of p.entry) p.former (members p.all) h.g h.fits in
     let alike = one-less k.list.entries.items p.entry v w stands h.hands in

@@ -19,7 +19,7 @@ use Rattle.qp_model.specs.declared.systems.System.{System}
 use Rattle.qp_model.specs.Able.{chart_able}
 use Rattle.qp_model.specs.SoundChart.{IsSoundAct, IsSoundChart, IsSoundPlain, IsSoundRow, IsSoundState}
 use Rattle.qp_calls.specs.declared.tokens.HeldEntry.{HeldEntry}
-use Rattle.qp_dispatch.specs.SoundFor.{IsHome, MayAct, MayTask}
+use Rattle.qp_dispatch.specs.SoundFor.{IsObjectWithTimers, MayAct, MayTask}
 use Rattle.qp_dispatch.specs.Resume.{CanTakeSteps}
 use Rattle.qp_model.proofs.AbleLemmas.{some-same}
 use Rattle.qp_model.proofs.NumberLemmas.{every-append}
@@ -31,7 +31,7 @@ not-some e = absurd (cc)
 handler_is : ℕ → ℕ × Row → Handler
 handler_is s found = record { state = s; place = found.0; row = found.1 }
 
-module _ (sys : System) (me : ℕ) (chart : Chart) (home : IsHome sys me chart) (sound : IsSoundChart sys chart) where
+module _ (sys : System) (me : ℕ) (chart : Chart) (home : IsObjectWithTimers sys me chart) (sound : IsSoundChart sys chart) where
   module _ (hand : Option HeldEntry) where
     abbrev May : List Task → Type 0
     May ts = AllByRecursion (MayTask sys me hand) ts

@@ -16,7 +16,7 @@ use Rattle.qp_model.specs.Shapes.{Drops, releases_by}
 use Rattle.qp_model.specs.Pieces.{Piece, Point, records_in, tell}
 use Rattle.qp_model.specs.Acts.{Config, Actor}
 use Rattle.qp_model.specs.Step.{Remainder, DoesLeft, StepGoesOn, Closes, at_leaf, moment, tasks_left, publishing_left, whole_step}
-use Rattle.qp_model.specs.Standing.{Advances, AgendaReaches}
+use Rattle.qp_model.specs.Standing.{StepAdvances, AgendaReaches}
 use Rattle.qp_model.specs.Able.{task_able}
 use Rattle.qp_model.proofs.Completes.{release, release_drops}
 use Rattle.qp_model.proofs.PublicationLemmas.{tell-append}
@@ -39,12 +39,12 @@ use Rattle.qp_dispatch.specs.declared.steps.Step.TheVariants as step
 use Rattle.qp_dispatch.specs.declared.steps.Position.{Position}
 use Rattle.qp_dispatch.specs.declared.steps.Position.TheVariants as stage
 use Rattle.qp_dispatch.specs.declared.work.Work.{Work}
-use Rattle.qp_dispatch.specs.Lasts.{config_of, actor_of, moment_of, names_at}
+use Rattle.qp_dispatch.specs.Lasts.{config_of, actor_of, moment_of_work, names_at}
 use Rattle.qp_dispatch.specs.CallsDone.{StandsIn}
 use Rattle.qp_dispatch.specs.Parts.{held_by, left_by}
 use Rattle.qp_dispatch.specs.SoundFor.{MayTask}
-use Rattle.qp_dispatch.specs.Runs.{RunAsserts, RunCut, Runs, Setting, hand_of, tasks_in}
-use Rattle.qp_dispatch.specs.Resume.{BeginsOn, EndsAsserted, StepHalts, IsGoing, IsLaneOf, ReleasesEntry, Resumes, ToEnd, ToPoint, entry_here, event_in_hand, event_in, held_in, left_of, step_entry}
+use Rattle.qp_dispatch.specs.Runs.{RunAsserts, RunCut, Runs, ObjectSetting, hand_of, tasks_in}
+use Rattle.qp_dispatch.specs.Resume.{BeginsOn, EndsAsserted, StepHalts, IsGoing, IsLaneOf, ReleasesEntry, Resumes, ToEnd, ToPoint, entry_here, event_in_hand, step_event, held_in, remainder_of, step_entry}
 use Rattle.qp_dispatch.proofs.ActLemmas.{calm-quiet, counts-join, stand-change}
 use Rattle.qp_dispatch.proofs.Quiet.{quiet-drops}
 use Rattle.qp_model.proofs.GroupLemmas.{bare-append}
@@ -69,7 +69,7 @@ unfolding tasks_left publishing_left
 tasks-of None ts leaf = refl
 tasks-of (Some u) ts leaf = refl
 
-moment-is : (work : Work) (hand : HeldEntry) → work.entry ≡ Some hand → moment_of work ≡ moment (event_of work.ev) (entry_here work.entry)
+moment-is : (work : Work) (hand : HeldEntry) → work.entry ≡ Some hand → moment_of_work work ≡ moment (event_of work.ev) (entry_here work.entry)
 moment-is work hand is = rw is refl
 
 more-alike : (es ds fs : List HeldEntry) (v w : LaneView) → ChangeAlike (map entry_of es) (map entry_of ds) v w → ChangeAlike (map entry_of (es ++ fs)) (map entry_of (ds ++ fs)) v w
@@ -92,8 +92,8 @@ unfolding hands_after hands_by
 spilled-stand n w z es grown all = stand-same es w z all grown.hands grown.sys
 
 -- the lane halted behind records that begin something
-pub halted : (home : Setting) (ceiling later : ℕ) (k m : Lasting) (s y : Position) (g : List Told) (v w z : LaneView) (answer : Step) → Grows g v w
-    → BeginsOn v.sys (actor_of home.me home.chart k) (event_in s v) (step_entry s) (left_of home k s v) (config_of k) g → StandAll (held_in m y) w → StepHalts w z answer
+pub halted : (home : ObjectSetting) (ceiling later : ℕ) (k m : Lasting) (s y : Position) (g : List Told) (v w z : LaneView) (answer : Step) → Grows g v w
+    → BeginsOn v.sys (actor_of home.me home.chart k) (step_event s v) (step_entry s) (remainder_of home k s v) (config_of k) g → StandAll (held_in m y) w → StepHalts w z answer
     → Resumes home ceiling later k s m y v z answer
 halted home ceiling later k m s y g v w z step.Point grows begins all h = absurd h
 halted home ceiling later k m s y g v w z step.Done grows begins all h = absurd h
@@ -113,7 +113,7 @@ halted home ceiling later k m s y g v w z step.Stopped grows begins all h =
 halted home ceiling later k m s y g v w z step.Memory grows begins all h =
     record { g = g; mid = w; grows = grows; begins = begins; dry = h; stand = stopped-stand 7 w z (held_in m y) h.stops all }
 
-module _ (home : Setting) (ceiling later : ℕ) (k m : Lasting) (g : Going) (v w : LaneView) (lane : IsLaneOf home ceiling v) (going : IsGoing home k g v) where
+module _ (home : ObjectSetting) (ceiling later : ℕ) (k m : Lasting) (g : Going) (v w : LaneView) (lane : IsLaneOf home ceiling v) (going : IsGoing home k g v) where
   abbrev pub a : Actor
   a = actor_of home.me home.chart k
 
@@ -124,8 +124,8 @@ module _ (home : Setting) (ceiling later : ℕ) (k m : Lasting) (g : Going) (v w
   e = entry_here g.work.entry
 
   -- a run within the step, as the step advances
-  advanced : (ends : List Piece) (y : Option Under) (rest : List Task) (r : Runs true home (moment_of g.work) ends ceiling later k g.left.under (tasks_in home g.left) m y rest v w)
-      → Advances v.sys a ev e (left_by g.left.under (tasks_in home g.left) g.leaf) (config_of k) (tell (records_in r.ps) ++ ends) (left_by y rest g.leaf) (config_of m)
+  advanced : (ends : List Piece) (y : Option Under) (rest : List Task) (r : Runs true home (moment_of_work g.work) ends ceiling later k g.left.under (tasks_in home g.left) m y rest v w)
+      → StepAdvances v.sys a ev e (left_by g.left.under (tasks_in home g.left) g.leaf) (config_of k) (tell (records_in r.ps) ++ ends) (left_by y rest g.leaf) (config_of m)
   advanced ends y rest r =
       let here : AgendaReaches v.sys a (moment ev e) (left_by g.left.under (tasks_in home g.left) g.leaf) (config_of k) (r.ps ++ ends) (left_by y rest g.leaf) (config_of m) =
       subst (λ at. AgendaReaches v.sys a at (left_by g.left.under (tasks_in home g.left) g.leaf) (config_of k) (r.ps ++ ends) (left_by y rest g.leaf) (config_of m)) (moment-is g.work going.hand going.is) (r.reaches g.leaf) in
@@ -133,14 +133,14 @@ module _ (home : Setting) (ceiling later : ℕ) (k m : Lasting) (g : Going) (v w
       (leaf-of g.left.under (tasks_in home g.left) g.leaf ∙ sym (leaf-of y rest g.leaf))
       (subst (λ ps. AgendaReaches v.sys a (moment ev e) (left_by g.left.under (tasks_in home g.left) g.leaf) (config_of k) (ps ++ ends) (left_by y rest g.leaf) (config_of m)) (r.plain refl) here)
 
-  reached : (ends : List Piece) (y : Option Under) (rest : List Task) (r : Runs true home (moment_of g.work) ends ceiling later k g.left.under (tasks_in home g.left) m y rest v w)
+  reached : (ends : List Piece) (y : Option Under) (rest : List Task) (r : Runs true home (moment_of_work g.work) ends ceiling later k g.left.under (tasks_in home g.left) m y rest v w)
       → AgendaReaches v.sys a (moment ev e) (left_by g.left.under (tasks_in home g.left) g.leaf) (config_of k) (tell (records_in r.ps) ++ ends) (left_by y rest g.leaf) (config_of m)
   reached ends y rest r =
       let here : AgendaReaches v.sys a (moment ev e) (left_by g.left.under (tasks_in home g.left) g.leaf) (config_of k) (r.ps ++ ends) (left_by y rest g.leaf) (config_of m) =
       subst (λ at. AgendaReaches v.sys a at (left_by g.left.under (tasks_in home g.left) g.leaf) (config_of k) (r.ps ++ ends) (left_by y rest g.leaf) (config_of m)) (moment-is g.work going.hand going.is) (r.reaches g.leaf) in
       subst (λ ps. AgendaReaches v.sys a (moment ev e) (left_by g.left.under (tasks_in home g.left) g.leaf) (config_of k) (ps ++ ends) (left_by y rest g.leaf) (config_of m)) (r.plain refl) here
 
-  lane-on : (ends : List Piece) (y : Option Under) (rest : List Task) → Runs true home (moment_of g.work) ends ceiling later k g.left.under (tasks_in home g.left) m y rest v w → IsLaneOf home later w
+  lane-on : (ends : List Piece) (y : Option Under) (rest : List Task) → Runs true home (moment_of_work g.work) ends ceiling later k g.left.under (tasks_in home g.left) m y rest v w → IsLaneOf home later w
   lane-on ends y rest r = record {
     of = r.grows.sys ∙ lane.of;
     mine = r.grows.by ∙ lane.mine;
@@ -150,7 +150,7 @@ module _ (home : Setting) (ceiling later : ℕ) (k m : Lasting) (g : Going) (v w
   }
 
   -- to a scheduling point
-  pub to-point : (left : Left) → Runs true home (moment_of g.work) (Point ∷ []) ceiling later k g.left.under (tasks_in home g.left) m left.under (tasks_in home left) v w
+  pub to-point : (left : Left) → Runs true home (moment_of_work g.work) (Point ∷ []) ceiling later k g.left.under (tasks_in home g.left) m left.under (tasks_in home left) v w
       → ToPoint home ceiling later k (stage.Within g) m (stage.Within (record { work = g.work; left = left; leaf = g.leaf })) v w
   to-point left r = record {
     g = records_in r.ps;
@@ -181,7 +181,7 @@ module _ (home : Setting) (ceiling later : ℕ) (k m : Lasting) (g : Going) (v w
   hand-stands = rw going.is going.stand
 
   -- to an assertion
-  pub to-assert : (left : Left) (code : ℕ) (z : LaneView) → RunAsserts true home (moment_of g.work) code k g.left.under (tasks_in home g.left) m left.under v w → Stops code w z
+  pub to-assert : (left : Left) (code : ℕ) (z : LaneView) → RunAsserts true home (moment_of_work g.work) code k g.left.under (tasks_in home g.left) m left.under v w → Stops code w z
       → EndsAsserted home k (stage.Within g) m (stage.Within (record { work = g.work; left = left; leaf = g.leaf })) v z
   to-assert left code z r stops =
       let does = subst (λ at. DoesLeft v.sys a at (left_by g.left.under (tasks_in home g.left) g.leaf).publishing (left_by g.left.under (tasks_in home g.left) g.leaf).posts (left_by g.left.under (tasks_in home g.left) g.leaf).tasks (config_of k) r.ps None)
@@ -200,7 +200,7 @@ module _ (home : Setting) (ceiling later : ℕ) (k m : Lasting) (g : Going) (v w
       }
 
   -- the records of a run that was cut begin something
-  pub cut-begins : (y : Option Under) → (r : RunCut true home (moment_of g.work) k g.left.under (tasks_in home g.left) m y v w)
+  pub cut-begins : (y : Option Under) → (r : RunCut true home (moment_of_work g.work) k g.left.under (tasks_in home g.left) m y v w)
       → BeginsOn v.sys a ev e (left_by g.left.under (tasks_in home g.left) g.leaf) (config_of k) (records_in r.ps)
   unfolding StepGoesOn Closes
   cut-begins y r =
@@ -216,9 +216,9 @@ module _ (home : Setting) (ceiling later : ℕ) (k m : Lasting) (g : Going) (v w
       closed (Some d) = (release e.pool e, release_drops e.pool e)
 
   -- nothing is left but the release
-  pub to-end : (hand : HeldEntry) (z : LaneView) (r : Runs true home (moment_of g.work) [] ceiling later k g.left.under (tasks_in home g.left) m None [] v w) → g.work.entry ≡ Some hand → Released (entry_of hand) w z
+  pub to-end : (hand : HeldEntry) (z : LaneView) (r : Runs true home (moment_of_work g.work) [] ceiling later k g.left.under (tasks_in home g.left) m None [] v w) → g.work.entry ≡ Some hand → Released (entry_of hand) w z
       → ToEnd home ceiling later k (stage.Within g) (record m { leaf = g.leaf }) v z
-  unfolding Advances
+  unfolding StepAdvances
   to-end hand z r is rel =
       let grown : Grows (records_in r.ps ++ rel.g) v z = grows-then (records_in r.ps) rel.g v w z r.grows rel.grows in
       let drops : Drops e rel.g = subst (λ x. Drops (entry_here x) rel.g) (sym is) rel.drops in
@@ -265,9 +265,9 @@ module _ (home : Setting) (ceiling later : ℕ) (k m : Lasting) (g : Going) (v w
       }
 
   -- a run to the end, before the release
-  pub over-begins : (r : Runs true home (moment_of g.work) [] ceiling later k g.left.under (tasks_in home g.left) m None [] v w)
+  pub over-begins : (r : Runs true home (moment_of_work g.work) [] ceiling later k g.left.under (tasks_in home g.left) m None [] v w)
       → BeginsOn v.sys a ev e (left_by g.left.under (tasks_in home g.left) g.leaf) (config_of k) (records_in r.ps)
-  unfolding Advances
+  unfolding StepAdvances
   over-begins r =
       let drops = release_drops e.pool e in
       let goes = advanced [] None [] r (tell (release e.pool e)) (Some (record (config_of m) { leaf = g.leaf })) (goes_on-done v.sys a ev e g.leaf (config_of m) (release e.pool e) (drops_are e (release e.pool e) drops)) in
@@ -278,13 +278,13 @@ module _ (home : Setting) (ceiling later : ℕ) (k m : Lasting) (g : Going) (v w
         λ none. absurd (cc),
       )
 
-  pub finish-may : (ends : List Piece) (y : Option Under) (rest : List Task) → Runs true home (moment_of g.work) ends ceiling later k g.left.under (tasks_in home g.left) m y rest v w → StandsIn g.work.entry w
+  pub finish-may : (ends : List Piece) (y : Option Under) (rest : List Task) → Runs true home (moment_of_work g.work) ends ceiling later k g.left.under (tasks_in home g.left) m y rest v w → StandsIn g.work.entry w
   finish-may ends y rest r = stand-hand (held_by m y) g.work.entry w (r.stand (hand_of g.work.entry) hand-stands)
 
-  pub over-stand : (r : Runs true home (moment_of g.work) [] ceiling later k g.left.under (tasks_in home g.left) m None [] v w) → StandAll (held_in m stage.Between) w
+  pub over-stand : (r : Runs true home (moment_of_work g.work) [] ceiling later k g.left.under (tasks_in home g.left) m None [] v w) → StandAll (held_in m stage.Between) w
   over-stand r = stand-left (held_by m None) (hand_of g.work.entry) w (r.stand (hand_of g.work.entry) hand-stands)
 
-  pub cut-stand : (left : Left) → RunCut true home (moment_of g.work) k g.left.under (tasks_in home g.left) m left.under v w
+  pub cut-stand : (left : Left) → RunCut true home (moment_of_work g.work) k g.left.under (tasks_in home g.left) m left.under v w
       → StandAll (held_in m (stage.Within (record { work = g.work; left = left; leaf = g.leaf }))) w
   cut-stand left r = r.stand (hand_of g.work.entry) hand-stands
 
@@ -293,9 +293,9 @@ released-is hand e v w is h = subst (λ x. ReleasesEntry x v w) is h
 
 -- a step that was just taken up goes on as one under way
 advances-as : (sys : System) (a : Actor) (x y : Event) (d e : model.Entry) (l r : Remainder) (c : Config) (ps : List Piece) (later : Remainder) (f : Config) → x ≡ y → d ≡ e → l ≡ r
-    → Advances sys a x d l c ps later f → Advances sys a y e r c ps later f
+    → StepAdvances sys a x d l c ps later f → StepAdvances sys a y e r c ps later f
 advances-as sys a x y d e l r c ps later f ev en le h =
-    subst (λ z. Advances sys a y e z c ps later f) le (subst (λ z. Advances sys a y z l c ps later f) en (subst (λ z. Advances sys a z d l c ps later f) ev h))
+    subst (λ z. StepAdvances sys a y e z c ps later f) le (subst (λ z. StepAdvances sys a y z l c ps later f) en (subst (λ z. StepAdvances sys a z d l c ps later f) ev h))
 
 goes-as : (sys : System) (a : Actor) (x y : Event) (d e : model.Entry) (l r : Remainder) (c : Config) (ps : List Piece) (end : Option Config) → x ≡ y → d ≡ e → l ≡ r
     → StepGoesOn sys a x d l c ps end → StepGoesOn sys a y e r c ps end
@@ -306,7 +306,7 @@ goes-as sys a x y d e l r c ps end ev en le h =
 taken-held : (k : Lasting) (g : Going) (e : HeldEntry) → g.work.entry ≡ Some e → g.left.under ≡ None → held_in k (stage.Within g) ≡ held_in k (stage.Taken e)
 taken-held k g e is none = rw (is, none) (ap (λ x. x ++ e ∷ []) (append-nil k.list.entries.items))
 
-pub resumes-taken : (home : Setting) (ceiling later : ℕ) (k m : Lasting) (s z : Position) (e : HeldEntry) (g : Going) (v u w : LaneView) (answer : Step) → stage.Taken e ≡ s → u ≡ v
+pub resumes-taken : (home : ObjectSetting) (ceiling later : ℕ) (k m : Lasting) (s z : Position) (e : HeldEntry) (g : Going) (v u w : LaneView) (answer : Step) → stage.Taken e ≡ s → u ≡ v
     → event_of g.work.ev ≡ event_in_hand e v → g.work.entry ≡ Some e → g.left.under ≡ None
     → left_by g.left.under (tasks_in home g.left) g.leaf ≡ whole_step (actor_of home.me home.chart k) (config_of k) (event_in_hand e v)
     → Resumes home ceiling later k (stage.Within g) m z u w answer → Resumes home ceiling later k s m z v w answer
@@ -333,14 +333,14 @@ resumes-taken home ceiling later k m s z e g v u w answer taken still ev is none
       grows = h.grows;
       advances =
           advances-as v.sys a (event_of g.work.ev) (event_in_hand e v) (entry_here g.work.entry) (entry_of e) (left_by g.left.under (tasks_in home g.left) g.leaf) (whole_step a (config_of k) (event_in_hand e v)) (config_of k)
-          (tell h.g ++ Point ∷ []) (left_of home m z w) (config_of m) ev entry_is left h.advances;
+          (tell h.g ++ Point ∷ []) (remainder_of home m z w) (config_of m) ev entry_is left h.advances;
       going = h.going;
       stands = h.stands;
       done = h.done;
       split = ap (λ (l : Remainder). l.tasks) (sym left) ∙ h.split;
-      reaches = subst (λ x. AgendaReaches v.sys a (moment x (entry_of e)) (whole_step a (config_of k) (event_in_hand e v)) (config_of k) (tell h.g ++ Point ∷ []) (left_of home m z w) (config_of m)) ev
-          (subst (λ x. AgendaReaches v.sys a (moment (event_of g.work.ev) x) (whole_step a (config_of k) (event_in_hand e v)) (config_of k) (tell h.g ++ Point ∷ []) (left_of home m z w) (config_of m)) entry_is
-          (subst (λ l. AgendaReaches v.sys a (moment (event_of g.work.ev) (entry_here g.work.entry)) l (config_of k) (tell h.g ++ Point ∷ []) (left_of home m z w) (config_of m)) left h.reaches));
+      reaches = subst (λ x. AgendaReaches v.sys a (moment x (entry_of e)) (whole_step a (config_of k) (event_in_hand e v)) (config_of k) (tell h.g ++ Point ∷ []) (remainder_of home m z w) (config_of m)) ev
+          (subst (λ x. AgendaReaches v.sys a (moment (event_of g.work.ev) x) (whole_step a (config_of k) (event_in_hand e v)) (config_of k) (tell h.g ++ Point ∷ []) (remainder_of home m z w) (config_of m)) entry_is
+          (subst (λ l. AgendaReaches v.sys a (moment (event_of g.work.ev) (entry_here g.work.entry)) l (config_of k) (tell h.g ++ Point ∷ []) (remainder_of home m z w) (config_of m)) left h.reaches));
       same_event = h.same_event ∙ ev;
       same_entry = h.same_entry ∙ entry_is;
       room = h.room;

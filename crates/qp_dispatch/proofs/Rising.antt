@@ -15,7 +15,7 @@ use Rattle.qp_model.specs.Line.{is_front}
 use Rattle.qp_model.specs.Shapes.{Fits, MakesBlock, MakesNew, again_by, MakesAgain, MakesAgainNow, Posts, PostsFront, PostsNew, PostsNewFront, Forwards, PostsOne, NoBlockFor, Defers, Recalls, Subscribes, Unsubscribes, Arms, Rearms, Disarms}
 use Rattle.qp_model.proofs.FitsLemmas.{all-append}
 use Rattle.qp_calls.specs.Tokens.{Token, Held, Loose, same_token, take_out, hands_of, hands_by, hands_after}
-use Rattle.qp_calls.specs.Counting.{one, times, count_of}
+use Rattle.qp_calls.specs.Counting.{one_if, times, count_of}
 use Rattle.qp_calls.specs.Deferring.{tokens_in}
 use Rattle.qp_calls.specs.LaneView.{LaneView, Grows}
 use Rattle.qp_calls.proofs.CountLemmas.{count-with}
@@ -135,21 +135,21 @@ recalls-mild o _ g is h = absurd h
 pub fits-mild : (sys : System) (o : ℕ) (now : Option Entry) (x : Call) (answer : Answer) (g : List Told) → is_single x ≡ true → is_assertion answer ≡ true
     → Fits sys o now x answer g → Mild g
 unfolding Fits PostsNew PostsNewFront Forwards
-fits-mild sys o now (call.Post to sig pars margin reserve) answer g one is (inl h) = no_block-mild _ _ pars reserve answer g is h
-fits-mild sys o now (call.Post to sig pars margin reserve) answer g one is (inr h) = posts-mild _ to margin h.0 h.1 answer g is (mild-new _ _ sig pars reserve h.0 h.1 h.2) h.3
-fits-mild sys o now (call.Lifo sig pars reserve) answer g one is (inl h) = no_block-mild _ _ pars reserve answer g is h
-fits-mild sys o now (call.Lifo sig pars reserve) answer g one is (inr h) = front-mild o h.0 h.1 answer g is (mild-new _ _ sig pars reserve h.0 h.1 h.2) h.3
-fits-mild sys o now (call.Forward to margin) answer g one is h = posts-mild _ to margin h.0 h.1 answer g is (mild-again_now now h.0 h.1 h.2) h.3
-fits-mild sys o now (call.Publish sig pars reserve) answer g one is h = absurd (cc)
-fits-mild sys o now call.Defer answer g one is h = defers-mild now answer g is h
-fits-mild sys o now call.Recall answer g one is h = recalls-mild o answer g is h
-fits-mild sys o now call.Flush (Flushed n) g one is h = absurd (cc)
-fits-mild sys o now call.Flush _ g one is h = absurd h
-fits-mild sys o now (call.Subscribe sig) answer g one is h = subscribes-mild sig answer g is h
-fits-mild sys o now (call.Unsubscribe sig) answer g one is h = unsubscribes-mild sig answer g is h
-fits-mild sys o now (call.Arm t ticks interval) answer g one is h = arms-mild _ ticks interval answer g is h.0
-fits-mild sys o now (call.Rearm t ticks) answer g one is h = rearms-mild _ ticks answer g is h.0
-fits-mild sys o now (call.Disarm t) answer g one is h = disarms-mild _ answer g is h
+fits-mild sys o now (call.Post to sig pars margin reserve) answer g one_if is (inl h) = no_block-mild _ _ pars reserve answer g is h
+fits-mild sys o now (call.Post to sig pars margin reserve) answer g one_if is (inr h) = posts-mild _ to margin h.0 h.1 answer g is (mild-new _ _ sig pars reserve h.0 h.1 h.2) h.3
+fits-mild sys o now (call.Lifo sig pars reserve) answer g one_if is (inl h) = no_block-mild _ _ pars reserve answer g is h
+fits-mild sys o now (call.Lifo sig pars reserve) answer g one_if is (inr h) = front-mild o h.0 h.1 answer g is (mild-new _ _ sig pars reserve h.0 h.1 h.2) h.3
+fits-mild sys o now (call.Forward to margin) answer g one_if is h = posts-mild _ to margin h.0 h.1 answer g is (mild-again_now now h.0 h.1 h.2) h.3
+fits-mild sys o now (call.Publish sig pars reserve) answer g one_if is h = absurd (cc)
+fits-mild sys o now call.Defer answer g one_if is h = defers-mild now answer g is h
+fits-mild sys o now call.Recall answer g one_if is h = recalls-mild o answer g is h
+fits-mild sys o now call.Flush (Flushed n) g one_if is h = absurd (cc)
+fits-mild sys o now call.Flush _ g one_if is h = absurd h
+fits-mild sys o now (call.Subscribe sig) answer g one_if is h = subscribes-mild sig answer g is h
+fits-mild sys o now (call.Unsubscribe sig) answer g one_if is h = unsubscribes-mild sig answer g is h
+fits-mild sys o now (call.Arm t ticks interval) answer g one_if is h = arms-mild _ ticks interval answer g is h.0
+fits-mild sys o now (call.Rearm t ticks) answer g one_if is h = rearms-mild _ ticks answer g is h.0
+fits-mild sys o now (call.Disarm t) answer g one_if is h = disarms-mild _ answer g is h
 
 -- a loose block taken out leaves the references
 loose-out : (p b r q c : ℕ) (u : Bool) (hands : List Token) → count_of (Held p b r) (take_out (Loose q c u) hands) ≡ count_of (Held p b r) hands

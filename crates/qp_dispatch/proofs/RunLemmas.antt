@@ -20,7 +20,7 @@ use Rattle.qp_model.proofs.PublicationLemmas.{tell-append}
 use Rattle.qp_model.proofs.ReachLemmas.{reaches-none, reaches-trans, reaches-asserted}
 use Rattle.qp_calls.specs.declared.tokens.HeldEntry.{HeldEntry}
 use Rattle.qp_calls.specs.declared.answers.RoomFault.{RoomFault}
-use Rattle.qp_chart_compiled.specs.AsTask.{first}
+use Rattle.qp_chart_compiled.specs.AsTask.{first_task}
 use Rattle.qp_calls.specs.LaneView.{LaneView, Grows}
 use Rattle.qp_calls.specs.Clauses.{IsFault}
 use Rattle.qp_calls.specs.Deferring.{StandAll, is_named, kept_in}
@@ -30,12 +30,12 @@ use Rattle.qp_dispatch.specs.declared.part.Under.{Under}
 use Rattle.qp_dispatch.specs.declared.part.Part.{Part}
 use Rattle.qp_dispatch.specs.declared.part.Part.TheVariants as part
 use Rattle.qp_dispatch.specs.declared.work.Work.{Work}
-use Rattle.qp_dispatch.specs.Lasts.{config_of, actor_of, moment_of}
+use Rattle.qp_dispatch.specs.Lasts.{config_of, actor_of, moment_of_work}
 use Rattle.qp_dispatch.specs.CallsDone.{StandsIn}
 use Rattle.qp_dispatch.specs.Acting.{ActionKeeps}
-use Rattle.qp_dispatch.specs.Parts.{Goes, Asserts, CutShort, FewerLeft, GoesFurther, IsPublishing, Parts, held_by, left_by, publishing_of, entries_under}
+use Rattle.qp_dispatch.specs.Parts.{PartGoes, Asserts, CutShort, FewerLeft, GoesFurther, IsPublishing, Parts, held_by, left_by, publishing_of, entries_under}
 use Rattle.qp_dispatch.specs.SoundFor.{MayTask}
-use Rattle.qp_dispatch.specs.Runs.{MayRun, NothingLeft, PartDoes, RunAsserts, RunCut, Runs, Setting, hand_of, weight}
+use Rattle.qp_dispatch.specs.Runs.{MayRun, NothingLeft, PartDoes, RunAsserts, RunCut, Runs, ObjectSetting, hand_of, weight}
 use Rattle.qp_dispatch.proofs.ActLemmas.{counts-join}
 use Rattle.qp_dispatch.proofs.FailLemmas.{left-tells, point-behind}
 use Rattle.qp_dispatch.proofs.PartLemmas.{stand-fewer, stand-in}
@@ -83,24 +83,24 @@ pub under-less : (from : Under) (y : Option Under) (ts : List Task) → FewerLef
 under-less from None ts h = omega arith
 under-less from (Some u) ts h = omega (arith, h)
 
-pub first-split : (t : Task) (ts : List Task) → Some t ≡ first ts → ts ≡ t ∷ drop 1 ts
+pub first-split : (t : Task) (ts : List Task) → Some t ≡ first_task ts → ts ≡ t ∷ drop 1 ts
 first-split t [] h = absurd (cc)
 first-split t (x ∷ ts) h = let same : t ≡ x = cc in rw same refl
 
 -- a part of a publication under way
-pub part-under : (home : Setting) (work : Work) (ceiling later : ℕ) (k : Lasting) (u : Option Under) (from : Under) (ts : List Task) (m : Lasting) (y : Option Under) (v w : LaneView) (p : Part)
+pub part-under : (home : ObjectSetting) (work : Work) (ceiling later : ℕ) (k : Lasting) (u : Option Under) (from : Under) (ts : List Task) (m : Lasting) (y : Option Under) (v w : LaneView) (p : Part)
     → u ≡ Some from → ((at : Moment) → Parts home.me at [] ceiling later k (Some from) m y v w p) → FewerLeft from y → PartDoes home work ceiling later k u ts m y ts v w p
-part-under home work ceiling later k u from ts m y v w p is goes fewer = rw is (record { pre = []; split = refl; does = goes (moment_of work); less = under-less from y ts fewer })
+part-under home work ceiling later k u from ts m y v w p is goes fewer = rw is (record { pre = []; split = refl; does = goes (moment_of_work work); less = under-less from y ts fewer })
 
 -- a task
-pub part-task : (home : Setting) (work : Work) (ceiling later : ℕ) (k : Lasting) (u : Option Under) (t : Task) (ts rest : List Task) (m : Lasting) (y : Option Under) (v w : LaneView) (p : Part)
-    → u ≡ None → Some t ≡ first ts → rest ≡ drop 1 ts → Parts home.me (moment_of work) (t ∷ []) ceiling later k None m y v w p → PartDoes home work ceiling later k u ts m y rest v w p
+pub part-task : (home : ObjectSetting) (work : Work) (ceiling later : ℕ) (k : Lasting) (u : Option Under) (t : Task) (ts rest : List Task) (m : Lasting) (y : Option Under) (v w : LaneView) (p : Part)
+    → u ≡ None → Some t ≡ first_task ts → rest ≡ drop 1 ts → Parts home.me (moment_of_work work) (t ∷ []) ceiling later k None m y v w p → PartDoes home work ceiling later k u ts m y rest v w p
 part-task home work ceiling later k u t ts rest m y v w p is at next does =
     let split : ts ≡ t ∷ rest = first-split t ts at ∙ ap (λ x. t ∷ x) (sym next) in
     rw is (record { pre = t ∷ []; split = split; does = does; less = subst (λ x. weight y rest < weight None x) (sym split) (task-less y t rest) })
 
 -- what a run rests on stays
-pub may-on : (stops : Bool) (home : Setting) (at : Moment) (hand : Option HeldEntry) (ceiling later : ℕ) (k : Lasting) (u : Option Under) (ts : List Task) (m : Lasting) (y : Option Under) (rest : List Task)
+pub may-on : (stops : Bool) (home : ObjectSetting) (at : Moment) (hand : Option HeldEntry) (ceiling later : ℕ) (k : Lasting) (u : Option Under) (ts : List Task) (m : Lasting) (y : Option Under) (rest : List Task)
     (v w : LaneView) → MayRun home hand k u ts ceiling v → Runs stops home at [] ceiling later k u ts m y rest v w → MayRun home hand m y rest later w
 may-on stops home at hand ceiling later k u ts m y rest v w may r = record {
   of = r.grows.sys ∙ may.of;
@@ -138,10 +138,10 @@ complete-left sys a at (Some u) ts leaf c able few = by (members u.publication.l
 
 -- A run grows by a part.
 
-same-actor : (home : Setting) (k m : Lasting) → ActionKeeps k m → actor_of home.me home.chart m ≡ actor_of home.me home.chart k
+same-actor : (home : ObjectSetting) (k m : Lasting) → ActionKeeps k m → actor_of home.me home.chart m ≡ actor_of home.me home.chart k
 same-actor home k m keeps = ap (λ room. record { o = home.me; chart = home.chart; room = room }) keeps.room
 
-module _ (stops : Bool) (home : Setting) (at : Moment) (ceiling : ℕ) (k : Lasting) (u : Option Under) (ts : List Task) (v : LaneView) where
+module _ (stops : Bool) (home : ObjectSetting) (at : Moment) (ceiling : ℕ) (k : Lasting) (u : Option Under) (ts : List Task) (v : LaneView) where
   pub runs-none : IsPublishing u v → Runs stops home at [] ceiling ceiling k u ts k u ts v v
   unfolding records_in
   runs-none publishing = record {
@@ -161,7 +161,7 @@ module _ (stops : Bool) (home : Setting) (at : Moment) (ceiling : ℕ) (k : Last
 
   module _ (mid later : ℕ) (l m : Lasting) (x y : Option Under) (pre mids rest : List Task) (w z : LaneView) (r : Runs stops home at [] ceiling mid k u ts l x mids v w) (split : mids ≡ pre ++ rest) where
     -- what a part reaches, a run reaches behind it
-    reached : (points : List Piece) (h : Goes home.me at pre points mid later l x m y w z) (leaf : ℕ)
+    reached : (points : List Piece) (h : PartGoes home.me at pre points mid later l x m y w z) (leaf : ℕ)
         → AgendaReaches v.sys (actor_of home.me home.chart k) at (left_by u ts leaf) (config_of k) (r.ps ++ (tell h.g ++ points)) (left_by y rest leaf) (config_of m)
     reached points h leaf =
         let before : AgendaReaches v.sys (actor_of home.me home.chart k) at (left_by u ts leaf) (config_of k) r.ps (left_by x mids leaf) (config_of l) =
@@ -193,7 +193,7 @@ module _ (stops : Bool) (home : Setting) (at : Moment) (ceiling : ℕ) (k : Last
     }
 
     -- with the points behind the part
-    pub runs-then : (points : List Piece) → Goes home.me at pre points mid later l x m y w z → Runs stops home at points ceiling later k u ts m y rest v z
+    pub runs-then : (points : List Piece) → PartGoes home.me at pre points mid later l x m y w z → Runs stops home at points ceiling later k u ts m y rest v z
     runs-then points h = record {
       ps = r.ps ++ tell h.g;
       grows = grows-more h.g h.grows;

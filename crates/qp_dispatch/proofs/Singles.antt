@@ -13,7 +13,7 @@ use Rattle.qp_calls.specs.declared.did.Did.TheVariants as did
 use Rattle.qp_calls.specs.declared.answers.Arm.TheVariants as armed
 use Rattle.qp_calls.specs.Tokens.{hands_after, hands_by}
 use Rattle.qp_calls.specs.LaneView.{LaneView, AddsTold, GrowsOf, Roomier, ceiling_in}
-use Rattle.qp_calls.specs.Notes.{MayNote, spare_after, told_note, told_as}
+use Rattle.qp_calls.specs.Notes.{MayNote, spare_after, told_note, note_told}
 use Rattle.qp_calls.specs.Clauses as clause
 use Rattle.qp_calls.specs.Groups.{CallAnswers}
 use Rattle.qp_calls.proofs.Answering.{answers-room}
@@ -32,7 +32,7 @@ refused me t ticks interval r v w is by some grown spare =
     let mine : r.of ≡ v.by = of-is me (BadTicks t ticks interval) r is ∙ sym by in
     let less : w.spare ≡ v.spare - 1 = spare ∙ rw body refl in
     record {
-      grows = subst (λ x. GrowsOf x (plain (BadTicks t ticks interval) ∷ []) v w) mine (subst (λ x. GrowsOf r.of (told_as (ceiling_in 0 v.told) x ∷ []) v w) body grown);
+      grows = subst (λ x. GrowsOf x (plain (BadTicks t ticks interval) ∷ []) v w) mine (subst (λ x. GrowsOf r.of (note_told (ceiling_in 0 v.told) x ∷ []) v w) body grown);
       spare = omega (arith, less, some);
     }
 
@@ -99,7 +99,7 @@ module _ (t place : ℕ) (a r w : LaneView) (number : t ≡ timer_number a.sys.t
         hands = λ y. absurd (cc);
       })
 
-  pub arm-done : (ticks interval : ℕ) → ticks_fit ticks interval ≡ true → clause.Arms t ticks interval r w armed.Done → CallAnswers a.sys a.by None (call.Arm place ticks interval) (did.Value 1) a w
+  pub arm-done : (ticks interval : ℕ) → ticks_fit ticks interval ≡ true → clause.CallArms t ticks interval r w armed.Done → CallAnswers a.sys a.by None (call.Arm place ticks interval) (did.Value 1) a w
   unfolding Fits Arms hands_after hands_by
   arm-done ticks interval good h =
       answers-room None (call.Arm place ticks interval) (did.Value 1) a r w room
@@ -112,7 +112,7 @@ module _ (t place : ℕ) (a r w : LaneView) (number : t ≡ timer_number a.sys.t
         hands = λ y. h.1.grows.hands;
       })
 
-  pub arm-armed : (ticks interval n c : ℕ) → ticks_fit ticks interval ≡ true → clause.Arms t ticks interval r w (armed.Armed n c)
+  pub arm-armed : (ticks interval n c : ℕ) → ticks_fit ticks interval ≡ true → clause.CallArms t ticks interval r w (armed.Armed n c)
       → CallAnswers a.sys a.by None (call.Arm place ticks interval) (did.Assert 3) a w
   unfolding Fits Arms
   arm-armed ticks interval n c good h =
@@ -139,10 +139,10 @@ module _ (t place : ℕ) (a r w : LaneView) (number : t ≡ timer_number a.sys.t
         hands = λ y. absurd (cc);
       })
 
-  pub rearm-none : (ticks former : ℕ) → ticks_fit ticks 0 ≡ true → former ≡ 0 → clause.Rearms t ticks r w former → CallAnswers a.sys a.by None (call.Rearm place ticks) (did.Value 0) a w
+  pub rearm-none : (ticks former : ℕ) → ticks_fit ticks 0 ≡ true → former ≡ 0 → clause.CallRearms t ticks r w former → CallAnswers a.sys a.by None (call.Rearm place ticks) (did.Value 0) a w
   unfolding Fits Rearms hands_after hands_by
   rearm-none ticks former good none h =
-      let k : clause.Rearms t ticks r w 0 = subst (λ x. clause.Rearms t ticks r w x) none h in
+      let k : clause.CallRearms t ticks r w 0 = subst (λ x. clause.CallRearms t ticks r w x) none h in
       answers-room None (call.Rearm place ticks) (did.Value 0) a r w room
       (record {
         answer = Refused;
@@ -153,7 +153,7 @@ module _ (t place : ℕ) (a r w : LaneView) (number : t ≡ timer_number a.sys.t
         hands = λ y. k.1.grows.hands;
       })
 
-  pub rearm-some : (ticks former : ℕ) → ticks_fit ticks 0 ≡ true → (former ≡ 0 → ⊥) → clause.Rearms t ticks r w former → CallAnswers a.sys a.by None (call.Rearm place ticks) (did.Value 1) a w
+  pub rearm-some : (ticks former : ℕ) → ticks_fit ticks 0 ≡ true → (former ≡ 0 → ⊥) → clause.CallRearms t ticks r w former → CallAnswers a.sys a.by None (call.Rearm place ticks) (did.Value 1) a w
   unfolding Fits Rearms hands_after hands_by
   rearm-some ticks zero good some h = absurd (some refl)
   rearm-some ticks (suc former) good some h =
@@ -167,10 +167,10 @@ module _ (t place : ℕ) (a r w : LaneView) (number : t ≡ timer_number a.sys.t
         hands = λ y. h.1.grows.hands;
       })
 
-  pub disarm-none : (former : ℕ) → former ≡ 0 → clause.Disarms t r w former → CallAnswers a.sys a.by None (call.Disarm place) (did.Value 0) a w
+  pub disarm-none : (former : ℕ) → former ≡ 0 → clause.CallDisarms t r w former → CallAnswers a.sys a.by None (call.Disarm place) (did.Value 0) a w
   unfolding Fits Disarms hands_after hands_by
   disarm-none former none h =
-      let k : clause.Disarms t r w 0 = subst (λ x. clause.Disarms t r w x) none h in
+      let k : clause.CallDisarms t r w 0 = subst (λ x. clause.CallDisarms t r w x) none h in
       answers-room None (call.Disarm place) (did.Value 0) a r w room
       (record {
         answer = Refused;
@@ -181,7 +181,7 @@ module _ (t place : ℕ) (a r w : LaneView) (number : t ≡ timer_number a.sys.t
         hands = λ y. k.1.grows.hands;
       })
 
-  pub disarm-some : (former : ℕ) → (former ≡ 0 → ⊥) → clause.Disarms t r w former → CallAnswers a.sys a.by None (call.Disarm place) (did.Value 1) a w
+  pub disarm-some : (former : ℕ) → (former ≡ 0 → ⊥) → clause.CallDisarms t r w former → CallAnswers a.sys a.by None (call.Disarm place) (did.Value 1) a w
   unfolding Fits Disarms hands_after hands_by
   disarm-some zero some h = absurd (some refl)
   disarm-some (suc former) some h =

@@ -21,7 +21,7 @@ use Rattle.qp_model.specs.Sound.{IsSound}
 use Rattle.qp_model.specs.SoundChart.{IsSoundAct, IsSoundChart, IsSoundEvent, IsSoundPlain, IsSoundRow, IsSoundState}
 use Rattle.qp_model.proofs.ListLemmas.{every-at}
 use Rattle.qp_calls.proofs.FirstPool.{pool_of_sound}
-use Rattle.qp_dispatch.specs.SoundFor.{IsHome}
+use Rattle.qp_dispatch.specs.SoundFor.{IsObjectWithTimers}
 use Rattle.qp_dispatch.specs.Resume.{CanTakeSteps}
 use Rattle.qp_dispatch.proofs.Naming.{sound-event}
 use Rattle.qp_dispatch.proofs.ReadyLemmas.{home-ready}
@@ -97,7 +97,7 @@ module _ (sys : System) (sound : IsSound sys) (chart : Chart) where
   sound-able h = and_from (list_all (act_able sys false) chart.init_do) (list_all (state_able sys) chart.state) (outside chart.init_do h.init_do) (all-pass (IsSoundState sys chart) (state_able sys) state-passes chart.state h.states)
 
 -- an object with its chart, where the timers of its chart are the system's
-pub sound-ready : (sys : System) (me : ℕ) (chart : Chart) (k : ℕ) → IsHome sys me chart → slice_get sys.charts k ≡ Some chart → CanTakeSteps sys me chart
+pub sound-ready : (sys : System) (me : ℕ) (chart : Chart) (k : ℕ) → IsObjectWithTimers sys me chart → slice_get sys.charts k ≡ Some chart → CanTakeSteps sys me chart
 sound-ready sys me chart k home is =
     let sound : IsSoundChart sys chart = every-at (IsSoundChart sys) sys.charts home.sound.charts k chart is in
     home-ready sys me chart home sound (sound-able sys home.sound chart sound)

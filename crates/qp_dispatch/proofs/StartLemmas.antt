@@ -19,8 +19,8 @@ use Rattle.qp_dispatch.specs.declared.part.Under.{Under}
 use Rattle.qp_dispatch.specs.declared.steps.Step.{Step}
 use Rattle.qp_dispatch.specs.declared.steps.Step.TheVariants as step
 use Rattle.qp_dispatch.specs.declared.work.Work.{Work}
-use Rattle.qp_dispatch.specs.Lasts.{config_of, actor_of, moment_of}
-use Rattle.qp_dispatch.specs.Runs.{RunAsserts, RunCut, Runs, Setting}
+use Rattle.qp_dispatch.specs.Lasts.{config_of, actor_of, moment_of_work}
+use Rattle.qp_dispatch.specs.Runs.{RunAsserts, RunCut, Runs, ObjectSetting}
 use Rattle.qp_dispatch.specs.Parts.{entries_under, held_by, left_by}
 use Rattle.qp_dispatch.specs.Resume.{StepHalts, IsLaneOf}
 use Rattle.qp_dispatch.specs.Starting.{BeginsStart, StartAsserted, StartDone, StartsTo}
@@ -30,15 +30,15 @@ use Rattle.qp_dispatch.proofs.ResumeLemmas.{spilled-stand, stopped-stand, unleaf
 pub bare-stand : (es : List HeldEntry) (v : LaneView) → StandAll es v → StandAll ((es ++ []) ++ []) v
 bare-stand es v all = subst (λ xs. StandAll xs v) (sym (append-nil (es ++ []) ∙ append-nil es)) all
 
-pub start-moment : (work : Work) (pars : List ℕ) → pars ≡ [] → event_of work.ev ≡ record { sig = 0; pars = pars } → work.entry ≡ None → moment_of work ≡ at_start
+pub start-moment : (work : Work) (pars : List ℕ) → pars ≡ [] → event_of work.ev ≡ record { sig = 0; pars = pars } → work.entry ≡ None → moment_of_work work ≡ at_start
 start-moment work pars none ev hand = rw (ev, hand, none) refl
 
-module _ (home : Setting) (ceiling later : ℕ) (k m : Lasting) (work : Work) (ts : List Task) (leaf : ℕ) (v w : LaneView) (at : moment_of work ≡ at_start) (tasks : ts ≡ (start_plan home.chart).tasks)
+module _ (home : ObjectSetting) (ceiling later : ℕ) (k m : Lasting) (work : Work) (ts : List Task) (leaf : ℕ) (v w : LaneView) (at : moment_of_work work ≡ at_start) (tasks : ts ≡ (start_plan home.chart).tasks)
     (lane : IsLaneOf home ceiling v) (stand : StandAll k.list.entries.items v) where
   abbrev pub actor : Actor
   actor = actor_of home.me home.chart k
 
-  pub start-done : leaf ≡ (start_plan home.chart).leaf → length (kept_in k.list) ≤ k.list.entries.capacity → Runs false home (moment_of work) [] ceiling later k None ts m None [] v w
+  pub start-done : leaf ≡ (start_plan home.chart).leaf → length (kept_in k.list) ≤ k.list.entries.capacity → Runs false home (moment_of_work work) [] ceiling later k None ts m None [] v w
       → StartDone home later k (record m { leaf = leaf }) v w
   start-done last few r =
       let one : AgendaReaches v.sys actor at_start (left_by None ts leaf) (config_of k) (r.ps ++ []) (left_by None [] leaf) (config_of m) =
@@ -68,7 +68,7 @@ module _ (home : Setting) (ceiling later : ℕ) (k m : Lasting) (work : Work) (t
   left-stand : (y : Option Under) → StandAll (held_by m y ++ []) w → StandAll m.list.entries.items w
   left-stand y all = stand-left m.list.entries.items (entries_under y) w (stand-left (held_by m y) [] w all)
 
-  pub start-asserted : (y : Option Under) (code : ℕ) (z : LaneView) → RunAsserts false home (moment_of work) code k None ts m y v w → Stops code w z → StartAsserted home k m v z
+  pub start-asserted : (y : Option Under) (code : ℕ) (z : LaneView) → RunAsserts false home (moment_of_work work) code k None ts m y v w → Stops code w z → StartAsserted home k m v z
   unfolding tasks_left
   start-asserted y code z r stops =
       let one : DoesLeft v.sys actor at_start None [] ts (config_of k) r.ps None = subst (λ x. DoesLeft v.sys actor x None [] ts (config_of k) r.ps None) at (r.does leaf) in
@@ -85,7 +85,7 @@ module _ (home : Setting) (ceiling later : ℕ) (k m : Lasting) (work : Work) (t
         stand = stopped-stand code w z m.list.entries.items stops (left-stand y (r.stand [] (bare-stand k.list.entries.items v stand)));
       }
 
-  pub start-begins : (y : Option Under) → (r : RunCut false home (moment_of work) k None ts m y v w) → BeginsStart home k (records_in r.ps) v
+  pub start-begins : (y : Option Under) → (r : RunCut false home (moment_of_work work) k None ts m y v w) → BeginsStart home k (records_in r.ps) v
   unfolding Starts DoesLeft tasks_left
   start-begins y r =
       let b = r.begins leaf in
@@ -93,11 +93,11 @@ module _ (home : Setting) (ceiling later : ℕ) (k m : Lasting) (work : Work) (t
       let two : DoesLeft v.sys actor at_start None [] (start_plan home.chart).tasks (config_of k) (r.ps ++ b.0) b.1 = subst (λ us. DoesLeft v.sys actor at_start None [] us (config_of k) (r.ps ++ b.0) b.1) tasks one in
       (records_in b.0, at_leaf (start_plan home.chart).leaf b.1, (r.ps ++ b.0, b.1, two, ap tell (sym (bare-append r.ps b.0)), refl), λ none. b.3 (unleafed (start_plan home.chart).leaf b.1 none))
 
-  pub start-stand : (y : Option Under) → RunCut false home (moment_of work) k None ts m y v w → StandAll m.list.entries.items w
+  pub start-stand : (y : Option Under) → RunCut false home (moment_of_work work) k None ts m y v w → StandAll m.list.entries.items w
   start-stand y r = left-stand y (r.stand [] (bare-stand k.list.entries.items v stand))
 
 -- the lane halted
-pub start-halted : (home : Setting) (later : ℕ) (k m : Lasting) (g : List Told) (v w z : LaneView) (answer : Step) → Grows g v w → BeginsStart home k g v → StandAll m.list.entries.items w → StepHalts w z answer
+pub start-halted : (home : ObjectSetting) (later : ℕ) (k m : Lasting) (g : List Told) (v w z : LaneView) (answer : Step) → Grows g v w → BeginsStart home k g v → StandAll m.list.entries.items w → StepHalts w z answer
     → StartsTo home later k m v z answer
 start-halted home later k m g v w z step.Point grows begins all h = absurd h
 start-halted home later k m g v w z step.Done grows begins all h = absurd h

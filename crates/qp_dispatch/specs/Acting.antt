@@ -75,10 +75,10 @@ pub record ActCut (me : ℕ) (at : Moment) (p : Plain) (k m : Lasting) (v w : La
   pub calm : Calm v w
   pub stand : StandBeside k m v w
 
-abbrev pub Acts : ℕ → Moment → Plain → Lasting → Lasting → LaneView → LaneView → Acted → Type 0
-Acts me at p k m v w acted.Done = ActDone me at p k m v w
-Acts me at p k m v w (acted.Asserted code) = ActAsserts me at p code k m v w
-Acts me at p k m v w (acted.Cut fault) = ActCut me at p k m v w × IsFault w fault
+abbrev pub ActsTo : ℕ → Moment → Plain → Lasting → Lasting → LaneView → LaneView → Acted → Type 0
+ActsTo me at p k m v w acted.Done = ActDone me at p k m v w
+ActsTo me at p k m v w (acted.Asserted code) = ActAsserts me at p code k m v w
+ActsTo me at p k m v w (acted.Cut fault) = ActCut me at p k m v w × IsFault w fault
 
 -- a publication goes by parts
 abbrev pub is_publication : Plain → Bool
@@ -86,7 +86,7 @@ is_publication (action.Publish sig pars reserve) = true
 is_publication p = false
 
 -- `ok` takes the value that a call answers
-abbrev pub Settles : Lasting → Lasting → Result Did RoomFault → Acted → Type 0
-Settles k m (Ok (did.Value n)) a = (a ≡ acted.Done) × (m ≡ record k { ok = pos n })
-Settles k m (Ok (did.Assert code)) a = (a ≡ acted.Asserted code) × (m ≡ k)
-Settles k m (Err fault) a = (a ≡ acted.Cut fault) × (m ≡ k)
+abbrev pub OkTakes : Lasting → Lasting → Result Did RoomFault → Acted → Type 0
+OkTakes k m (Ok (did.Value n)) a = (a ≡ acted.Done) × (m ≡ record k { ok = pos n })
+OkTakes k m (Ok (did.Assert code)) a = (a ≡ acted.Asserted code) × (m ≡ k)
+OkTakes k m (Err fault) a = (a ≡ acted.Cut fault) × (m ≡ k)

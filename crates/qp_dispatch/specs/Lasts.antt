@@ -25,8 +25,8 @@ entry_in None = None
 entry_in (Some e) = Some (entry_of e)
 
 -- the moment of a start or a step
-abbrev pub moment_of : Work → Moment
-moment_of work = record { event = event_of work.ev; entry = entry_in work.entry }
+abbrev pub moment_of_work : Work → Moment
+moment_of_work work = record { event = event_of work.ev; entry = entry_in work.entry }
 
 -- what the names of its expressions stand for
 abbrev pub names_at : ℕ → Lasting → Work → Names

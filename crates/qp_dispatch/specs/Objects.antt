@@ -16,36 +16,36 @@ use Rattle.qp_dispatch.specs.declared.steps.Position.TheVariants as stage
 use Rattle.qp_dispatch.specs.declared.steps.Step.{Step}
 use Rattle.qp_dispatch.specs.declared.steps.Step.TheVariants as step
 use Rattle.qp_dispatch.specs.Lasts.{config_of}
-use Rattle.qp_dispatch.specs.Runs.{Setting}
+use Rattle.qp_dispatch.specs.Runs.{ObjectSetting}
 use Rattle.qp_dispatch.specs.Resume.{IsLaneOf, CanTakeSteps, IsUnderWay, Resumes}
 use Rattle.qp_dispatch.specs.Starting.{StartsTo}
 
-abbrev pub home_of : System → Chart → Object → Setting
-home_of sys chart x = record { sys = sys; chart = chart; compiled = x.compiled; me = x.me }
+abbrev pub setting_for : System → Chart → Object → ObjectSetting
+setting_for sys chart x = record { sys = sys; chart = chart; compiled = x.compiled; me = x.me }
 
 -- the lane, while it works for this object
 abbrev pub works_for : ℕ → LaneView → LaneView
 works_for o v = record v { by = o }
 
 -- an object of the system, with its chart, compiled; and the lane serves it
-pub record IsObject (sys : System) (ceiling : ℕ) (x : Object) (v : LaneView) : Type 0 where
+pub record IsServedObject (sys : System) (ceiling : ℕ) (x : Object) (v : LaneView) : Type 0 where
   pub chart : Chart
   pub is : chart_at sys x.chart ≡ Some chart
   pub ready : CanTakeSteps sys x.me chart
   pub compiled : IsCompiled chart x.compiled
-  pub lane : IsLaneOf (home_of sys chart x) ceiling v
+  pub lane : IsLaneOf (setting_for sys chart x) ceiling v
 
 -- an object that has not started
 pub record MayStart (sys : System) (ceiling : ℕ) (x : Object) (v : LaneView) : Type 0 where
-  pub at : IsObject sys ceiling x v
+  pub at : IsServedObject sys ceiling x v
   pub unstarted : x.started ≡ false
   pub few : length (kept_in x.lasting.list) ≤ x.lasting.list.entries.capacity
   pub stand : StandAll x.lasting.list.entries.items v
 
 -- an object with a step under way
 pub record MayResume (sys : System) (ceiling : ℕ) (x : Object) (v : LaneView) : Type 0 where
-  pub at : IsObject sys ceiling x v
-  pub under_way : IsUnderWay (home_of sys at.chart x) x.lasting x.stage v
+  pub at : IsServedObject sys ceiling x v
+  pub under_way : IsUnderWay (setting_for sys at.chart x) x.lasting x.stage v
 
 abbrev pub is_step_over : Step → Bool
 is_step_over step.Done = true
@@ -55,7 +55,7 @@ is_step_over _ = false
 abbrev pub StartsAs : Option Chart → System → ℕ → Object → Object → LaneView → LaneView → Step → Type 0
 StartsAs None sys later x y v w answer = ⊥
 StartsAs (Some chart) sys later x y v w answer =
-    (y ≡ record x { lasting = y.lasting; started = is_step_over answer }) × StartsTo (home_of sys chart x) later x.lasting y.lasting v w answer
+    (y ≡ record x { lasting = y.lasting; started = is_step_over answer }) × StartsTo (setting_for sys chart x) later x.lasting y.lasting v w answer
 
 -- the same, while the lane works for the object, and then again for whom it did before
 abbrev pub ObjectStarts : System → ℕ → Object → Object → LaneView → LaneView → Step → Type 0
@@ -66,7 +66,7 @@ ObjectStarts sys later x y v w answer =
 abbrev pub ResumesAs : Option Chart → System → ℕ → ℕ → Object → Object → LaneView → LaneView → Step → Type 0
 ResumesAs None sys ceiling later x y v w answer = ⊥
 ResumesAs (Some chart) sys ceiling later x y v w answer =
-    (y ≡ record x { lasting = y.lasting; stage = y.stage }) × Resumes (home_of sys chart x) ceiling later x.lasting x.stage y.lasting y.stage v w answer
+    (y ≡ record x { lasting = y.lasting; stage = y.stage }) × Resumes (setting_for sys chart x) ceiling later x.lasting x.stage y.lasting y.stage v w answer
 
 -- the same, while the lane works for the object, and then again for whom it did before
 abbrev pub ObjectResumes : System → ℕ → ℕ → Object → Object → LaneView → LaneView → Step → Type 0
@@ -87,7 +87,7 @@ pub record HasFirst (d : ObjectDef) (k : Lasting) : Type 0 where
   pub room : k.list.entries.capacity ≡ d.defer
 
 -- an object before its start, with this chart
-pub record IsMade (d : ObjectDef) (chart : Chart) (x : Object) : Type 0 where
+pub record IsObjectMade (d : ObjectDef) (chart : Chart) (x : Object) : Type 0 where
   pub me : x.me ≡ d.priority
   pub of : x.chart ≡ d.chart
   pub compiled : IsCompiled chart x.compiled
@@ -97,9 +97,9 @@ pub record IsMade (d : ObjectDef) (chart : Chart) (x : Object) : Type 0 where
   pub taken : x.taken ≡ 0
 
 -- the object of this priority before its start
-pub record IsNew (sys : System) (priority : ℕ) (x : Object) : Type 0 where
+pub record IsNewObject (sys : System) (priority : ℕ) (x : Object) : Type 0 where
   pub object : ObjectDef
   pub of : object_at sys priority ≡ Some object
   pub chart : Chart
   pub has : chart_at sys object.chart ≡ Some chart
-  pub made : IsMade object chart x
+  pub made : IsObjectMade object chart x

@@ -18,7 +18,7 @@ use Rattle.qp_calls.specs.LaneView.{LaneView, Grows, ceiling_in}
 use Rattle.qp_calls.specs.Notes.{last_code, spills_told}
 use Rattle.qp_calls.specs.Clauses.{IsFault, entry_of}
 use Rattle.qp_calls.specs.Deferring.{ChangeAlike, StandAll}
-use Rattle.qp_calls.specs.Publishing.{AreObjects}
+use Rattle.qp_calls.specs.Publishing.{MembersAreObjects}
 use Rattle.qp_dispatch.specs.declared.lasting.Lasting.{Lasting}
 use Rattle.qp_dispatch.specs.declared.part.Part.{Part}
 use Rattle.qp_dispatch.specs.declared.part.Part.TheVariants as part
@@ -47,14 +47,14 @@ held_by k u = k.list.entries.items ++ entries_under u
 -- a publication under way names objects alone, and restores the ceiling that it found
 abbrev pub IsPublishing : Option Under → LaneView → Type 0
 IsPublishing None v = ⊤
-IsPublishing (Some u) v = AreObjects v.sys u.publication.left × (u.ceiling ≡ u.publication.former)
+IsPublishing (Some u) v = MembersAreObjects v.sys u.publication.left × (u.ceiling ≡ u.publication.former)
 
 -- what stood beside the object's entries still does
 abbrev pub StandWith : Lasting → Option Under → Lasting → Option Under → LaneView → LaneView → Type 0
 StandWith k u m y v w = (others : List HeldEntry) → StandAll (held_by k u ++ others) v → StandAll (held_by m y ++ others) w
 
 -- These tasks were done, or a part of a publication. `ceiling` was that of the lane, and `later` is.
-pub record Goes (me : ℕ) (at : Moment) (pre : List Task) (points : List Piece) (ceiling later : ℕ)
+pub record PartGoes (me : ℕ) (at : Moment) (pre : List Task) (points : List Piece) (ceiling later : ℕ)
     (k : Lasting) (u : Option Under) (m : Lasting) (y : Option Under) (v w : LaneView) : Type 0 where
   pub g : List Told
   pub grows : Grows g v w
@@ -96,8 +96,8 @@ pub record CutShort (me : ℕ) (at : Moment) (pre : List Task)
   pub stand : StandWith k u m y v w
 
 abbrev pub Parts : ℕ → Moment → List Task → ℕ → ℕ → Lasting → Option Under → Lasting → Option Under → LaneView → LaneView → Part → Type 0
-Parts me at pre ceiling later k u m y v w part.On = Goes me at pre [] ceiling later k u m y v w
-Parts me at pre ceiling later k u m y v w part.Point = Goes me at pre (Point ∷ []) ceiling later k u m y v w
+Parts me at pre ceiling later k u m y v w part.On = PartGoes me at pre [] ceiling later k u m y v w
+Parts me at pre ceiling later k u m y v w part.Point = PartGoes me at pre (Point ∷ []) ceiling later k u m y v w
 Parts me at pre ceiling later k u m y v w (part.Asserted code) = Asserts me at pre code k u m y v w
 Parts me at pre ceiling later k u m y v w (part.Cut fault) = CutShort me at pre k u m y v w × IsFault w fault
 

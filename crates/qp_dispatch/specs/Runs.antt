@@ -17,7 +17,7 @@ use Rattle.qp_calls.specs.Notes.{last_code, spills_told}
 use Rattle.qp_calls.specs.Clauses.{IsFault, entry_of}
 use Rattle.qp_calls.specs.Deferring.{ChangeAlike, StandAll, kept_in}
 use Rattle.qp_chart_compiled.specs.declared.compiled.Compiled.{Compiled}
-use Rattle.qp_chart_compiled.specs.Compiled.{left_in}
+use Rattle.qp_chart_compiled.specs.Compiled.{tasks_left_in}
 use Rattle.qp_dispatch.specs.declared.lasting.Lasting.{Lasting}
 use Rattle.qp_dispatch.specs.declared.part.Part.{Part}
 use Rattle.qp_dispatch.specs.declared.part.Under.{Under}
@@ -26,24 +26,24 @@ use Rattle.qp_dispatch.specs.declared.runs.Left.{Left}
 use Rattle.qp_dispatch.specs.declared.runs.Ran.{Ran}
 use Rattle.qp_dispatch.specs.declared.runs.Ran.TheVariants as ran
 use Rattle.qp_dispatch.specs.declared.work.Work.{Work}
-use Rattle.qp_dispatch.specs.Lasts.{config_of, actor_of, moment_of}
+use Rattle.qp_dispatch.specs.Lasts.{config_of, actor_of, moment_of_work}
 use Rattle.qp_dispatch.specs.Acting.{ActionKeeps}
 use Rattle.qp_dispatch.specs.Parts.{Parts, IsPublishing, StandWith, held_by, left_by}
 use Rattle.qp_dispatch.specs.SoundFor.{MayTask}
 
 -- where an object runs: its system, its chart, the chart compiled, and its priority
-pub record Setting : Type 0 where
+pub record ObjectSetting : Type 0 where
   pub sys : System
   pub chart : Chart
   pub compiled : Compiled
   pub me : ℕ
 
-abbrev pub setting_of : Home → Setting
-setting_of home = record { sys = home.sys.now; chart = home.chart.now; compiled = home.compiled.now; me = home.me }
+abbrev pub object_setting : Home → ObjectSetting
+object_setting home = record { sys = home.sys.now; chart = home.chart.now; compiled = home.compiled.now; me = home.me }
 
 -- the tasks that are left
-abbrev pub tasks_in : Setting → Left → List Task
-tasks_in home left = left_in home.chart home.compiled left.agenda
+abbrev pub tasks_in : ObjectSetting → Left → List Task
+tasks_in home left = tasks_left_in home.chart home.compiled left.agenda
 
 -- the entry that a step works on
 abbrev pub hand_of : Option HeldEntry → List HeldEntry
@@ -51,7 +51,7 @@ hand_of None = []
 hand_of (Some e) = e ∷ []
 
 -- What a run may rest on: its lane works for the object and serves it, and what is left names what the system has.
-pub record MayRun (home : Setting) (hand : Option HeldEntry) (k : Lasting) (u : Option Under) (ts : List Task) (ceiling : ℕ) (v : LaneView) : Type 0 where
+pub record MayRun (home : ObjectSetting) (hand : Option HeldEntry) (k : Lasting) (u : Option Under) (ts : List Task) (ceiling : ℕ) (v : LaneView) : Type 0 where
   pub of : v.sys ≡ home.sys
   pub mine : v.by ≡ home.me
   pub some : 0 < home.me
@@ -70,11 +70,11 @@ abbrev pub weight : Option Under → List Task → ℕ
 weight u ts = 34 * length ts + weight_under u
 
 -- one part: which tasks it did, and that less is left
-pub record PartDoes (home : Setting) (work : Work) (ceiling later : ℕ) (k : Lasting) (u : Option Under) (ts : List Task)
+pub record PartDoes (home : ObjectSetting) (work : Work) (ceiling later : ℕ) (k : Lasting) (u : Option Under) (ts : List Task)
     (m : Lasting) (y : Option Under) (rest : List Task) (v w : LaneView) (part : Part) : Type 0 where
   pub pre : List Task
   pub split : ts ≡ pre ++ rest
-  pub does : Parts home.me (moment_of work) pre ceiling later k u m y v w part
+  pub does : Parts home.me (moment_of_work work) pre ceiling later k u m y v w part
   pub less : weight y rest < weight u ts
 
 -- nothing is left
@@ -86,13 +86,13 @@ pub record NothingLeft (ceiling later : ℕ) (k : Lasting) (u : Option Under) (t
   pub still : later ≡ ceiling
   pub lane : w ≡ v
 
-abbrev pub PartOf : Setting → Work → ℕ → ℕ → Lasting → Left → Lasting → Left → LaneView → LaneView → Option Part → Type 0
+abbrev pub PartOf : ObjectSetting → Work → ℕ → ℕ → Lasting → Left → Lasting → Left → LaneView → LaneView → Option Part → Type 0
 PartOf home work ceiling later k left m after v w None = NothingLeft ceiling later k left.under (tasks_in home left) m after.under v w
 PartOf home work ceiling later k left m after v w (Some part) =
     PartDoes home work ceiling later k left.under (tasks_in home left) m after.under (tasks_in home after) v w part
 
 -- These pieces came, from what was left to what is. Where the run stops at the first point, none is among them.
-pub record Runs (stops : Bool) (home : Setting) (at : Moment) (ends : List Piece) (ceiling later : ℕ) (k : Lasting) (u : Option Under) (ts : List Task)
+pub record Runs (stops : Bool) (home : ObjectSetting) (at : Moment) (ends : List Piece) (ceiling later : ℕ) (k : Lasting) (u : Option Under) (ts : List Task)
     (m : Lasting) (y : Option Under) (rest : List Task) (v w : LaneView) : Type 0 where
   pub ps : List Piece
   pub grows : Grows (records_in ps) v w
@@ -108,7 +108,7 @@ pub record Runs (stops : Bool) (home : Setting) (at : Moment) (ends : List Piece
   pub publishing : IsPublishing y w
 
 -- an assertion ended the agenda
-pub record RunAsserts (stops : Bool) (home : Setting) (at : Moment) (code : ℕ) (k : Lasting) (u : Option Under) (ts : List Task)
+pub record RunAsserts (stops : Bool) (home : ObjectSetting) (at : Moment) (code : ℕ) (k : Lasting) (u : Option Under) (ts : List Task)
     (m : Lasting) (y : Option Under) (v w : LaneView) : Type 0 where
   pub ps : List Piece
   pub grows : Grows (records_in ps) v w
@@ -120,7 +120,7 @@ pub record RunAsserts (stops : Bool) (home : Setting) (at : Moment) (code : ℕ)
   pub stand : StandWith k u m y v w
 
 -- the pieces begin something that does the agenda
-pub record RunCut (stops : Bool) (home : Setting) (at : Moment) (k : Lasting) (u : Option Under) (ts : List Task)
+pub record RunCut (stops : Bool) (home : ObjectSetting) (at : Moment) (k : Lasting) (u : Option Under) (ts : List Task)
     (m : Lasting) (y : Option Under) (v w : LaneView) : Type 0 where
   pub ps : List Piece
   pub grows : Grows (records_in ps) v w
@@ -131,7 +131,7 @@ pub record RunCut (stops : Bool) (home : Setting) (at : Moment) (k : Lasting) (u
   pub spills : spills_told v.told ≡ false → spills_told w.told ≡ false
   pub stand : StandWith k u m y v w
 
-abbrev pub RunsTo : Bool → Setting → Moment → ℕ → ℕ → Lasting → Left → Lasting → Left → LaneView → LaneView → Ran → Type 0
+abbrev pub RunsTo : Bool → ObjectSetting → Moment → ℕ → ℕ → Lasting → Left → Lasting → Left → LaneView → LaneView → Ran → Type 0
 RunsTo stops home at ceiling later k left m after v w ran.Point =
     (stops ≡ true) × Runs stops home at (Point ∷ []) ceiling later k left.under (tasks_in home left) m after.under (tasks_in home after) v w
 RunsTo stops home at ceiling later k left m after v w ran.Over =
@@ -141,6 +141,6 @@ RunsTo stops home at ceiling later k left m after v w (ran.Cut fault) =
     RunCut stops home at k left.under (tasks_in home left) m after.under v w × IsFault w fault
 
 -- the agenda can be done to its end
-pub record CanEnd (home : Setting) (at : Moment) (k : Lasting) (ts : List Task) : Type 0 where
+pub record CanEnd (home : ObjectSetting) (at : Moment) (k : Lasting) (ts : List Task) : Type 0 where
   pub able : list_all (task_able home.sys (is_some at.entry)) ts ≡ true
   pub few : length (kept_in k.list) ≤ k.list.entries.capacity

@@ -21,7 +21,7 @@ pub record HasTimer (sys : System) (me place : ℕ) : Type 0 where
   pub owner : timer.object ≡ me
 
 -- the object is one of the system, with all timers of its chart
-pub record IsHome (sys : System) (me : ℕ) (chart : Chart) : Type 0 where
+pub record IsObjectWithTimers (sys : System) (me : ℕ) (chart : Chart) : Type 0 where
   pub sound : IsSound sys
   pub some : 0 < me
   pub object : IsTrue (is_object sys me)
@@ -36,7 +36,7 @@ IsSoundTask sys chart inside _ = ⊤
 pub record MayAct (sys : System) (me : ℕ) (hand : Option HeldEntry) (p : Plain) : Type 0 where
   pub chart : Chart
   pub inside : Option ℕ
-  pub home : IsHome sys me chart
+  pub home : IsObjectWithTimers sys me chart
   pub plain : IsSoundPlain sys chart inside p
   pub at_hand : IsSome inside → IsSome hand
 

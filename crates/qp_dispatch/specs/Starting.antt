@@ -15,11 +15,11 @@ use Rattle.qp_dispatch.specs.declared.lasting.Lasting.{Lasting}
 use Rattle.qp_dispatch.specs.declared.steps.Step.{Step}
 use Rattle.qp_dispatch.specs.declared.steps.Step.TheVariants as step
 use Rattle.qp_dispatch.specs.Lasts.{config_of, actor_of}
-use Rattle.qp_dispatch.specs.Runs.{Setting}
+use Rattle.qp_dispatch.specs.Runs.{ObjectSetting}
 use Rattle.qp_dispatch.specs.Resume.{IsLaneOf}
 
 -- the start ran to its end
-pub record StartDone (home : Setting) (later : ℕ) (k m : Lasting) (v w : LaneView) : Type 0 where
+pub record StartDone (home : ObjectSetting) (later : ℕ) (k m : Lasting) (v w : LaneView) : Type 0 where
   pub g : List Told
   pub grows : Grows g v w
   pub starts : Starts v.sys (actor_of home.me home.chart k) (config_of k) (tell g) (Some (config_of m))
@@ -30,7 +30,7 @@ pub record StartDone (home : Setting) (later : ℕ) (k m : Lasting) (v w : LaneV
   pub stand : StandAll m.list.entries.items w
 
 -- an assertion ended it, and the lane stopped with its code, which is that of the last record
-pub record StartAsserted (home : Setting) (k m : Lasting) (v w : LaneView) : Type 0 where
+pub record StartAsserted (home : ObjectSetting) (k m : Lasting) (v w : LaneView) : Type 0 where
   pub g : List Told
   pub mid : LaneView
   pub code : ℕ
@@ -42,13 +42,13 @@ pub record StartAsserted (home : Setting) (k m : Lasting) (v w : LaneView) : Typ
   pub stand : StandAll m.list.entries.items w
 
 -- records that begin a start; they aren't the whole of one that asserts
-abbrev pub BeginsStart : Setting → Lasting → List Told → LaneView → Type 0
+abbrev pub BeginsStart : ObjectSetting → Lasting → List Told → LaneView → Type 0
 BeginsStart home k g v =
     (more : List Told) × (end : Option Config) × Starts v.sys (actor_of home.me home.chart k) (config_of k) (tell (g ++ more)) end
     × (end ≡ None → more ≡ [] → ⊥)
 
 -- the lane had no room, spilled, and stopped
-pub record StartSpilled (home : Setting) (k m : Lasting) (v w : LaneView) : Type 0 where
+pub record StartSpilled (home : ObjectSetting) (k m : Lasting) (v w : LaneView) : Type 0 where
   pub g : List Told
   pub mid : LaneView
   pub full : LaneView
@@ -60,7 +60,7 @@ pub record StartSpilled (home : Setting) (k m : Lasting) (v w : LaneView) : Type
   pub stand : StandAll m.list.entries.items w
 
 -- memory was refused to a lane that isn't full, and it stopped
-pub record StartExhausted (home : Setting) (k m : Lasting) (v w : LaneView) : Type 0 where
+pub record StartExhausted (home : ObjectSetting) (k m : Lasting) (v w : LaneView) : Type 0 where
   pub g : List Told
   pub mid : LaneView
   pub grows : Grows g v mid
@@ -69,7 +69,7 @@ pub record StartExhausted (home : Setting) (k m : Lasting) (v w : LaneView) : Ty
   pub stand : StandAll m.list.entries.items w
 
 -- no start stands at a point
-abbrev pub StartsTo : Setting → ℕ → Lasting → Lasting → LaneView → LaneView → Step → Type 0
+abbrev pub StartsTo : ObjectSetting → ℕ → Lasting → Lasting → LaneView → LaneView → Step → Type 0
 StartsTo home later k m v w step.Point = ⊥
 StartsTo home later k m v w step.Done = StartDone home later k m v w
 StartsTo home later k m v w step.Stopped = StartAsserted home k m v w ⊎ StartSpilled home k m v w

@@ -8,9 +8,9 @@ ghost use Rattle.qp_calls.specs.LaneView.{Grows};
 ghost use Rattle.qp_calls.specs.Groups.{Refused};
 ghost use Rattle.qp_calls.specs.Deferring.{StandAll};
 ghost use Rattle.qp_dispatch.specs.CallsDone.{StandsIn};
-ghost use Rattle.qp_dispatch.specs.Lasts.{moment_of};
+ghost use Rattle.qp_dispatch.specs.Lasts.{moment_of_work};
 ghost use Rattle.qp_dispatch.specs.SoundFor.{MayAct};
-ghost use Rattle.qp_dispatch.specs.Acting.{Acts, Settles, is_publication};
+ghost use Rattle.qp_dispatch.specs.Acting.{ActsTo, OkTakes, is_publication};
 
 use crate::calling::call;
 use crate::lasting::{Lasting, set};
@@ -35,7 +35,7 @@ pub(crate) enum Acted {
 
 /// What an answer makes of the object: `ok` takes a value.
 fn settle(lasting: &mut Lasting, answer: Result<Did, RoomFault>) -> Acted
-    ensures { Settles lasting.old lasting.new answer result }
+    ensures { OkTakes lasting.old lasting.new answer result }
 {
     match answer {
         Ok(Did::Value(n)) => {
@@ -75,7 +75,7 @@ pub(crate) fn act<O: Ops, L: Ledger>(
     requires single { is_publication plain.now ≡ false }
     requires stands { StandsIn work.now.entry (O.lane ops.old) }
     requires kept { StandAll lasting.old.list.entries.items (O.lane ops.old) }
-    ensures { Acts me (moment_of work.now) plain.now lasting.old lasting.new (O.lane ops.old) (O.lane ops.new) result }
+    ensures { ActsTo me (moment_of_work work.now) plain.now lasting.old lasting.new (O.lane ops.old) (O.lane ops.new) result }
 {
     match plain {
         Plain::Set { var, value } => {

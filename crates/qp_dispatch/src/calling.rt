@@ -3,7 +3,7 @@
 ghost use Rattle.std.specs.Prelude.{◌≡◌, IsTrue, None, true};
 ghost use Rattle.qp_model.specs.Calls.{Call, Calls, deed_of};
 ghost use Rattle.qp_calls.specs.Deferring.{StandAll};
-ghost use Rattle.qp_calls.specs.Groups.{DoesCall};
+ghost use Rattle.qp_calls.specs.Groups.{CallReturns};
 ghost use Rattle.qp_dispatch.specs.CallsDone.{CallDone, StandsIn, is_single, is_timing};
 ghost use Rattle.qp_dispatch.specs.Lasts.{entry_in, names_at};
 ghost use Rattle.qp_dispatch.specs.SoundFor.{MayAct};
@@ -92,7 +92,7 @@ fn time<O: Ops, L: Ledger>(
     requires mine { (O.lane ops.old).by ≡ me }
     requires may { MayAct sys.now me work.now.entry plain.now }
     ensures { (x : Call) → deed_of (names_at me lasting.now work.now) plain.now ≡ Calls x → is_timing x ≡ true →
-        DoesCall None x (O.lane ops.old) (O.lane ops.new) result }
+        CallReturns None x (O.lane ops.old) (O.lane ops.new) result }
 {
     match plain {
         Plain::Arm {

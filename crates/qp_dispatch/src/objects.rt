@@ -3,7 +3,7 @@
 ghost use Rattle.std.specs.Prelude.{◌≡◌, ◌<◌, IfOk, true};
 ghost use Rattle.std.specs.Option.{option_map};
 ghost use Rattle.qp_model.specs.Course.{chart_at};
-ghost use Rattle.qp_dispatch.specs.Objects.{BeginsStep, HasFirst, IsMade, IsNew, MayResume, MayStart, ObjectResumes, ObjectStarts, ResumesAs, StartsAs, leaf_shown, works_for};
+ghost use Rattle.qp_dispatch.specs.Objects.{BeginsStep, HasFirst, IsObjectMade, IsNewObject, MayResume, MayStart, ObjectResumes, ObjectStarts, ResumesAs, StartsAs, leaf_shown, works_for};
 ghost use Rattle.qp_dispatch.specs.declared.steps.Position.TheVariants as standing;
 
 use crate::lasting::Lasting;
@@ -74,7 +74,7 @@ fn first(alloc: Global, object: &ObjectDef) -> Result<Lasting, Memory>
 
 /// An object with this chart, before its start.
 fn make(alloc: Global, object: &ObjectDef, chart: &Chart) -> Result<Object, Memory>
-    ensures { IfOk result (λ x. IsMade object.now chart.now x) }
+    ensures { IfOk result (λ x. IsObjectMade object.now chart.now x) }
 {
     let compiled = Compiled::new(chart, alloc)?;
     let lasting = first(alloc, object)?;
@@ -93,7 +93,7 @@ impl Object {
     /// The object of this priority before its start, its chart compiled. A system that lacks it, or its chart, gets the answer of
     /// a want of memory.
     pub fn new(alloc: Global, sys: &System, priority: u8) -> Result<Object, Memory>
-        ensures { IfOk result (λ x. IsNew sys.now priority x) }
+        ensures { IfOk result (λ x. IsNewObject sys.now priority x) }
     {
         match sys.object_at(u64::from(priority)) {
             Some(object) => match chart_of(sys, object.chart) {

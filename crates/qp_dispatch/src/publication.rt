@@ -6,7 +6,7 @@ ghost use Rattle.qp_chart.specs.Task as task;
 ghost use Rattle.qp_model.specs.Acts.{Moment};
 ghost use Rattle.qp_calls.specs.LaneView.{ceiling_in};
 ghost use Rattle.qp_calls.specs.Deferring.{StandAll};
-ghost use Rattle.qp_dispatch.specs.Lasts.{moment_of};
+ghost use Rattle.qp_dispatch.specs.Lasts.{moment_of_work};
 ghost use Rattle.qp_dispatch.specs.Parts.{FewerLeft, IsPublishing, Parts, held_by};
 ghost use Rattle.qp_dispatch.specs.SoundFor.{MayAct};
 
@@ -39,7 +39,7 @@ pub(crate) fn publish<O: Ops, L: Ledger>(
     requires may { MayAct sys.now me work.now.entry (action.Publish sig pars.now reserve) }
     requires none { under.old ≡ None }
     requires ceiling { ceiling.old ≡ ceiling_in 0 (O.lane ops.old).told }
-    ensures { Parts me (moment_of work.now) (task.Do (action.Publish sig pars.now reserve) ∷ []) ceiling.old ceiling.new
+    ensures { Parts me (moment_of_work work.now) (task.Do (action.Publish sig pars.now reserve) ∷ []) ceiling.old ceiling.new
         lasting.old None lasting.new under.new (O.lane ops.old) (O.lane ops.new) result }
 {
     let ev = event(sig, pars.items.as_slice(), &surroundings(me, lasting, work));

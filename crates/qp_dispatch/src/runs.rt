@@ -1,8 +1,8 @@
 //! Agendas, part after part.
 
 ghost use Rattle.std.specs.Prelude.{◌≡◌};
-ghost use Rattle.qp_dispatch.specs.Lasts.{moment_of};
-ghost use Rattle.qp_dispatch.specs.Runs.{CanEnd, MayRun, PartOf, RunsTo, setting_of, tasks_in};
+ghost use Rattle.qp_dispatch.specs.Lasts.{moment_of_work};
+ghost use Rattle.qp_dispatch.specs.Runs.{CanEnd, MayRun, PartOf, RunsTo, object_setting, tasks_in};
 
 use crate::lasting::Lasting;
 use crate::part::{Part, Under};
@@ -55,9 +55,9 @@ fn part<O: Ops, L: Ledger>(
     ceiling: &mut u8,
     steps: &mut Steps<L>,
 ) -> Option<Part>
-    requires { MayRun (setting_of home.now) work.now.entry lasting.old left.old.under (tasks_in (setting_of home.now) left.old) ceiling.old
+    requires { MayRun (object_setting home.now) work.now.entry lasting.old left.old.under (tasks_in (object_setting home.now) left.old) ceiling.old
         (O.lane ops.old) }
-    ensures { PartOf (setting_of home.now) work.now ceiling.old ceiling.new lasting.old left.old lasting.new left.new
+    ensures { PartOf (object_setting home.now) work.now ceiling.old ceiling.new lasting.old left.old lasting.new left.new
         (O.lane ops.old) (O.lane ops.new) result }
 {
     if let Some(from) = left.under.take() {
@@ -89,10 +89,10 @@ pub(crate) fn run<O: Ops, L: Ledger>(
     ceiling: &mut u8,
     steps: &mut Steps<L>,
 ) -> Ran
-    requires may { MayRun (setting_of home.now) work.now.entry lasting.old left.old.under (tasks_in (setting_of home.now) left.old)
+    requires may { MayRun (object_setting home.now) work.now.entry lasting.old left.old.under (tasks_in (object_setting home.now) left.old)
         ceiling.old (O.lane ops.old) }
-    requires can { CanEnd (setting_of home.now) (moment_of work.now) lasting.old (tasks_in (setting_of home.now) left.old) }
-    ensures { RunsTo stops (setting_of home.now) (moment_of work.now) ceiling.old ceiling.new lasting.old left.old lasting.new left.new
+    requires can { CanEnd (object_setting home.now) (moment_of_work work.now) lasting.old (tasks_in (object_setting home.now) left.old) }
+    ensures { RunsTo stops (object_setting home.now) (moment_of_work work.now) ceiling.old ceiling.new lasting.old left.old lasting.new left.new
         (O.lane ops.old) (O.lane ops.new) result }
 {
     loop {

@@ -3,7 +3,7 @@
 ghost use Rattle.std.specs.Prelude.{◌≤◌, length};
 ghost use Rattle.qp_calls.specs.Deferring.{StandAll, kept_in};
 ghost use Rattle.qp_chart_compiled.specs.Compiled.{IsCompiled};
-ghost use Rattle.qp_dispatch.specs.Runs.{setting_of};
+ghost use Rattle.qp_dispatch.specs.Runs.{object_setting};
 ghost use Rattle.qp_dispatch.specs.Resume.{IsLaneOf, CanTakeSteps};
 ghost use Rattle.qp_dispatch.specs.Starting.{StartsTo};
 
@@ -24,12 +24,12 @@ pub(crate) fn start_on<O: Ops, L: Ledger>(
     ceiling: &mut u8,
     steps: &mut Steps<L>,
 ) -> Step
-    requires lane { IsLaneOf (setting_of home.now) ceiling.old (O.lane ops.old) }
+    requires lane { IsLaneOf (object_setting home.now) ceiling.old (O.lane ops.old) }
     requires ready { CanTakeSteps home.now.sys.now home.now.me home.now.chart.now }
     requires compiled { IsCompiled home.now.chart.now home.now.compiled.now }
     requires few { length (kept_in lasting.old.list) ≤ lasting.old.list.entries.capacity }
     requires stand { StandAll lasting.old.list.entries.items (O.lane ops.old) }
-    ensures { StartsTo (setting_of home.now) ceiling.new lasting.old lasting.new (O.lane ops.old) (O.lane ops.new) result }
+    ensures { StartsTo (object_setting home.now) ceiling.new lasting.old lasting.new (O.lane ops.old) (O.lane ops.new) result }
 {
     let pars = ArrayVec::new();
     let work = Work {

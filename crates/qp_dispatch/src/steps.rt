@@ -9,9 +9,9 @@ ghost use Rattle.qp_calls.specs.declared.tokens.HeldEntry.TheVariants as token;
 ghost use Rattle.qp_chart_compiled.specs.Compiled.{IsCompiled};
 ghost use Rattle.qp_dispatch.specs.Lasts.{actor_of, config_of};
 ghost use Rattle.qp_dispatch.specs.Parts.{left_by};
-ghost use Rattle.qp_dispatch.specs.Runs.{setting_of, tasks_in};
+ghost use Rattle.qp_dispatch.specs.Runs.{object_setting, tasks_in};
 ghost use Rattle.qp_dispatch.specs.CallsDone.{StandsIn};
-ghost use Rattle.qp_dispatch.specs.Resume.{StepHalts, IsGoing, IsLaneOf, CanTakeSteps, IsTaken, IsUnderWay, Releases, Resumes, event_in_hand};
+ghost use Rattle.qp_dispatch.specs.Resume.{StepHalts, IsGoing, IsLaneOf, CanTakeSteps, IsTaken, IsUnderWay, StepReleases, Resumes, event_in_hand};
 ghost use Rattle.qp_dispatch.specs.declared.steps.Position.TheVariants as standing;
 
 use crate::lasting::Lasting;
@@ -104,8 +104,8 @@ fn take_up<O: Ops>(ops: &mut O, home: &Home<'_>, lasting: &Lasting, e: HeldEntry
     requires ready { CanTakeSteps home.now.sys.now home.now.me home.now.chart.now }
     requires compiled { IsCompiled home.now.chart.now home.now.compiled.now }
     requires taken { IsTaken lasting.now e (O.lane ops.old) }
-    ensures going { IsGoing (setting_of home.now) lasting.now result (O.lane ops.old) }
-    ensures left { left_by result.left.under (tasks_in (setting_of home.now) result.left) result.leaf
+    ensures going { IsGoing (object_setting home.now) lasting.now result (O.lane ops.old) }
+    ensures left { left_by result.left.under (tasks_in (object_setting home.now) result.left) result.leaf
         ≡ whole_step (actor_of home.now.me home.now.chart.now lasting.now) (config_of lasting.now) (event_in_hand e (O.lane ops.old)) }
     ensures event { event_of result.work.ev ≡ event_in_hand e (O.lane ops.old) }
     ensures entry { result.work.entry ≡ Some e }
@@ -153,11 +153,11 @@ fn go<O: Ops, L: Ledger>(
     ceiling: &mut u8,
     steps: &mut Steps<L>,
 ) -> Step
-    requires lane { IsLaneOf (setting_of home.now) ceiling.old (O.lane ops.old) }
+    requires lane { IsLaneOf (object_setting home.now) ceiling.old (O.lane ops.old) }
     requires ready { CanTakeSteps home.now.sys.now home.now.me home.now.chart.now }
-    requires going { IsGoing (setting_of home.now) lasting.old going (O.lane ops.old) }
+    requires going { IsGoing (object_setting home.now) lasting.old going (O.lane ops.old) }
     requires between { stage.old ≡ standing.Between }
-    ensures { Resumes (setting_of home.now) ceiling.old ceiling.new lasting.old (standing.Within going) lasting.new stage.new
+    ensures { Resumes (object_setting home.now) ceiling.old ceiling.new lasting.old (standing.Within going) lasting.new stage.new
         (O.lane ops.old) (O.lane ops.new) result }
 {
     let Going {
@@ -192,7 +192,7 @@ fn go<O: Ops, L: Ledger>(
 /// Releases the entry of a step.
 fn finish<O: Ops>(ops: &mut O, work: Work) -> Result<(), RoomFault>
     requires { StandsIn work.entry (O.lane ops.old) }
-    ensures { Releases work.entry (O.lane ops.old) (O.lane ops.new) result }
+    ensures { StepReleases work.entry (O.lane ops.old) (O.lane ops.new) result }
 {
     match work.entry {
         None => Ok(()),
@@ -212,11 +212,11 @@ pub(crate) fn step_on<O: Ops, L: Ledger>(
     ceiling: &mut u8,
     steps: &mut Steps<L>,
 ) -> Step
-    requires lane { IsLaneOf (setting_of home.now) ceiling.old (O.lane ops.old) }
+    requires lane { IsLaneOf (object_setting home.now) ceiling.old (O.lane ops.old) }
     requires ready { CanTakeSteps home.now.sys.now home.now.me home.now.chart.now }
     requires compiled { IsCompiled home.now.chart.now home.now.compiled.now }
-    requires under_way { IsUnderWay (setting_of home.now) lasting.old stage.old (O.lane ops.old) }
-    ensures { Resumes (setting_of home.now) ceiling.old ceiling.new lasting.old stage.old lasting.new stage.new
+    requires under_way { IsUnderWay (object_setting home.now) lasting.old stage.old (O.lane ops.old) }
+    ensures { Resumes (object_setting home.now) ceiling.old ceiling.new lasting.old stage.old lasting.new stage.new
         (O.lane ops.old) (O.lane ops.new) result }
 {
     match std::mem::replace(stage, Position::Between) {

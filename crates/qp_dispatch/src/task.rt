@@ -10,7 +10,7 @@ ghost use Rattle.qp_calls.specs.LaneView.{ceiling_in};
 ghost use Rattle.qp_calls.specs.Deferring.{StandAll};
 ghost use Rattle.qp_chart_compiled.specs.AsTask.{as_task};
 ghost use Rattle.qp_dispatch.specs.CallsDone.{StandsIn};
-ghost use Rattle.qp_dispatch.specs.Lasts.{moment_of};
+ghost use Rattle.qp_dispatch.specs.Lasts.{moment_of_work};
 ghost use Rattle.qp_dispatch.specs.Parts.{NotesTask, Parts};
 ghost use Rattle.qp_dispatch.specs.SoundFor.{MayAct, MayTask};
 
@@ -59,7 +59,7 @@ fn action<O: Ops, L: Ledger>(
     requires stands { StandsIn work.now.entry (O.lane ops.old) }
     requires kept { StandAll lasting.old.list.entries.items (O.lane ops.old) }
     requires ceiling { ceiling.old ≡ ceiling_in 0 (O.lane ops.old).told }
-    ensures { Parts me (moment_of work.now) (task.Do plain.now ∷ []) ceiling.old ceiling.new
+    ensures { Parts me (moment_of_work work.now) (task.Do plain.now ∷ []) ceiling.old ceiling.new
         lasting.old None lasting.new under.new (O.lane ops.old) (O.lane ops.new) result }
 {
     match plain {
@@ -94,7 +94,7 @@ pub(crate) fn perform<O: Ops, L: Ledger>(
     requires stands { StandsIn work.now.entry (O.lane ops.old) }
     requires kept { StandAll lasting.old.list.entries.items (O.lane ops.old) }
     requires ceiling { ceiling.old ≡ ceiling_in 0 (O.lane ops.old).told }
-    ensures { Parts me (moment_of work.now) (as_task task.entry ∷ []) ceiling.old ceiling.new
+    ensures { Parts me (moment_of_work work.now) (as_task task.entry ∷ []) ceiling.old ceiling.new
         lasting.old None lasting.new under.new (O.lane ops.old) (O.lane ops.new) result }
 {
     match task {

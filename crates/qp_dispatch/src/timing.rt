@@ -8,7 +8,7 @@ ghost use Rattle.qp_model.specs.Calls as call;
 ghost use Rattle.qp_model.specs.Parts.{timer_number};
 ghost use Rattle.qp_model.specs.Shapes.{ticks_fit};
 ghost use Rattle.qp_calls.specs.Clauses.{Owns};
-ghost use Rattle.qp_calls.specs.Groups.{DoesCall};
+ghost use Rattle.qp_calls.specs.Groups.{CallReturns};
 
 use qp_base::Steps;
 use qp_calls::{Arm, Did, Ops, RoomFault};
@@ -46,7 +46,7 @@ pub(crate) fn arm<O: Ops, L: Ledger>(
     requires mine { (O.lane ops.old).by ≡ me }
     requires number { t ≡ timer_number (O.lane ops.old).sys.timers me place }
     requires owns { Owns (O.lane ops.old) t }
-    ensures { DoesCall None (call.Arm place ticks interval) (O.lane ops.old) (O.lane ops.new) result }
+    ensures { CallReturns None (call.Arm place ticks interval) (O.lane ops.old) (O.lane ops.new) result }
 {
     ops.room()?;
     if !fits(ticks, interval) {
@@ -71,7 +71,7 @@ pub(crate) fn rearm<O: Ops, L: Ledger>(
     requires mine { (O.lane ops.old).by ≡ me }
     requires number { t ≡ timer_number (O.lane ops.old).sys.timers me place }
     requires owns { Owns (O.lane ops.old) t }
-    ensures { DoesCall None (call.Rearm place ticks) (O.lane ops.old) (O.lane ops.new) result }
+    ensures { CallReturns None (call.Rearm place ticks) (O.lane ops.old) (O.lane ops.new) result }
 {
     ops.room()?;
     if !fits(ticks, 0) {
@@ -93,7 +93,7 @@ pub(crate) fn disarm<O: Ops, L: Ledger>(
 ) -> Result<Did, RoomFault>
     requires number { t ≡ timer_number (O.lane ops.old).sys.timers (O.lane ops.old).by place }
     requires owns { Owns (O.lane ops.old) t }
-    ensures { DoesCall None (call.Disarm place) (O.lane ops.old) (O.lane ops.new) result }
+    ensures { CallReturns None (call.Disarm place) (O.lane ops.old) (O.lane ops.new) result }
 {
     ops.room()?;
     if ops.disarm(t, steps) == 0 {

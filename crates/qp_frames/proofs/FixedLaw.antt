@@ -9,10 +9,10 @@ use Rattle.std.proofs.lemmas.Nat.{from_le_bytes-to_le_bytes_8, le_bytes_8}
 use Rattle.qp_model.specs.OutputFrames.{number_bytes}
 use Rattle.qp_text.specs.TextLaw.{has_64_bits}
 use Rattle.qp_frames.specs.Bytes.{are_bytes}
-use Rattle.qp_frames.specs.Parts.{are_numbers_whole, numbers_from, with_number}
+use Rattle.qp_frames.specs.Parts.{are_numbers_whole, numbers_from, with_number_first}
 
 -- the numbers behind one that was read
-pub with_number-ok : (n : ℕ) (read : Result (List ℕ) ℕ) (nums : List ℕ) → with_number n read ≡ Ok nums → (more : List ℕ) × (read ≡ Ok more) × (n ∷ more ≡ nums)
+pub with_number-ok : (n : ℕ) (read : Result (List ℕ) ℕ) (nums : List ℕ) → with_number_first n read ≡ Ok nums → (more : List ℕ) × (read ≡ Ok more) × (n ∷ more ≡ nums)
 with_number-ok n (Ok more) nums is = (more, refl, cc)
 with_number-ok n (Err got) nums is = absurd cc
 
@@ -31,13 +31,13 @@ module _ (form : ℕ) (fixed : (form == 2) ≡ false) where
   -- eight bytes are read as their number
   eight : (a b c d e f g h : ℕ) (rest : List ℕ)
       → numbers_from form 0 0 (a ∷ b ∷ c ∷ d ∷ e ∷ f ∷ g ∷ h ∷ rest)
-      ≡ with_number (a + b * 256 + c * 65536 + d * 16777216 + e * 4294967296 + f * 1099511627776 + g * 281474976710656 + h * 72057594037927936) (numbers_from form 0 0 rest)
-  eight a b c d e f g h rest = rw fixed (ap (λ n. with_number n (numbers_from form 0 0 rest)) (omega arith))
+      ≡ with_number_first (a + b * 256 + c * 65536 + d * 16777216 + e * 4294967296 + f * 1099511627776 + g * 281474976710656 + h * 72057594037927936) (numbers_from form 0 0 rest)
+  eight a b c d e f g h rest = rw fixed (ap (λ n. with_number_first n (numbers_from form 0 0 rest)) (omega arith))
 
   -- a number's bytes are read as the number
-  fixed-read : (n : ℕ) (rest : List ℕ) → n < 2 ^ 64 → numbers_from form 0 0 (to_le_bytes w64 n ++ rest) ≡ with_number n (numbers_from form 0 0 rest)
+  fixed-read : (n : ℕ) (rest : List ℕ) → n < 2 ^ 64 → numbers_from form 0 0 (to_le_bytes w64 n ++ rest) ≡ with_number_first n (numbers_from form 0 0 rest)
   fixed-read n rest small =
-      eight _ _ _ _ _ _ _ _ rest ∙ ap (λ m. with_number m (numbers_from form 0 0 rest)) (from_le_bytes-to_le_bytes_8 n small)
+      eight _ _ _ _ _ _ _ _ rest ∙ ap (λ m. with_number_first m (numbers_from form 0 0 rest)) (from_le_bytes-to_le_bytes_8 n small)
 
   pub fixed-numbers : (nums : List ℕ) → has_64_bits nums ≡ true → numbers_from form 0 0 (flat_map (number_bytes form) nums) ≡ Ok nums
   fixed-numbers [] fits = refl

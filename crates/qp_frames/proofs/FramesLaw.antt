@@ -9,9 +9,9 @@ use Rattle.qp_text.proofs.TextLaw.{ok-pair}
 use Rattle.qp_frames.specs.Bytes.{are_bytes}
 use Rattle.qp_frames.specs.declared.faults.FrameFault.{FrameFault}
 use Rattle.qp_frames.specs.declared.faults.FrameFault.TheVariants.{Memory, At}
-use Rattle.qp_frames.specs.Faults.{Finds, IsDecoderOf}
+use Rattle.qp_frames.specs.Faults.{DecodesTo, IsDecoderOf}
 use Rattle.qp_frames.specs.declared.stream.Stream.{Stream}
-use Rattle.qp_frames.specs.Stream.{before_all, decoded, ended, fed}
+use Rattle.qp_frames.specs.Stream.{before_all, decoded, stream_ended, fed}
 use Rattle.qp_frames.specs.FramesLaw.{DecodingIsExact, FaultsStay, FindsFrames, FramesAreOneToOne, FramesHaveNoFault}
 use Rattle.qp_frames.proofs.FeedLemmas.{fed-append}
 use Rattle.qp_frames.proofs.ItemsLaw.{leads-items, leads-writable, writable-leads}
@@ -38,7 +38,7 @@ frames_are_one_to_one v w i j first second same = ok-pair v w i j (sym (decoded-
 
 -- a fault stays
 pub faults_stay : FaultsStay
-faults_stay bytes more fault is = ap ended (fed-append (Ok before_all) bytes more ∙ ap (λ state. fed state more) is)
+faults_stay bytes more fault is = ap stream_ended (fed-append (Ok before_all) bytes more ∙ ap (λ state. fed state more) is)
 
 -- frames have none
 pub frames_have_no_fault : FramesHaveNoFault
@@ -48,7 +48,7 @@ frames_have_no_fault form j bytes more fault is same fed_is =
     absurd cc
 
 -- what a decoder answers on a stream of bytes
-pub finds_frames : (result : Result Found FrameFault) (bytes : List ℕ) → are_bytes bytes ≡ true → Finds result (decoded bytes) → FindsFrames result bytes
+pub finds_frames : (result : Result Found FrameFault) (bytes : List ℕ) → are_bytes bytes ≡ true → DecodesTo result (decoded bytes) → FindsFrames result bytes
 finds_frames (Ok found) bytes all finds = frames-decoded found.form found.journal bytes all finds
 finds_frames (Err Memory) bytes all finds = _
 finds_frames (Err (At offset code want got)) bytes all finds = λ form j is same.
@@ -57,10 +57,10 @@ finds_frames (Err (At offset code want got)) bytes all finds = λ form j is same
 -- and in which state it was
 pub fault_frames : (fault : FrameFault) (bytes : List ℕ) → IsDecoderOf (Err fault) bytes → FindsFrames (Err fault) bytes
 fault_frames Memory bytes led = _
-fault_frames (At offset code want got) bytes led = finds_frames (Err (At offset code want got)) bytes led.0 (ap ended led.1)
+fault_frames (At offset code want got) bytes led = finds_frames (Err (At offset code want got)) bytes led.0 (ap stream_ended led.1)
 
-pub ended_frames : (result : Result Found FrameFault) (p : Stream) (bytes : List ℕ) → Finds result (ended (Ok p)) → IsDecoderOf (Ok p) bytes → FindsFrames result bytes
-ended_frames result p bytes finds led = finds_frames result bytes led.0 (subst (Finds result) (sym (ap ended led.1)) finds)
+pub ended_frames : (result : Result Found FrameFault) (p : Stream) (bytes : List ℕ) → DecodesTo result (stream_ended (Ok p)) → IsDecoderOf (Ok p) bytes → FindsFrames result bytes
+ended_frames result p bytes finds led = finds_frames result bytes led.0 (subst (DecodesTo result) (sym (ap stream_ended led.1)) finds)
 
 -- what is found has its form, and is in range
 pub found_form : (result : Result Found FrameFault) (bytes : List ℕ) → FindsFrames result bytes → IfOk result (λ found. IsTrue (has_form found.form found.journal))

@@ -9,7 +9,7 @@ use Rattle.std.proofs.lemmas.Nat.{div-add-mod', div-mul-add, mod-mul-add}
 use Rattle.qp_model.specs.OutputFrames.{groups, number_bytes}
 use Rattle.qp_text.specs.TextLaw.{has_64_bits}
 use Rattle.qp_frames.specs.Bytes.{are_bytes}
-use Rattle.qp_frames.specs.Parts.{by_part, group_part, are_numbers_whole, numbers_from, with_number}
+use Rattle.qp_frames.specs.Parts.{by_part, group_part, are_numbers_whole, numbers_from, with_number_first}
 use Rattle.qp_frames.specs.declared.numbers.Part.{Part}
 use Rattle.qp_frames.specs.declared.numbers.Part.TheVariants.{More, Whole, Wrong}
 use Rattle.qp_frames.proofs.FixedLaw.{with_number-ok}
@@ -60,22 +60,22 @@ room-next place m fits =
 module _ (form : ℕ) (grouped : (form == 2) ≡ true) where
   step : (place value b : ℕ) (bytes : List ℕ)
       → numbers_from form place value (b ∷ bytes)
-      ≡ by_part b (group_part place value b) (λ v. numbers_from form (place + 1) v bytes) (λ n. with_number n (numbers_from form 0 0 bytes))
+      ≡ by_part b (group_part place value b) (λ v. numbers_from form (place + 1) v bytes) (λ n. with_number_first n (numbers_from form 0 0 bytes))
   step place value b bytes = rw grouped refl
 
   -- the groups of a number from this place on are read as the number
   groups-read : (left place value m : ℕ) (rest : List ℕ) → place + suc left ≡ 10 → m * 128 ^ place < 2 ^ 64 → (place ≡ 0) ⊎ (1 ≤ m)
-      → numbers_from form place value (groups (suc left) m ++ rest) ≡ with_number (value + m * 128 ^ place) (numbers_from form 0 0 rest)
+      → numbers_from form place value (groups (suc left) m ++ rest) ≡ with_number_first (value + m * 128 ^ place) (numbers_from form 0 0 rest)
   groups-read zero place value m rest sum fits canonical =
       let last : place ≡ 9 = omega arith in
       let some : 1 ≤ m = elim canonical [ inl none ↦ absurd (omega arith) | inr some ↦ some ] in
       let one : m ≡ 1 = omega (arith, some, room-last m (rw last at fits)) in
-      rw (last, one, groups-small 0 1 (omega arith), step 9 value 1 rest) (ap (λ n. with_number n (numbers_from form 0 0 rest)) (omega arith))
+      rw (last, one, groups-small 0 1 (omega arith), step 9 value 1 rest) (ap (λ n. with_number_first n (numbers_from form 0 0 rest)) (omega arith))
   groups-read (suc left) place value m rest sum fits canonical = go (nat_lt m 128) refl (groups-read left (place + 1)) where
     go : (small : Bool) → nat_lt m 128 ≡ small
         → ((value m : ℕ) (rest : List ℕ) → (place + 1) + suc left ≡ 10 → m * 128 ^ (place + 1) < 2 ^ 64 → (place + 1 ≡ 0) ⊎ (1 ≤ m)
-        → numbers_from form (place + 1) value (groups (suc left) m ++ rest) ≡ with_number (value + m * 128 ^ (place + 1)) (numbers_from form 0 0 rest))
-        → numbers_from form place value (groups (suc (suc left)) m ++ rest) ≡ with_number (value + m * 128 ^ place) (numbers_from form 0 0 rest)
+        → numbers_from form (place + 1) value (groups (suc left) m ++ rest) ≡ with_number_first (value + m * 128 ^ (place + 1)) (numbers_from form 0 0 rest))
+        → numbers_from form place value (groups (suc (suc left)) m ++ rest) ≡ with_number_first (value + m * 128 ^ place) (numbers_from form 0 0 rest)
     go true small later =
         let low : m < 128 = ltb-true m 128 small in
         rw (groups-small (suc left) m low, step place value m rest, part-whole place value m (omega arith) low canonical) refl

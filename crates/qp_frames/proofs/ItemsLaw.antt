@@ -10,7 +10,7 @@ use Rattle.qp_model.specs.OutputText.{lines_text, text}
 use Rattle.qp_text.specs.declared.progress.Reading.{Reading}
 use Rattle.qp_text.specs.Parts.{split}
 use Rattle.qp_text.specs.LineItem.{form_of_line, form_of_parts, item_of_line}
-use Rattle.qp_text.specs.Progress.{all_lanes, at_start, journal_of, take_item}
+use Rattle.qp_text.specs.Progress.{all_lanes, nothing_read, journal_of, take_item}
 use Rattle.qp_text.specs.ReadText.{after_line, finish, form_at, last_part, read_parts, read_text, take_line, take_read}
 use Rattle.qp_text.specs.TextLaw.{IsWritable}
 use Rattle.qp_text.proofs.ItemLaw.{item_of_line-is}
@@ -62,14 +62,14 @@ under-next form p q i under is takes =
     (record { good = inl (shown.begun, shown.ranged); begun = shown.begun; form_is = shown.form_is; known = under.known }, shown.items)
 
 -- the first item
-pub under-first : (form : ℕ) (q : Reading) (i : JournalItem) → (form ≡ 1) ⊎ (form ≡ 2) → IsItem form i → take_item form at_start i ≡ Ok q
+pub under-first : (form : ℕ) (q : Reading) (i : JournalItem) → (form ≡ 1) ⊎ (form ≡ 2) → IsItem form i → take_item form nothing_read i ≡ Ok q
     → Under form q × (taken q ≡ i ∷ [])
 under-first form q i known is takes =
-    let shown = take_item-is form at_start q i (inr refl) (λ begun. absurd cc) known is.first is.past is.count is.fits takes in
+    let shown = take_item-is form nothing_read q i (inr refl) (λ begun. absurd cc) known is.first is.past is.count is.fits takes in
     (record { good = inl (shown.begun, shown.ranged); begun = shown.begun; form_is = shown.form_is; known = known }, shown.items)
 
 -- it states the form
-pub first-states : (form : ℕ) (q : Reading) (i : JournalItem) → (form ≡ 1) ⊎ (form ≡ 2) → IsItem form i → take_item form at_start i ≡ Ok q
+pub first-states : (form : ℕ) (q : Reading) (i : JournalItem) → (form ≡ 1) ⊎ (form ≡ 2) → IsItem form i → take_item form nothing_read i ≡ Ok q
     → i ≡ item QP (form ∷ q.kernel ∷ q.budget ∷ [])
 first-states form q i known is takes =
     let under = under-first form q i known is takes in
@@ -101,9 +101,9 @@ leads-tail v p j i items leads =
     (first.0, leads.fits.0, first.1, rest)
 
 -- some item leads to a journal
-pub leads-some : {A : Type 0} (v : ℕ) (j : Journal) → Leads at_start v j [] → A
+pub leads-some : {A : Type 0} (v : ℕ) (j : Journal) → Leads nothing_read v j [] → A
 leads-some v j leads =
-    let same : at_start ≡ leads.reading = let all = leads.taken in cc in
+    let same : nothing_read ≡ leads.reading = let all = leads.taken in cc in
     let none = rw (← same) at leads.ended in absurd cc
 
 -- a reading's items, after more of them
@@ -128,10 +128,10 @@ ended-items v q status under end = go under.good where
       let lanes_are : all_lanes q ≡ q.lanes = rw last.1 (append-nil q.lanes) in
       rw (under.begun, end, lanes_are, under.form_is) refl
 
-pub leads-items : (v : ℕ) (j : Journal) (items : List JournalItem) → (v ≡ 1) ⊎ (v ≡ 2) → Leads at_start v j items → items_of v j ≡ items
+pub leads-items : (v : ℕ) (j : Journal) (items : List JournalItem) → (v ≡ 1) ⊎ (v ≡ 2) → Leads nothing_read v j items → items_of v j ≡ items
 leads-items v j [] known leads = leads-some v j leads
 leads-items v j (i ∷ items) known leads =
-    let first = leads-tail v at_start j i items leads in
+    let first = leads-tail v nothing_read j i items leads in
     let under = under-first v first.0 i known first.1 first.2 in
     let rest = first.3 in
     let all = under-all v first.0 rest.reading items under.0 rest.fits rest.taken in
@@ -196,19 +196,19 @@ known-same : (form v : ℕ) → form ≡ v → (form ≡ 1) ⊎ (form ≡ 2) →
 known-same form v same known = rw same at known
 
 -- a text that is read is that of items
-read_text-items : (v : ℕ) (j : Journal) (bytes : List ℕ) → read_text bytes ≡ Ok (v, j) → ((v ≡ 1) ⊎ (v ≡ 2)) × (items : List JournalItem) × Leads at_start v j items
+read_text-items : (v : ℕ) (j : Journal) (bytes : List ℕ) → read_text bytes ≡ Ok (v, j) → ((v ≡ 1) ⊎ (v ≡ 2)) × (items : List JournalItem) × Leads nothing_read v j items
 read_text-items v j bytes is = let parts = split-cons 10 bytes in go parts.0 parts.1 (rw parts.2 at is) where
-  go : (part : List ℕ) (parts : List (List ℕ)) → read_parts 1 at_start (part ∷ parts) ≡ Ok (v, j)
-      → ((v ≡ 1) ⊎ (v ≡ 2)) × (items : List JournalItem) × Leads at_start v j items
-  go part [] is = leads-some v j (last_part-is 1 v at_start j part is)
+  go : (part : List ℕ) (parts : List (List ℕ)) → read_parts 1 nothing_read (part ∷ parts) ≡ Ok (v, j)
+      → ((v ≡ 1) ⊎ (v ≡ 2)) × (items : List JournalItem) × Leads nothing_read v j items
+  go part [] is = leads-some v j (last_part-is 1 v nothing_read j part is)
   go line (part ∷ parts) is =
       let form = form_of_line line in
-      let read = after_line-is 1 v j (take_line at_start line) (λ q. read_parts 2 q (part ∷ parts)) is in
-      let i = line-item form form at_start read.0 line refl read.1 in
+      let read = after_line-is 1 v j (take_line nothing_read line) (λ q. read_parts 2 q (part ∷ parts)) is in
+      let i = line-item form form nothing_read read.0 line refl read.1 in
       let known = form-known (split 32 line) in
       let under = under-first form read.0 i.0 known i.1 i.2 in
       let rest = read_parts-items form 2 v read.0 j part parts under.0 read.2 in
-      (known-same form v rest.0 known, i.0 ∷ rest.1, leads-cons form v at_start read.0 j i.0 rest.1 rest.0 i.1 i.2 rest.2)
+      (known-same form v rest.0 known, i.0 ∷ rest.1, leads-cons form v nothing_read read.0 j i.0 rest.1 rest.0 i.1 i.2 rest.2)
 
 -- the line of an item that is taken
 line-taken : (form number : ℕ) (p q : Reading) (i : JournalItem) (rest : List ℕ) → IsItem form i → form_at p (bare_line form i) ≡ form → take_item form p i ≡ Ok q
@@ -243,22 +243,22 @@ form-stated form kernel budget (inr two) = rw two (stated kernel budget) where
   stated kernel budget is = ap form_of_parts (line-parts 2 (item QP (2 ∷ kernel ∷ budget ∷ [])) is) ∙ rw (decimal_digit 2 (omega arith)) refl
 
 -- the lines of all items that lead to a journal are read
-leads-text : (v : ℕ) (j : Journal) (items : List JournalItem) → (v ≡ 1) ⊎ (v ≡ 2) → Leads at_start v j items → read_text (lines_text v items) ≡ Ok (v, j)
+leads-text : (v : ℕ) (j : Journal) (items : List JournalItem) → (v ≡ 1) ⊎ (v ≡ 2) → Leads nothing_read v j items → read_text (lines_text v items) ≡ Ok (v, j)
 leads-text v j [] known leads = leads-some v j leads
 leads-text v j (i ∷ items) known leads =
-    let first = leads-tail v at_start j i items leads in
+    let first = leads-tail v nothing_read j i items leads in
     let q = first.0 in
     let head = first-states v q i known first.1 first.2 in
     let stated : form_of_line (bare_line v i) ≡ v = rw head (form-stated v q.kernel q.budget known (rw head at first.1)) in
-    line-taken v 1 at_start q i (lines_text v items) first.1 stated first.2
+    line-taken v 1 nothing_read q i (lines_text v items) first.1 stated first.2
     ∙ items-read 2 v q j items (under-first v q i known first.1 first.2).0 first.3
 
 -- the items of a journal in range lead to it
-pub writable-leads : (v : ℕ) (j : Journal) → IsWritable v j → ((v ≡ 1) ⊎ (v ≡ 2)) × Leads at_start v j (items_of v j)
+pub writable-leads : (v : ℕ) (j : Journal) → IsWritable v j → ((v ≡ 1) ⊎ (v ≡ 2)) × Leads nothing_read v j (items_of v j)
 writable-leads v j is =
     let some = read_text-items v j (text v j) ((reading_is_exact v j (text v j)).1 (is, refl)) in
     (some.0, rw (leads-items v j some.1 some.0 some.2) some.2)
 
 -- a journal to which items lead is in range
-pub leads-writable : (v : ℕ) (j : Journal) (items : List JournalItem) → (v ≡ 1) ⊎ (v ≡ 2) → Leads at_start v j items → IsWritable v j
+pub leads-writable : (v : ℕ) (j : Journal) (items : List JournalItem) → (v ≡ 1) ⊎ (v ≡ 2) → Leads nothing_read v j items → IsWritable v j
 leads-writable v j items known leads = ((reading_is_exact v j (lines_text v items)).0 (leads-text v j items known leads)).0

@@ -10,17 +10,17 @@ use Rattle.qp_model.specs.declared.journals.Journal.{Journal}
 use Rattle.qp_model.specs.Output.{JournalItem}
 use Rattle.qp_model.specs.OutputFrames.{end_byte, escape_byte, escaped, frame, frames_from}
 use Rattle.qp_text.specs.declared.progress.Reading.{Reading}
-use Rattle.qp_text.specs.Progress.{at_start, journal_of, take_item}
+use Rattle.qp_text.specs.Progress.{nothing_read, journal_of, take_item}
 use Rattle.qp_text.proofs.LineText.{IsItem}
 use Rattle.qp_text.proofs.ProgressLaw.{Good, take_item-is}
 use Rattle.qp_text.proofs.TakenLaw.{taken}
 use Rattle.qp_text.proofs.TextLaw.{ok-pair}
 use Rattle.qp_frames.specs.Bytes.{are_bytes}
-use Rattle.qp_frames.specs.Sequence.{behind}
+use Rattle.qp_frames.specs.Sequence.{sequence_behind}
 use Rattle.qp_frames.specs.declared.faults.FrameFault.{FrameFault}
 use Rattle.qp_frames.specs.declared.faults.FrameFault.TheVariants.{At}
 use Rattle.qp_frames.specs.declared.stream.Stream.{Stream}
-use Rattle.qp_frames.specs.Stream.{after_escape, before_all, decoded, end_frame, ended, fed, finish, form_at, form_of_bytes, item_of_frame, item_taken, keep, later, take_byte, take_plain, with_item}
+use Rattle.qp_frames.specs.Stream.{after_escape, before_all, decoded, end_frame, stream_ended, fed, finish_stream, stream_form, form_of_bytes, item_of_frame, item_taken, keep_byte, next_offset, take_byte, take_plain, with_item}
 use Rattle.qp_frames.proofs.FrameLaw.{item_of_frame-is, no_error, summed_bytes}
 use Rattle.qp_frames.proofs.FrameLemmas.{behind-append, frames-append, frames-one}
 use Rattle.qp_frames.proofs.ItemsLaw.{AllItems, Leads, and_next, take_items, taken-cons}
@@ -36,10 +36,10 @@ so_far p = frames_from p.reading.form 1 (taken p.reading) ++ raw p
 -- how far a stream without a fault has come
 record Fine (p : Stream) : Type 0 where
   good : Good p.reading
-  sequence : p.sequence ≡ behind 1 (taken p.reading)
+  sequence : p.sequence ≡ sequence_behind 1 (taken p.reading)
   bytes : are_bytes p.bytes ≡ true
   fits : AllItems p.reading.form (taken p.reading)
-  made : take_items p.reading.form at_start (taken p.reading) ≡ Ok p.reading
+  made : take_items p.reading.form nothing_read (taken p.reading) ≡ Ok p.reading
 
 -- one byte more
 record TakesByte (p q : Stream) (b : ℕ) : Type 0 where
@@ -47,9 +47,9 @@ record TakesByte (p q : Stream) (b : ℕ) : Type 0 where
   so_far_is : so_far q ≡ so_far p ++ b ∷ []
 
 -- a byte of the frame, that came as these bytes
-keep-is : (p q : Stream) (c b : ℕ) → Fine p → nat_lt c 256 ≡ true → escaped c ≡ cond p.is_escaped (escape_byte ∷ []) [] ++ b ∷ [] → keep p c ≡ Ok q → TakesByte p q b
+keep-is : (p q : Stream) (c b : ℕ) → Fine p → nat_lt c 256 ≡ true → escaped c ≡ cond p.is_escaped (escape_byte ∷ []) [] ++ b ∷ [] → keep_byte p c ≡ Ok q → TakesByte p q b
 keep-is p q c b fine byte came is =
-    let this : record p { bytes = p.bytes ++ c ∷ []; is_escaped = false; offset = later p.offset } ≡ q = cc in
+    let this : record p { bytes = p.bytes ++ c ∷ []; is_escaped = false; offset = next_offset p.offset } ≡ q = cc in
     let escape = cond p.is_escaped (escape_byte ∷ []) [] in
     let before = frames_from p.reading.form 1 (taken p.reading) in
     rw (← this) record {
@@ -71,7 +71,7 @@ keep-is p q c b fine byte came is =
 after_escape-is : (p q : Stream) (b : ℕ) → Fine p → p.is_escaped ≡ true → after_escape p b ≡ Ok q → TakesByte p q b
 after_escape-is p q b fine escape is = go (b == 0x5E) refl (b == 0x5D) refl is where
   go : (is_end : Bool) → (b == 0x5E) ≡ is_end → (is_escape : Bool) → (b == 0x5D) ≡ is_escape
-      → cond {A = Result Stream FrameFault} is_end (keep p end_byte) (cond {A = Result Stream FrameFault} is_escape (keep p escape_byte) (Err (At p.start 1 0 b))) ≡ Ok q
+      → cond {A = Result Stream FrameFault} is_end (keep_byte p end_byte) (cond {A = Result Stream FrameFault} is_escape (keep_byte p escape_byte) (Err (At p.start 1 0 b))) ≡ Ok q
       → TakesByte p q b
   go true ends is_escape escapes is = keep-is p q end_byte b fine refl (rw (escape, eqb-true b 0x5E ends) refl) is
   go false other true escapes is = keep-is p q escape_byte b fine refl (rw (escape, eqb-true b 0x5D escapes) refl) is
@@ -87,16 +87,16 @@ bytes-known (sequence ∷ id ∷ third ∷ bytes) = go (third == 2) where
   go true = inr refl
   go false = inl refl
 
-form_at-known : (p : Stream) → Good p.reading → (form_at p ≡ 1) ⊎ (form_at p ≡ 2)
+form_at-known : (p : Stream) → Good p.reading → (stream_form p ≡ 1) ⊎ (stream_form p ≡ 2)
 form_at-known p (inl good) = rw good.0 good.1.form
 form_at-known p (inr start) = rw start (bytes-known p.bytes)
 
-form_at-begun : (p : Stream) → p.reading.begun ≡ true → p.reading.form ≡ form_at p
+form_at-begun : (p : Stream) → p.reading.begun ≡ true → p.reading.form ≡ stream_form p
 form_at-begun p begun = rw begun refl
 
 -- the items before, in the form of the next
-before-is : (form : ℕ) (r : Reading) → Good r → (r.begun ≡ true → r.form ≡ form) → AllItems r.form (taken r) → take_items r.form at_start (taken r) ≡ Ok r
-    → AllItems form (taken r) × (take_items form at_start (taken r) ≡ Ok r) × (frames_from r.form 1 (taken r) ≡ frames_from form 1 (taken r))
+before-is : (form : ℕ) (r : Reading) → Good r → (r.begun ≡ true → r.form ≡ form) → AllItems r.form (taken r) → take_items r.form nothing_read (taken r) ≡ Ok r
+    → AllItems form (taken r) × (take_items form nothing_read (taken r) ≡ Ok r) × (frames_from r.form 1 (taken r) ≡ frames_from form 1 (taken r))
 before-is form r (inl good) same fits made = let this = same good.0 in rw (← this) (fits, made, refl)
 before-is form r (inr start) same fits made = rw start (tt, refl, refl)
 
@@ -120,7 +120,7 @@ with_item-is form p q (Ok i) is = (i, refl, is)
 with_item-is form p q (Err fault) is = absurd cc
 
 item_taken-is : (p q : Stream) (read : Result Reading ℕ) → item_taken p read ≡ Ok q
-    → (r : Reading) × (read ≡ Ok r) × (record p { reading = r; sequence = (p.sequence + 1) % 256; start = later p.offset; offset = later p.offset; bytes = [] } ≡ q)
+    → (r : Reading) × (read ≡ Ok r) × (record p { reading = r; sequence = (p.sequence + 1) % 256; start = next_offset p.offset; offset = next_offset p.offset; bytes = [] } ≡ q)
 item_taken-is p q (Ok r) is = (r, refl, cc)
 item_taken-is p q (Err code) is = absurd cc
 
@@ -139,7 +139,7 @@ escape-glue before frame =
 module _ (p : Stream) (form : ℕ) (r : Reading) (i : JournalItem) (fine : Fine p) (same : p.reading.begun ≡ true → p.reading.form ≡ form) (known : (form ≡ 1) ⊎ (form ≡ 2))
     (is : IsItem form i) (bytes_are : summed_bytes form p.sequence i ≡ p.bytes) (takes : take_item form p.reading i ≡ Ok r) where
   frame-taken : (q : Stream) → p.is_escaped ≡ false
-      → record p { reading = r; sequence = (p.sequence + 1) % 256; start = later p.offset; offset = later p.offset; bytes = [] } ≡ q → TakesByte p q end_byte
+      → record p { reading = r; sequence = (p.sequence + 1) % 256; start = next_offset p.offset; offset = next_offset p.offset; bytes = [] } ≡ q → TakesByte p q end_byte
   frame-taken q plain this =
       let shown = take_item-is form p.reading r i fine.good same known is.first is.past is.count is.fits takes in
       let before = before-is form p.reading fine.good same fine.fits fine.made in
@@ -147,18 +147,18 @@ module _ (p : Stream) (form : ℕ) (r : Reading) (i : JournalItem) (fine : Fine 
       rw (← this) record {
         fine = record {
           good = inl (shown.begun, shown.ranged);
-          sequence = ap (λ s. (s + 1) % 256) fine.sequence ∙ sym (behind-append 1 items (i ∷ [])) ∙ ap (behind 1) (sym shown.items);
+          sequence = ap (λ s. (s + 1) % 256) fine.sequence ∙ sym (behind-append 1 items (i ∷ [])) ∙ ap (sequence_behind 1) (sym shown.items);
           bytes = refl;
           fits = all_items-at form r.form (items ++ i ∷ []) (taken r) shown.form_is shown.items (all_items-more form items i before.0 is);
           made =
-              ap (λ f. take_items f at_start (taken r)) shown.form_is ∙ ap (take_items form at_start) shown.items
-              ∙ take_items-more form at_start p.reading items (i ∷ []) before.1
+              ap (λ f. take_items f nothing_read (taken r)) shown.form_is ∙ ap (take_items form nothing_read) shown.items
+              ∙ take_items-more form nothing_read p.reading items (i ∷ []) before.1
               ∙ ap (λ read. and_next read (λ x. take_items form x [])) takes;
         };
         so_far_is =
             glue (frames_from p.reading.form 1 items) (frames_from r.form 1 (taken r)) (flat_map escaped p.bytes) (cond p.is_escaped (escape_byte ∷ []) []) (rw plain refl)
             (ap (λ f. frames_from f 1 (taken r)) shown.form_is ∙ ap (frames_from form 1) shown.items ∙ frames-append form 1 items (i ∷ [])
-            ∙ ap (λ t. frames_from form 1 items ++ t) (frames-one form (behind 1 items) i ∙ ap (λ s. frame form s i) (sym fine.sequence)
+            ∙ ap (λ t. frames_from form 1 items ++ t) (frames-one form (sequence_behind 1 items) i ∙ ap (λ s. frame form s i) (sym fine.sequence)
             ∙ ap (λ t. flat_map escaped t ++ end_byte ∷ []) bytes_are)
             ∙ ap (λ t. t ++ (flat_map escaped p.bytes ++ end_byte ∷ [])) (sym before.2));
       }
@@ -166,7 +166,7 @@ module _ (p : Stream) (form : ℕ) (r : Reading) (i : JournalItem) (fine : Fine 
 -- at the end byte
 end_frame-is : (p q : Stream) → Fine p → p.is_escaped ≡ false → end_frame p ≡ Ok q → TakesByte p q end_byte
 end_frame-is p q fine plain is =
-    let form = form_at p in
+    let form = stream_form p in
     let some = with_item-is form p q (item_of_frame p.start form p.sequence p.bytes) is in
     let i = some.0 in
     let shown = item_of_frame-is p.start form p.sequence p.bytes i fine.bytes some.1 in
@@ -178,11 +178,11 @@ take_plain-is : (p q : Stream) (b : ℕ) → Fine p → nat_lt b 256 ≡ true �
 take_plain-is p q b fine byte plain is = go (b == end_byte) refl (b == escape_byte) refl is where
   go : (is_end : Bool) → (b == end_byte) ≡ is_end → (is_escape : Bool) → (b == escape_byte) ≡ is_escape
       → cond {A = Result Stream FrameFault} is_end (end_frame p)
-      (cond {A = Result Stream FrameFault} is_escape (Ok (record p { is_escaped = true; offset = later p.offset })) (keep p b)) ≡ Ok q
+      (cond {A = Result Stream FrameFault} is_escape (Ok (record p { is_escaped = true; offset = next_offset p.offset })) (keep_byte p b)) ≡ Ok q
       → TakesByte p q b
   go true ends is_escape escapes is = rw (eqb-true b end_byte ends) (end_frame-is p q fine plain is)
   go false other true escapes is =
-      let this : record p { is_escaped = true; offset = later p.offset } ≡ q = cc in
+      let this : record p { is_escaped = true; offset = next_offset p.offset } ≡ q = cc in
       let before = frames_from p.reading.form 1 (taken p.reading) in
       rw (← this, eqb-true b escape_byte escapes) record {
         fine = record { good = fine.good; sequence = fine.sequence; bytes = fine.bytes; fits = fine.fits; made = fine.made };
@@ -214,12 +214,12 @@ fed-is p q (b ∷ bytes) fine all is =
     (rest.0, rest.1 ∙ ap (λ t. t ++ bytes) first.so_far_is ∙ append_assoc (so_far p) (b ∷ []) bytes)
 
 -- the stream ends
-finish-is : (offset v : ℕ) (p : Reading) (j : Journal) (end : Option ℕ) → finish offset p end ≡ Ok (v, j) → (status : ℕ) × (end ≡ Some status) × (p.form ≡ v) × (journal_of p status ≡ j)
+finish-is : (offset v : ℕ) (p : Reading) (j : Journal) (end : Option ℕ) → finish_stream offset p end ≡ Ok (v, j) → (status : ℕ) × (end ≡ Some status) × (p.form ≡ v) × (journal_of p status ≡ j)
 finish-is offset v p j None is = absurd cc
 finish-is offset v p j (Some status) is = let same = ok-pair p.form v (journal_of p status) j is in (status, refl, same.0, same.1)
 
-ended-is : (read : Result Stream FrameFault) (v : ℕ) (j : Journal) → ended read ≡ Ok (v, j)
-    → (p : Stream) × (read ≡ Ok p) × (p.is_escaped ≡ false) × (p.bytes ≡ []) × (finish p.start p.reading p.reading.end ≡ Ok (v, j))
+ended-is : (read : Result Stream FrameFault) (v : ℕ) (j : Journal) → stream_ended read ≡ Ok (v, j)
+    → (p : Stream) × (read ≡ Ok p) × (p.is_escaped ≡ false) × (p.bytes ≡ []) × (finish_stream p.start p.reading p.reading.end ≡ Ok (v, j))
 ended-is (Err fault) v j is = absurd cc
 ended-is (Ok p) v j is =
     let whole = no_error (p.is_escaped || nat_lt 0 (length p.bytes)) (At p.start 4 0 0) _ (v, j) is in
@@ -232,7 +232,7 @@ ended-is (Ok p) v j is =
 -- where the stream ends behind the last frame, its items lead to the journal
 decoded-by : (v : ℕ) (j : Journal) (bytes : List ℕ) (p : Stream) (status : ℕ) → Fine p → p.is_escaped ≡ false → p.bytes ≡ [] → p.reading.end ≡ Some status
     → p.reading.form ≡ v → journal_of p.reading status ≡ j → so_far p ≡ bytes
-    → ((v ≡ 1) ⊎ (v ≡ 2)) × (items : List JournalItem) × Leads at_start v j items × (frames_from v 1 items ≡ bytes)
+    → ((v ≡ 1) ⊎ (v ≡ 2)) × (items : List JournalItem) × Leads nothing_read v j items × (frames_from v 1 items ≡ bytes)
 decoded-by v j bytes p status fine plain none end form journal all =
     let items = taken p.reading in
     let before = frames_from p.reading.form 1 items in
@@ -243,7 +243,7 @@ decoded-by v j bytes p status fine plain none end form journal all =
         fits = all_items-at p.reading.form v items items (sym form) refl fine.fits;
         reading = p.reading;
         status = status;
-        taken = ap (λ f. take_items f at_start items) (sym form) ∙ fine.made;
+        taken = ap (λ f. take_items f nothing_read items) (sym form) ∙ fine.made;
         ended = end;
         form = form;
         journal = journal;
@@ -256,7 +256,7 @@ decoded-by v j bytes p status fine plain none end form journal all =
 
 -- a stream of bytes that is decoded is made of the frames of items that lead to the journal
 pub decoded-is : (v : ℕ) (j : Journal) (bytes : List ℕ) → are_bytes bytes ≡ true → decoded bytes ≡ Ok (v, j)
-    → ((v ≡ 1) ⊎ (v ≡ 2)) × (items : List JournalItem) × Leads at_start v j items × (frames_from v 1 items ≡ bytes)
+    → ((v ≡ 1) ⊎ (v ≡ 2)) × (items : List JournalItem) × Leads nothing_read v j items × (frames_from v 1 items ≡ bytes)
 decoded-is v j bytes all is =
     let some = ended-is (fed (Ok before_all) bytes) v j is in
     let p = some.0 in

@@ -30,5 +30,5 @@ abbrev pub NOT_CANONICAL : ℕ
 NOT_CANONICAL = 7
 
 -- all codes, in their order
-abbrev pub codes : List ℕ
-codes = BAD_ESCAPE ∷ CHECKSUM ∷ SEQUENCE ∷ LENGTH ∷ ID ∷ ITEM ∷ NOT_CANONICAL ∷ []
+abbrev pub frame_codes : List ℕ
+frame_codes = BAD_ESCAPE ∷ CHECKSUM ∷ SEQUENCE ∷ LENGTH ∷ ID ∷ ITEM ∷ NOT_CANONICAL ∷ []

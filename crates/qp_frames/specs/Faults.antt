@@ -23,10 +23,10 @@ Becomes (Err Memory) new wanted = ⊤
 Becomes (Err (At offset code want got)) new wanted = wanted ≡ Err (At offset code want got)
 
 -- the numbers, or the byte that shows a wrong one
-abbrev pub Numbers : Result (List ℕ) NumberFault → Result (List ℕ) ℕ → Type 0
-Numbers (Ok nums) wanted = wanted ≡ Ok nums
-Numbers (Err NoMemory) wanted = ⊤
-Numbers (Err (Wrong got)) wanted = wanted ≡ Err got
+abbrev pub ReadsNumbers : Result (List ℕ) NumberFault → Result (List ℕ) ℕ → Type 0
+ReadsNumbers (Ok nums) wanted = wanted ≡ Ok nums
+ReadsNumbers (Err NoMemory) wanted = ⊤
+ReadsNumbers (Err (Wrong got)) wanted = wanted ≡ Err got
 
 -- the state of a decoder to which these bytes were fed
 abbrev pub IsDecoderOf : Result Stream FrameFault → List ℕ → Type 0
@@ -39,7 +39,7 @@ answer_of (Ok p) = Ok _
 answer_of (Err fault) = Err fault
 
 -- the answer is the journal in its form, or the fault
-abbrev pub Finds : Result Found FrameFault → Result (ℕ × Journal) FrameFault → Type 0
-Finds (Ok found) wanted = wanted ≡ Ok (found.form, found.journal)
-Finds (Err Memory) wanted = ⊤
-Finds (Err (At offset code want got)) wanted = wanted ≡ Err (At offset code want got)
+abbrev pub DecodesTo : Result Found FrameFault → Result (ℕ × Journal) FrameFault → Type 0
+DecodesTo (Ok found) wanted = wanted ≡ Ok (found.form, found.journal)
+DecodesTo (Err Memory) wanted = ⊤
+DecodesTo (Err (At offset code want got)) wanted = wanted ≡ Err (At offset code want got)

@@ -36,9 +36,9 @@ PartGoesOn form place (Whole n) = ⊤
 PartGoesOn form place Wrong = ⊤
 
 -- a number before those that follow it
-abbrev pub with_number : ℕ → Result (List ℕ) ℕ → Result (List ℕ) ℕ
-with_number n (Ok nums) = Ok (n ∷ nums)
-with_number n (Err got) = Err got
+abbrev pub with_number_first : ℕ → Result (List ℕ) ℕ → Result (List ℕ) ℕ
+with_number_first n (Ok nums) = Ok (n ∷ nums)
+with_number_first n (Err got) = Err got
 
 -- a byte leaves a number that goes on, ends one, or is wrong
 abbrev pub by_part : ℕ → Part → (ℕ → Result (List ℕ) ℕ) → (ℕ → Result (List ℕ) ℕ) → Result (List ℕ) ℕ
@@ -50,7 +50,7 @@ by_part b Wrong more whole = Err b
 abbrev pub numbers_from : ℕ → ℕ → ℕ → List ℕ → Result (List ℕ) ℕ
 numbers_from form place value [] = Ok []
 numbers_from form place value (b ∷ bytes) =
-    by_part b (part_of form place value b) (λ v. numbers_from form (place + 1) v bytes) (λ n. with_number n (numbers_from form 0 0 bytes))
+    by_part b (part_of form place value b) (λ v. numbers_from form (place + 1) v bytes) (λ n. with_number_first n (numbers_from form 0 0 bytes))
 
 -- no number is cut off at its end
 abbrev pub are_numbers_whole : ℕ → List ℕ → Bool

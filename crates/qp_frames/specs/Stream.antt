@@ -6,7 +6,7 @@ use Rattle.qp_model.specs.OutputFrames.{checksum, end_byte, escape_byte}
 use Rattle.qp_model.specs.Vocabulary.{has_count}
 use Rattle.qp_text.specs.Codes as text
 use Rattle.qp_text.specs.declared.progress.Reading.{Reading}
-use Rattle.qp_text.specs.Progress.{at_start, journal_of, take_item}
+use Rattle.qp_text.specs.Progress.{nothing_read, journal_of, take_item}
 use Rattle.qp_frames.specs.Codes.{BAD_ESCAPE, CHECKSUM, SEQUENCE, LENGTH, ID, ITEM, NOT_CANONICAL}
 use Rattle.qp_frames.specs.declared.faults.FrameFault.{FrameFault}
 use Rattle.qp_frames.specs.declared.faults.FrameFault.TheVariants.{At}
@@ -15,11 +15,11 @@ use Rattle.qp_frames.specs.Parts.{are_numbers_whole, numbers_from}
 
 -- before the first byte
 abbrev pub before_all : Stream
-before_all = record { reading = at_start; sequence = 1; start = 0; offset = 0; is_escaped = false; bytes = [] }
+before_all = record { reading = nothing_read; sequence = 1; start = 0; offset = 0; is_escaped = false; bytes = [] }
 
 -- the next offset; the count stands still at its end
-abbrev pub later : ℕ → ℕ
-later offset = min (offset + 1) (2 ^ 64 - 1)
+abbrev pub next_offset : ℕ → ℕ
+next_offset offset = min (offset + 1) (2 ^ 64 - 1)
 
 -- the form that a first frame states by its third byte
 abbrev pub form_of_bytes : List ℕ → ℕ
@@ -27,14 +27,14 @@ form_of_bytes (sequence ∷ id ∷ third ∷ bytes) = if third == 2 then 2 else 
 form_of_bytes _ = 1
 
 -- the first frame states the form of all
-abbrev pub form_at : Stream → ℕ
-form_at p = if p.reading.begun then p.reading.form else form_of_bytes p.bytes
+abbrev pub stream_form : Stream → ℕ
+stream_form p = if p.reading.begun then p.reading.form else form_of_bytes p.bytes
 
 -- the item of a frame is taken, and the next frame may begin; or it has a code
 abbrev pub item_taken : Stream → Result Reading ℕ → Result Stream FrameFault
 item_taken p (Err code) = Err (At p.start ITEM 0 code)
 item_taken p (Ok reading) =
-    Ok (record p { reading = reading; sequence = (p.sequence + 1) % 256; start = later p.offset; offset = later p.offset; bytes = [] })
+    Ok (record p { reading = reading; sequence = (p.sequence + 1) % 256; start = next_offset p.offset; offset = next_offset p.offset; bytes = [] })
 
 -- the item with these numbers, or a byte shows that one is wrong
 abbrev pub with_numbers : ℕ → ℕ → ℕ → Result (List ℕ) ℕ → Result JournalItem FrameFault
@@ -67,21 +67,21 @@ with_item form p (Err fault) = Err fault
 
 -- at the end byte
 abbrev pub end_frame : Stream → Result Stream FrameFault
-end_frame p = with_item (form_at p) p (item_of_frame p.start (form_at p) p.sequence p.bytes)
+end_frame p = with_item (stream_form p) p (item_of_frame p.start (stream_form p) p.sequence p.bytes)
 
 -- one more byte of the frame
-abbrev pub keep : Stream → ℕ → Result Stream FrameFault
-keep p b = Ok (record p { bytes = p.bytes ++ b ∷ []; is_escaped = false; offset = later p.offset })
+abbrev pub keep_byte : Stream → ℕ → Result Stream FrameFault
+keep_byte p b = Ok (record p { bytes = p.bytes ++ b ∷ []; is_escaped = false; offset = next_offset p.offset })
 
 -- the byte behind an escape
 abbrev pub after_escape : Stream → ℕ → Result Stream FrameFault
-after_escape p b = if b == 0x5E then keep p end_byte else (if b == 0x5D then keep p escape_byte else Err (At p.start BAD_ESCAPE 0 b))
+after_escape p b = if b == 0x5E then keep_byte p end_byte else (if b == 0x5D then keep_byte p escape_byte else Err (At p.start BAD_ESCAPE 0 b))
 
 -- a byte without an escape before it
 abbrev pub take_plain : Stream → ℕ → Result Stream FrameFault
 take_plain p b =
     if b == end_byte then end_frame p
-    else (if b == escape_byte then Ok (record p { is_escaped = true; offset = later p.offset }) else keep p b)
+    else (if b == escape_byte then Ok (record p { is_escaped = true; offset = next_offset p.offset }) else keep_byte p b)
 
 -- one more byte of the stream
 abbrev pub take_byte : Stream → ℕ → Result Stream FrameFault
@@ -99,15 +99,15 @@ fed (Ok p) [] = Ok p
 fed (Ok p) (b ∷ bytes) = fed (take_byte p b) bytes
 
 -- the stream ends behind a frame: with `end`, or without
-abbrev pub finish : ℕ → Reading → Option ℕ → Result (ℕ × Journal) FrameFault
-finish offset p None = Err (At offset ITEM 0 text.NO_END)
-finish offset p (Some status) = Ok (p.form, journal_of p status)
+abbrev pub finish_stream : ℕ → Reading → Option ℕ → Result (ℕ × Journal) FrameFault
+finish_stream offset p None = Err (At offset ITEM 0 text.NO_END)
+finish_stream offset p (Some status) = Ok (p.form, journal_of p status)
 
 -- the stream ends here
-abbrev pub ended : Result Stream FrameFault → Result (ℕ × Journal) FrameFault
-ended (Err fault) = Err fault
-ended (Ok p) = if p.is_escaped || nat_lt 0 (length p.bytes) then Err (At p.start LENGTH 0 0) else finish p.start p.reading p.reading.end
+abbrev pub stream_ended : Result Stream FrameFault → Result (ℕ × Journal) FrameFault
+stream_ended (Err fault) = Err fault
+stream_ended (Ok p) = if p.is_escaped || nat_lt 0 (length p.bytes) then Err (At p.start LENGTH 0 0) else finish_stream p.start p.reading p.reading.end
 
 -- the reading of a stream
 abbrev pub decoded : List ℕ → Result (ℕ × Journal) FrameFault
-decoded bytes = ended (fed (Ok before_all) bytes)
+decoded bytes = stream_ended (fed (Ok before_all) bytes)

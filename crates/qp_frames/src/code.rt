@@ -1,7 +1,7 @@
 //! The codes of a stream of frames.
 
 ghost use Rattle.std.specs.Prelude.{◌≡◌, [], ◌∷◌};
-ghost use Rattle.qp_frames.specs.Codes.{codes};
+ghost use Rattle.qp_frames.specs.Codes.{frame_codes};
 
 /// 0x7D stands before another byte than 0x5E or 0x5D.
 pub const BAD_ESCAPE: u8 = 1;
@@ -20,5 +20,5 @@ pub const NOT_CANONICAL: u8 = 7;
 
 /// The constants of this module are the codes of `specs/Codes`.
 pub fn constants_are_the_table()
-    ensures { BAD_ESCAPE ∷ CHECKSUM ∷ SEQUENCE ∷ LENGTH ∷ ID ∷ ITEM ∷ NOT_CANONICAL ∷ [] ≡ codes }
+    ensures { BAD_ESCAPE ∷ CHECKSUM ∷ SEQUENCE ∷ LENGTH ∷ ID ∷ ITEM ∷ NOT_CANONICAL ∷ [] ≡ frame_codes }
 {}

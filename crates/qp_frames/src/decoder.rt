@@ -1,7 +1,7 @@
 //! Journals read from frames, in whatever pieces they come.
 
 ghost use Rattle.std.specs.Prelude.{◌≡◌, ◌++◌, List, ℕ, [], Err};
-ghost use Rattle.qp_frames.specs.Faults.{Finds, IsDecoderOf, answer_of};
+ghost use Rattle.qp_frames.specs.Faults.{DecodesTo, IsDecoderOf, answer_of};
 ghost use Rattle.qp_frames.specs.FramesLaw.{FindsFrames};
 ghost use Rattle.qp_frames.specs.Stream.{decoded};
 
@@ -63,7 +63,7 @@ impl Decoder {
 
     /// Ends the stream: the journal that all pieces together are, or the first fault.
     pub fn end(self) -> Result<Found, FrameFault>
-        ensures exact { (bytes : List ℕ) → IsDecoderOf self bytes → Finds result (decoded bytes) }
+        ensures exact { (bytes : List ℕ) → IsDecoderOf self bytes → DecodesTo result (decoded bytes) }
 
         // A journal is answered exactly where the stream is the frames of one in range, and it is this one in its form.
         ensures frames { (bytes : List ℕ) → IsDecoderOf self bytes → FindsFrames result bytes }

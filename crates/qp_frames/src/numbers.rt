@@ -1,7 +1,7 @@
 //! The numbers of a frame.
 
 ghost use Rattle.std.specs.Prelude.{◌≡◌, ◌≤◌, ◌<◌, ◌^◌};
-ghost use Rattle.qp_frames.specs.Faults.{Numbers};
+ghost use Rattle.qp_frames.specs.Faults.{ReadsNumbers};
 ghost use Rattle.qp_frames.specs.Parts.{PartGoesOn, fixed_part, group_part, are_numbers_whole, numbers_from, part_of, IsPart};
 
 use crate::faults::NumberFault;
@@ -43,7 +43,7 @@ pub(crate) fn is_whole(form: u8, bytes: &[u8]) -> bool
 
 /// Reads the numbers of these bytes, or answers the byte that shows that one is wrong.
 pub(crate) fn read_numbers(alloc: Global, form: u8, bytes: &[u8]) -> Result<Numerals, NumberFault>
-    ensures { Numbers result (numbers_from form 0 0 bytes.now) }
+    ensures { ReadsNumbers result (numbers_from form 0 0 bytes.now) }
 {
     let mut nums = Vec::new(alloc);
     let mut place = 0u32;

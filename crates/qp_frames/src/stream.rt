@@ -1,8 +1,8 @@
 //! The machine that reads frames byte by byte.
 
 ghost use Rattle.std.specs.Prelude.{◌≡◌, ◌≤◌, length, Ok};
-ghost use Rattle.qp_frames.specs.Faults.{Becomes, Finds};
-ghost use Rattle.qp_frames.specs.Stream.{after_escape, before_all, end_frame, ended, fed, finish, form_at, keep, take_byte, take_plain, with_item};
+ghost use Rattle.qp_frames.specs.Faults.{Becomes, DecodesTo};
+ghost use Rattle.qp_frames.specs.Stream.{after_escape, before_all, end_frame, stream_ended, fed, finish_stream, stream_form, keep_byte, take_byte, take_plain, with_item};
 
 use crate::bytes::{END, ESCAPE};
 use crate::code;
@@ -112,7 +112,7 @@ impl Stream {
 
     /// Takes one more byte of the frame.
     fn keep(&mut self, b: u8) -> Result<(), FrameFault>
-        ensures { Becomes result self.new (keep self.old b) }
+        ensures { Becomes result self.new (keep_byte self.old b) }
     {
         if self.bytes.items.push(b).is_err() {
             return Err(FrameFault::Memory);
@@ -162,7 +162,7 @@ impl Stream {
 
     /// The form of this frame.
     fn form(&self) -> u8
-        ensures { result ≡ form_at self.now }
+        ensures { result ≡ stream_form self.now }
     {
         if self.reading.begun {
             self.reading.form
@@ -173,7 +173,7 @@ impl Stream {
 
     /// The stream ends here.
     pub fn end(self) -> Result<Found, FrameFault>
-        ensures { Finds result (ended (Ok self)) }
+        ensures { DecodesTo result (stream_ended (Ok self)) }
     {
         if self.is_escaped || !self.bytes.items.is_empty() {
             return Err(FrameFault::At {
@@ -189,7 +189,7 @@ impl Stream {
 
 /// The stream ends behind a frame, and is that long.
 fn finish(offset: u64, reading: Reading) -> Result<Found, FrameFault>
-    ensures { Finds result (finish offset reading reading.end) }
+    ensures { DecodesTo result (finish_stream offset reading reading.end) }
 {
     let Some(end) = reading.end else {
         return Err(FrameFault::At {

@@ -5,7 +5,7 @@ ghost use Rattle.std.specs.List.{list_all};
 ghost use Rattle.qp_model.specs.Output.{end_item, has_form, head_item, is_in_range, is_lane_in_range, is_record_in_range, item, items_of_lane, items_of_lanes, record_item};
 ghost use Rattle.qp_model.specs.OutputFrames.{frame, frames, frames_from};
 ghost use Rattle.qp_text.specs.Puts.{Puts};
-ghost use Rattle.qp_frames.specs.Sequence.{behind};
+ghost use Rattle.qp_frames.specs.Sequence.{sequence_behind};
 
 use crate::bytes;
 use arrayvec::ArrayVec;
@@ -45,7 +45,7 @@ fn put_lanes<K: Sink>(out: &mut K, form: u8, sequence: u8, lanes: &Lanes) -> Res
     requires { IsTrue (list_all (is_lane_in_range form) lanes.now) }
     ensures puts { Puts result (frames_from form sequence (items_of_lanes 0 lanes.now)) (K.written out.old) (K.written out.new)
         (K.faults out.old) (K.faults out.new) }
-    ensures next { IfOk result (λ next. next ≡ behind sequence (items_of_lanes 0 lanes.now)) }
+    ensures next { IfOk result (λ next. next ≡ sequence_behind sequence (items_of_lanes 0 lanes.now)) }
 {
     let mut next = sequence;
     for (number, lane) in lanes.items.iter().enumerate() {
@@ -65,7 +65,7 @@ fn put_lane<K: Sink>(
     requires { IsTrue (is_lane_in_range form lane.now) }
     ensures puts { Puts result (frames_from form sequence (items_of_lane number lane.now)) (K.written out.old) (K.written out.new)
         (K.faults out.old) (K.faults out.new) }
-    ensures next { IfOk result (λ next. next ≡ behind sequence (items_of_lane number lane.now)) }
+    ensures next { IfOk result (λ next. next ≡ sequence_behind sequence (items_of_lane number lane.now)) }
 {
     put_frame(out, form, sequence, kinds::LANE, &[number])?;
     put_records(out, form, sequence.wrapping_add(1), lane)
@@ -76,7 +76,7 @@ fn put_records<K: Sink>(out: &mut K, form: u8, sequence: u8, lane: &Lane) -> Res
     requires { IsTrue (list_all (is_record_in_range form) lane.now) }
     ensures puts { Puts result (frames_from form sequence (map record_item lane.now)) (K.written out.old) (K.written out.new)
         (K.faults out.old) (K.faults out.new) }
-    ensures next { IfOk result (λ next. next ≡ behind sequence (map record_item lane.now)) }
+    ensures next { IfOk result (λ next. next ≡ sequence_behind sequence (map record_item lane.now)) }
 {
     let mut next = sequence;
     for r in &lane.items {

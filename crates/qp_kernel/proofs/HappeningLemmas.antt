@@ -22,7 +22,7 @@ use Rattle.qp_model_order.specs.Placing.{all_placed, AreBehind, look_item}
 use Rattle.qp_model_order.specs.Stimulus.{source_items}
 use Rattle.qp_model_order.proofs.OrderLaws.{stimuli_are_their_own}
 use Rattle.qp_model_order.proofs.StimulusForm.{items-append}
-use Rattle.qp_kernel.specs.Happenings.{run_order, rises, told_by, lanes_from, begun_by, placed_of}
+use Rattle.qp_kernel.specs.Happenings.{run_order, rises, told_by_source, lanes_from, begun_by, placed_of}
 use Rattle.qp_model.proofs.NumberLemmas.{count-append}
 
 -- what a test counts
@@ -73,8 +73,8 @@ placed-own lane n g = go (lane == n) refl g
         and-false false = refl
 
 -- a source began as many stimuli as its lane has
-pub begun-told : (n from : ℕ) (lane : List Item) (hs : List Happening) → 0 < n → begun (run_order from lane hs) n ≡ count_by is_stim_told (told_by n hs)
-unfolding begun run_order told_by
+pub begun-told : (n from : ℕ) (lane : List Item) (hs : List Happening) → 0 < n → begun (run_order from lane hs) n ≡ count_by is_stim_told (told_by_source n hs)
+unfolding begun run_order told_by_source
 begun-told n from lane [] some = placed-none n lane some
 begun-told n from lane (h ∷ hs) some =
     let ahead = all_placed 0 (take (h.at - from) lane) in
@@ -83,10 +83,10 @@ begun-told n from lane (h ∷ hs) some =
     let mine : List Told = cond (h.source == n) h.told [] in
     let none : count_by p ahead ≡ 0 = placed-none n (take (h.at - from) lane) some in
     let own : count_by p (placed_of h) ≡ count_by is_stim_told mine = placed-own h.source n h.told in
-    let later : count_by p behind ≡ count_by is_stim_told (told_by n hs) = begun-told n h.at (drop (h.at - from) lane) hs some in
+    let later : count_by p behind ≡ count_by is_stim_told (told_by_source n hs) = begun-told n h.at (drop (h.at - from) lane) hs some in
     let front : count_by p (ahead ++ placed_of h) ≡ count_by is_stim_told mine = let parts = count-append p ahead (placed_of h) in omega (arith, parts, none, own) in
     let whole : begun (run_order from lane (h ∷ hs)) n ≡ count_by p (ahead ++ placed_of h) + count_by p behind = count-append p (ahead ++ placed_of h) behind in
-    whole ∙ rw (front, later) (sym (count-append is_stim_told mine (told_by n hs)))
+    whole ∙ rw (front, later) (sym (count-append is_stim_told mine (told_by_source n hs)))
 
 -- the records of a stimulus have no `stim`
 none-behind : (g : List Told) → AreBehind false (source_items g) → count_by is_stim_told g ≡ 0
@@ -199,10 +199,10 @@ order-happens n lane (g ∷ hs) h r at =
 
 -- The lanes of the sources.
 
-pub told-happens : (n : ℕ) (hs : List Happening) (h : Happening) → told_by n (hs ++ h ∷ []) ≡ told_by n hs ++ cond (h.source == n) h.told []
-unfolding told_by
+pub told-happens : (n : ℕ) (hs : List Happening) (h : Happening) → told_by_source n (hs ++ h ∷ []) ≡ told_by_source n hs ++ cond (h.source == n) h.told []
+unfolding told_by_source
 told-happens n [] h = append-nil (cond (h.source == n) h.told [])
-told-happens n (g ∷ hs) h = rw (told-happens n hs h) (sym (append_assoc (cond (g.source == n) g.told []) (told_by n hs) (cond (h.source == n) h.told [])))
+told-happens n (g ∷ hs) h = rw (told-happens n hs h) (sym (append_assoc (cond (g.source == n) g.told []) (told_by_source n hs) (cond (h.source == n) h.told [])))
 
 pub begun-happens : (n : ℕ) (hs : List Happening) (h : Happening) → begun_by n (hs ++ h ∷ []) ≡ begun_by n hs + one (h.source == n)
 unfolding begun_by
@@ -215,7 +215,7 @@ unfolding lanes_from
 lanes-other n [] hs h lt = refl
 lanes-other n (ss ∷ more) hs h lt =
     let other : (h.source == n) ≡ false = grind (arith, nat_tests, lt) in
-    let same : told_by n (hs ++ h ∷ []) ≡ told_by n hs = told-happens n hs h ∙ rw other (append-nil (told_by n hs)) in
+    let same : told_by_source n (hs ++ h ∷ []) ≡ told_by_source n hs = told-happens n hs h ∙ rw other (append-nil (told_by_source n hs)) in
     rw (same, lanes-other (n + 1) more hs h (omega (arith, lt))) refl
 
 -- The lane of one source grows, and no other.
@@ -235,11 +235,11 @@ lanes-grow n (ss ∷ more) hs h le lt = go (h.source == n) refl (λ above. lanes
     go : (b : Bool) → (h.source == n) ≡ b → (n + 1 ≤ h.source → Grown (n + 1) more hs h) → Grown n (ss ∷ more) hs h
     go true is behind =
         let same : h.source ≡ n = grind (arith, nat_tests, is) in
-        let own : source_items (told_by n (hs ++ h ∷ [])) ≡ source_items (told_by n hs) ++ source_items h.told =
-        ap source_items (told-happens n hs h) ∙ rw is (items-append (told_by n hs) h.told) in
+        let own : source_items (told_by_source n (hs ++ h ∷ [])) ≡ source_items (told_by_source n hs) ++ source_items h.told =
+        ap source_items (told-happens n hs h) ∙ rw is (items-append (told_by_source n hs) h.told) in
         record {
           front = [];
-          here = source_items (told_by n hs);
+          here = source_items (told_by_source n hs);
           back = lanes_from (n + 1) more hs;
           counted = omega (arith, same);
           old = refl;
@@ -248,10 +248,10 @@ lanes-grow n (ss ∷ more) hs h le lt = go (h.source == n) refl (λ above. lanes
     go false is behind =
         let other : n + 1 ≤ h.source = grind (arith, nat_tests, is, le) in
         let later = behind other in
-        let same : told_by n (hs ++ h ∷ []) ≡ told_by n hs = told-happens n hs h ∙ rw is (append-nil (told_by n hs)) in
+        let same : told_by_source n (hs ++ h ∷ []) ≡ told_by_source n hs = told-happens n hs h ∙ rw is (append-nil (told_by_source n hs)) in
         let counted = later.counted in
         record {
-          front = source_items (told_by n hs) ∷ later.front;
+          front = source_items (told_by_source n hs) ∷ later.front;
           here = later.here;
           back = later.back;
           counted = omega (arith, counted);

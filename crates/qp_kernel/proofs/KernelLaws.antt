@@ -10,7 +10,7 @@ use Rattle.qp_model.specs.KernelLane.{Reading, Upcoming, Inside, Ended, Resting,
 use Rattle.qp_model.proofs.KernelRowLemmas.{IsWithin, MayLook}
 use Rattle.qp_kernel.specs.LaneZero.{setting, HasOneRow, HasRows, LaneZero}
 use Rattle.qp_kernel.specs.Turning.{KernelState, Stands, Terms, IsInStep, IsLookPlace, kernel_in}
-use Rattle.qp_kernel.specs.Laws.{LaneBegins, LooksAreSettled, ObjectStarts, LookIsAdded, EmptyIsSeen, EntryIsSeen, RestIsAdded, StepBegins, StepPauses, StepEnds, RunEndsQuietly, RunStopsElsewhere, BudgetEnds, AssertionEndsStep, AssertionEndsStart, SpillEndsStep, SpillEndsStart, FullLaneEnds, RunsAreLawful}
+use Rattle.qp_kernel.specs.Laws.{LaneBegins, LooksAreSettled, ObjectStartCompletes, LookIsAdded, EmptyIsSeen, EntryIsSeen, RestIsAdded, StepBegins, StepPauses, StepEnds, RunEndsQuietly, RunStopsElsewhere, BudgetEnds, AssertionEndsStep, AssertionEndsStart, SpillEndsStep, SpillEndsStart, FullLaneEnds, RunsAreLawful}
 use Rattle.qp_kernel.proofs.ZeroLemmas.{zero-settled, zero-look, zero-seen-empty, zero-seen-entry, zero-rest, zero-took}
 use Rattle.qp_kernel.proofs.ZeroEndLemmas.{zero-quiet, zero-waiting, zero-spent, zero-full}
 use Rattle.qp_kernel.proofs.KernelTurns.{only, turn-point, turn-done, turn-started, turn-failed, turn-failed_start, turn-spilled, turn-spilled_start}
@@ -46,7 +46,7 @@ lane_begins sys terms now upto numbered = zero-new sys (kernel_in terms) terms.b
 pub looks_are_settled : LooksAreSettled
 looks_are_settled sys terms s later more old le same = zero-settled sys (kernel_in terms) terms.budget s.told s.now later s.upto more s.reading s.owed s.stages s.entries le same old
 
-pub object_starts : ObjectStarts
+pub object_starts : ObjectStartCompletes
 object_starts sys terms s p d chart others g c numbered is some old none first unstarted starts =
     let turn = turn-started sys (kernel_in terms) terms.budget s.told s.now s.upto s.reading s.stages s.entries (unowed sys terms s none old) numbered p some d chart is others g c first unstarted starts in
     (turn.0, owe terms s.owed none turn.1)

@@ -15,7 +15,7 @@ use Rattle.qp_model.specs.KernelLane.{Reading, Ended}
 use Rattle.qp_model.specs.Sites.{object_at}
 use Rattle.qp_model.specs.Ends.{is_end, may_cut}
 use Rattle.qp_model.specs.Course.{actor, first_config, chart_at, Starts}
-use Rattle.qp_model.specs.Standing.{Advances}
+use Rattle.qp_model.specs.Standing.{StepAdvances}
 use Rattle.qp_model.specs.Step.{Remainder, StepGoesOn}
 use Rattle.qp_model.specs.Acts.{Config}
 use Rattle.qp_model.proofs.StepLemmas.{goes_on-completes}
@@ -50,17 +50,17 @@ module _ (sys : System) (kernel budget : ℕ) (told : List ToldItem) (now : ℕ 
 
   -- `resume` answers Point.
   pub turn-point : (outer : List ℕ) (g : List Told) (ev : Event) (e : Entry) (left later : Remainder) (c d : Config) → IsWithin k p outer → IsWithinStep (stages p) ev e left c
-      → Advances sys (actor o chart) ev e left c (tell g ++ Point ∷ []) later d → IsReady sys (actor o chart) later d
+      → StepAdvances sys (actor o chart) ev e left c (tell g ++ Point ∷ []) later d → IsReady sys (actor o chart) later d
       → LaneZero sys kernel budget (told ++ map (for_object p) g) now upto (record k { ceiling = ceiling_through k.ceiling g }) p
       (moved stages p (stage.Paused ev e later d)) (having entries p (entries p))
-  unfolding Advances
+  unfolding StepAdvances
   turn-point outer g ev e left later c d at within goes ready =
       let rest = goes_on-completes sys (actor o chart) ev e later d ready.able ready.room in
       let inside = point-inner sys (actor o chart) ev e left c (left-closes ev e left c within) g rest.0 rest.1
       (subst (λ x. StepGoesOn sys (actor o chart) ev e left c x rest.1) (append_assoc (tell g) (Point ∷ []) rest.0) (goes rest.0 rest.1 rest.2)) in
       zero-point sys kernel budget told now upto k stages entries old numbered p some outer g ev e left later c d at (inner-own g inside) (inner-calm g inside) within
       (λ f other same there its.
-      only sys p o f chart other (λ x y. Advances sys (actor x y) ev e left c (tell g ++ Point ∷ []) later d × IsReady sys (actor x y) later d) is same there its (goes, ready))
+      only sys p o f chart other (λ x y. StepAdvances sys (actor x y) ev e left c (tell g ++ Point ∷ []) later d × IsReady sys (actor x y) later d) is same there its (goes, ready))
 
   -- `resume` answers Done.
   pub turn-done : (outer : List ℕ) (g : List Told) (ev : Event) (e : Entry) (left : Remainder) (c d : Config) → IsWithin k p outer → IsWithinStep (stages p) ev e left c

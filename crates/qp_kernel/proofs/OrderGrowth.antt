@@ -24,8 +24,8 @@ use Rattle.qp_model_order.proofs.OrderLaws.{zero_comes_last, free_look_comes_las
 use Rattle.qp_model_order.proofs.SourceLanes.{source_lane_goes_on, source_lane_is_whole, source_lane_stops}
 use Rattle.qp_model_order.proofs.StimulusForm.{items-append}
 use Rattle.qp_model_order.proofs.NumberLemmas.{acts-place}
-use Rattle.qp_kernel.specs.Happenings.{IsInOrder, IsOrderEnded, SourcesMarch, SourcesHalt, begun_by, has_no_stim, lane_told, lanes_from, lanes_of, order_of, rises, told_by}
-use Rattle.qp_kernel.specs.Interrupting.{Acts, Comes, FindsNoRoom, Happens, HappensInPart, HappensToFail, HasNone, IsStopped, is_unset, stimuli_of}
+use Rattle.qp_kernel.specs.Happenings.{IsInOrder, IsOrderEnded, SourcesMarch, SourcesHalt, begun_by, has_no_stim, lane_told, lanes_from, lanes_of, lane_order, rises, told_by_source}
+use Rattle.qp_kernel.specs.Interrupting.{Acts, Comes, FindsNoRoom, Happens, HappensInPart, HappensToFail, HasNone, IsStopped, is_unset, source_stimuli}
 use Rattle.qp_kernel.specs.Turning.{look_told}
 use Rattle.qp_kernel.proofs.HappeningLemmas.{acts-more, begun-happens, begun-told, lanes-grow, look-idle, order-happens, order-more, rises-happens, rises-more, runs-count, told-happens}
 
@@ -39,14 +39,14 @@ pub in_order-grows : (sys : System) (looks : ℕ) (ts : List ToldItem) (v w : La
 in_order-grows sys looks ts v w gains none calm h = record {
   order =
       rw (gains.plan, gains.told, gains.happened, map-append untold v.told ts, order-more 0 (untold_all v.told) (untold_all ts) v.happened (within v h.rises))
-      (zero_comes_last sys v.plan looks (untold_all v.told) (lanes_of v) (order_of v) h.order (untold_all ts) none calm);
+      (zero_comes_last sys v.plan looks (untold_all v.told) (lanes_of v) (lane_order v) h.order (untold_all ts) none calm);
   sources = rw (gains.plan, gains.happened) h.sources;
   rises = rw (gains.happened, gains.told) (rises-more 0 v.happened (length v.told) (length (v.told ++ ts)) (let long = length-append v.told ts in omega (arith, long)) h.rises);
 }
 
 -- the order, with a look at its end
 pub order-looked : (v u : LaneView) (n floor : ℕ) → Gains (look_told n floor ∷ []) v u → rises 0 v.happened (length v.told) ≡ true
-    → order_of u ≡ order_of v ++ placed 0 (look_item n floor) ∷ []
+    → lane_order u ≡ lane_order v ++ placed 0 (look_item n floor) ∷ []
 order-looked v u n floor gains h =
     rw (gains.told, gains.happened, map-append untold v.told (look_told n floor ∷ [])) (order-more 0 (untold_all v.told) (look_item n floor ∷ []) v.happened (within v h))
 
@@ -55,15 +55,15 @@ pub in_order-looks : (sys : System) (looks n floor : ℕ) (base : Bool) (v u w :
     → n ≡ looks + 1 → base ≡ (floor == 0) → has_no_stim u → IsInOrder sys looks v → IsInOrder sys n w
 in_order-looks sys looks n floor base v u w of gains none next same no_stim h =
     let order = order-looked v u n floor gains h.rises in
-    let asked : acts_next u.sys u.plan (order_of u) base ≡ None = none.none refl no_stim in
-    let nobody : acts_next sys v.plan (order_of v) (floor == 0) ≡ None =
-    sym (acts-more sys v.plan (order_of v) (placed 0 (look_item n floor)) (floor == 0) (look-idle 0 n floor))
+    let asked : acts_next u.sys u.plan (lane_order u) base ≡ None = none.none refl no_stim in
+    let nobody : acts_next sys v.plan (lane_order v) (floor == 0) ≡ None =
+    sym (acts-more sys v.plan (lane_order v) (placed 0 (look_item n floor)) (floor == 0) (look-idle 0 n floor))
     ∙ ap (λ xs. acts_next sys v.plan xs (floor == 0)) (sym order)
-    ∙ ap (λ b. acts_next sys v.plan (order_of u) b) (sym same)
-    ∙ ap (λ p. acts_next sys p (order_of u) base) (sym gains.plan)
-    ∙ ap (λ s. acts_next s u.plan (order_of u) base) (sym (gains.sys ∙ of))
+    ∙ ap (λ b. acts_next sys v.plan (lane_order u) b) (sym same)
+    ∙ ap (λ p. acts_next sys p (lane_order u) base) (sym gains.plan)
+    ∙ ap (λ s. acts_next s u.plan (lane_order u) base) (sym (gains.sys ∙ of))
     ∙ asked in
-    let looked = free_look_comes_last sys v.plan looks (untold_all v.told) (lanes_of v) (order_of v) h.order n floor next nobody in
+    let looked = free_look_comes_last sys v.plan looks (untold_all v.told) (lanes_of v) (lane_order v) h.order n floor next nobody in
     let kept = none.untouched.kept in
     record {
       order =
@@ -92,10 +92,10 @@ next-taken (suc b) (suc k) (x ∷ xs) s left len is =
     (ap (λ ys. x ∷ ys) later.0, ap (λ ys. x ∷ ys) later.1)
 
 lane-happens : (n : ℕ) (hs : List Happening) (h : Happening) → (h.source == n) ≡ true → lane_told n (hs ++ h ∷ []) ≡ lane_told n hs ++ map (for_object 0) h.told
-lane-happens n hs h is = ap (map (for_object 0)) (told-happens n hs h ∙ rw is refl) ∙ map-append (for_object 0) (told_by n hs) h.told
+lane-happens n hs h is = ap (map (for_object 0)) (told-happens n hs h ∙ rw is refl) ∙ map-append (for_object 0) (told_by_source n hs) h.told
 
 lane-still : (n : ℕ) (hs : List Happening) (h : Happening) → (h.source == n) ≡ false → lane_told n (hs ++ h ∷ []) ≡ lane_told n hs
-lane-still n hs h is = ap (map (for_object 0)) (told-happens n hs h ∙ rw is (append-nil (told_by n hs)))
+lane-still n hs h is = ap (map (for_object 0)) (told-happens n hs h ∙ rw is (append-nil (told_by_source n hs)))
 
 -- the source of a stimulus that acts has done those before it
 pub record Ready (ss : List Stim) (hs : List Happening) (source place : ℕ) (s : Stim) (left : List Stim) : Type 0 where
@@ -104,12 +104,12 @@ pub record Ready (ss : List Stim) (hs : List Happening) (source place : ℕ) (s 
   pub all : take (begun_by source hs) ss ++ s ∷ left ≡ ss
 
 ready : (sys : System) (v : LaneView) (base : Bool) (source place : ℕ) (s : Stim) (a : Acts v base source place s) → v.sys ≡ sys → has_no_stim v
-    → (ss : List Stim) → stimuli_of v.plan source ≡ ss → SourceGoes sys sim (take (begun_by source v.happened) ss) (lane_told source v.happened) → Ready ss v.happened source place s a.left
+    → (ss : List Stim) → source_stimuli v.plan source ≡ ss → SourceGoes sys sim (take (begun_by source v.happened) ss) (lane_told source v.happened) → Ready ss v.happened source place s a.left
 ready sys v base source place s a of no_stim ss is goes =
-    let counts : place ≡ begun (order_of v) source + 1 = acts-place v.sys v.plan (order_of v) base (record { source = source; place = place }) (a.next no_stim) in
-    let told : begun (order_of v) source ≡ count_by (λ (t : Told). is_some (stim_of t.body)) (told_by source v.happened) = begun-told source 0 (untold_all v.told) v.happened a.some in
-    let runs : count_by (λ (t : Told). is_some (stim_of t.body)) (told_by source v.happened) ≡ length (take (begun_by source v.happened) ss) =
-    ap (count_by (λ (t : Told). is_some (stim_of t.body))) (sym (told-source (told_by source v.happened))) ∙ runs-count sys 1 (take (begun_by source v.happened) ss) (told_alone (lane_told source v.happened)) goes.runs in
+    let counts : place ≡ begun (lane_order v) source + 1 = acts-place v.sys v.plan (lane_order v) base (record { source = source; place = place }) (a.next no_stim) in
+    let told : begun (lane_order v) source ≡ count_by (λ (t : Told). is_some (stim_of t.body)) (told_by_source source v.happened) = begun-told source 0 (untold_all v.told) v.happened a.some in
+    let runs : count_by (λ (t : Told). is_some (stim_of t.body)) (told_by_source source v.happened) ≡ length (take (begun_by source v.happened) ss) =
+    ap (count_by (λ (t : Told). is_some (stim_of t.body))) (sym (told-source (told_by_source source v.happened))) ∙ runs-count sys 1 (take (begun_by source v.happened) ss) (told_alone (lane_told source v.happened)) goes.runs in
     let len : length (take (begun_by source v.happened) ss) ≡ place - 1 = omega (arith, counts, told, runs) in
     let parts = next-taken (begun_by source v.happened) (place - 1) ss s a.left len (subst (λ xs. drop (place - 1) xs ≡ s ∷ a.left) is a.its) in
     record { counted = omega (arith, counts, told, runs); next = parts.0; all = parts.1 }
@@ -213,7 +213,7 @@ risen v u n floor gains h =
 
 -- the order, with the look and what happened in it
 order-came : (v u w : LaneView) (n floor source : ℕ) (g : List Told) → Gains (look_told n floor ∷ []) v u → rises 0 v.happened (length v.told) ≡ true
-    → w.told ≡ u.told → Comes source g u w → order_of w ≡ (order_of v ++ placed 0 (look_item n floor) ∷ []) ++ all_placed source (source_items g)
+    → w.told ≡ u.told → Comes source g u w → lane_order w ≡ (lane_order v ++ placed 0 (look_item n floor) ∷ []) ++ all_placed source (source_items g)
 order-came v u w n floor source g gains h told comes =
     rw (told, comes)
     (order-happens 0 (untold_all u.told) u.happened (record { at = length u.told; source = source; told = g }) (within u (risen v u n floor gains h)) (let long = length-map u.told untold in omega (arith, long))
@@ -238,34 +238,34 @@ in_order-happens sys looks n floor base v u w of gains hap next same no_stim h =
     let counted = grown.counted in
     let seat : 1 + length grown.front ≡ hap.source = counted in
     let sys_is : u.sys ≡ sys = gains.sys ∙ of in
-    let asked : acts_next sys v.plan (order_of v) (floor == 0) ≡ Some (record { source = 1 + length grown.front; place = hap.place }) =
-    sym (acts-more sys v.plan (order_of v) (placed 0 (look_item n floor)) (floor == 0) (look-idle 0 n floor))
+    let asked : acts_next sys v.plan (lane_order v) (floor == 0) ≡ Some (record { source = 1 + length grown.front; place = hap.place }) =
+    sym (acts-more sys v.plan (lane_order v) (placed 0 (look_item n floor)) (floor == 0) (look-idle 0 n floor))
     ∙ ap (λ xs. acts_next sys v.plan xs (floor == 0)) (sym (order-looked v u n floor gains h.rises))
-    ∙ ap (λ b. acts_next sys v.plan (order_of u) b) (sym same)
-    ∙ ap (λ p. acts_next sys p (order_of u) base) (sym gains.plan)
-    ∙ ap (λ s. acts_next s u.plan (order_of u) base) (sym sys_is)
+    ∙ ap (λ b. acts_next sys v.plan (lane_order u) b) (sym same)
+    ∙ ap (λ p. acts_next sys p (lane_order u) base) (sym gains.plan)
+    ∙ ap (λ s. acts_next s u.plan (lane_order u) base) (sym sys_is)
     ∙ a.next no_stim
     ∙ ap (λ k. Some (record { source = k; place = hap.place })) (sym seat) in
     let fits : StimFits sys sim hap.s false hap.one = subst (λ s. StimFits s sim hap.s false hap.one) sys_is hap.fits in
     let items = (stimuli_are_their_own sys hap.s false).0 hap.one fits in
-    let came = stimulus_comes_last sys v.plan looks (untold_all v.told) grown.front grown.here grown.back (order_of v)
-    (subst (λ ls. RunsInOrder sys v.plan looks (untold_all v.told) ls (order_of v)) grown.old h.order) n floor hap.place (source_items hap.one)
+    let came = stimulus_comes_last sys v.plan looks (untold_all v.told) grown.front grown.here grown.back (lane_order v)
+    (subst (λ ls. RunsInOrder sys v.plan looks (untold_all v.told) ls (lane_order v)) grown.old h.order) n floor hap.place (source_items hap.one)
     (record { next = next; acts = asked; lookless = items.lookless }) items.behind (items.calm refl) in
     let happened : w.happened ≡ hs ++ one ∷ [] = hap.comes ∙ rw gains.happened refl in
     let lanes : lanes_of w ≡ grown.front ++ (grown.here ++ source_items g) ∷ grown.back =
     ap (λ p. lanes_from 1 p w.happened) (kept.plan ∙ gains.plan) ∙ ap (lanes_from 1 v.plan) happened ∙ grown.new in
-    let order : order_of w ≡ order_of v ++ placed 0 (look_item n floor) ∷ all_placed (1 + length grown.front) (source_items g) =
+    let order : lane_order w ≡ lane_order v ++ placed 0 (look_item n floor) ∷ all_placed (1 + length grown.front) (source_items g) =
     order-came v u w n floor hap.source g gains h.rises kept.told hap.comes
-    ∙ append_assoc (order_of v) (placed 0 (look_item n floor) ∷ []) (all_placed hap.source (source_items g))
-    ∙ ap (λ k. order_of v ++ placed 0 (look_item n floor) ∷ all_placed k (source_items g)) (sym seat) in
+    ∙ append_assoc (lane_order v) (placed 0 (look_item n floor) ∷ []) (all_placed hap.source (source_items g))
+    ∙ ap (λ k. lane_order v ++ placed 0 (look_item n floor) ∷ all_placed k (source_items g)) (sym seat) in
     let told_is : untold_all w.told ≡ untold_all v.told ++ look_item n floor ∷ [] = ap untold_all (kept.told ∙ gains.told) ∙ map-append untold v.told (look_told n floor ∷ []) in
     let changes = one_look_changes grown.front grown.here grown.back n hap.place (source_items hap.one) false items.behind in
     record {
       order = record {
         order =
-            subst (λ p. RunsInOrder sys p n (untold_all w.told) (lanes_of w) (order_of w)) (sym (kept.plan ∙ gains.plan))
-            (subst (λ is. RunsInOrder sys v.plan n is (lanes_of w) (order_of w)) (sym told_is)
-            (subst (λ ls. RunsInOrder sys v.plan n (untold_all v.told ++ look_item n floor ∷ []) ls (order_of w)) (sym lanes)
+            subst (λ p. RunsInOrder sys p n (untold_all w.told) (lanes_of w) (lane_order w)) (sym (kept.plan ∙ gains.plan))
+            (subst (λ is. RunsInOrder sys v.plan n is (lanes_of w) (lane_order w)) (sym told_is)
+            (subst (λ ls. RunsInOrder sys v.plan n (untold_all v.told ++ look_item n floor ∷ []) ls (lane_order w)) (sym lanes)
             (subst (λ xs. RunsInOrder sys v.plan n (untold_all v.told ++ look_item n floor ∷ []) (grown.front ++ (grown.here ++ source_items g) ∷ grown.back) xs) (sym order) came)));
         sources = rw (kept.plan, gains.plan, happened) (march-grows sys hs one 1 v.plan (let some = a.some in omega (arith, some)) few
             (λ ss is goes.
@@ -294,20 +294,20 @@ order-ends sys looks end ts v w may gains none last h = record {
   cuts = false;
   order =
       rw (gains.plan, gains.told, gains.happened, map-append untold v.told ts, order-more 0 (untold_all v.told) (untold_all ts) v.happened (within v h.rises))
-      (order_ends_in_zero sys v.plan looks (untold_all v.told) (lanes_of v) (order_of v) h.order (untold_all ts) none last);
+      (order_ends_in_zero sys v.plan looks (untold_all v.told) (lanes_of v) (lane_order v) h.order (untold_all ts) none last);
   sources = rw (gains.plan, gains.happened) (march-halts sys end false may v.happened 1 v.plan h.sources);
 }
 
 -- where it stands, with no record more
 pub order-halts : (sys : System) (looks end : ℕ) (v w : LaneView) → may_cut end ≡ true → w.told ≡ v.told → w.plan ≡ v.plan → w.happened ≡ v.happened → IsInOrder sys looks v → IsOrderEnded sys end w
 order-halts sys looks end v w may told plan happened h =
-    let ends = order_ends_in_zero sys v.plan looks (untold_all v.told) (lanes_of v) (order_of v) h.order [] tt none-last in
+    let ends = order_ends_in_zero sys v.plan looks (untold_all v.told) (lanes_of v) (lane_order v) h.order [] tt none-last in
     record {
       cuts = false;
       order =
           rw (plan, told, happened)
-          (subst (λ is. EndsInOrder sys v.plan is (lanes_of v) false (order_of v)) (append-nil (untold_all v.told))
-          (subst (λ xs. EndsInOrder sys v.plan (untold_all v.told ++ []) (lanes_of v) false xs) (append-nil (order_of v)) ends));
+          (subst (λ is. EndsInOrder sys v.plan is (lanes_of v) false (lane_order v)) (append-nil (untold_all v.told))
+          (subst (λ xs. EndsInOrder sys v.plan (untold_all v.told ++ []) (lanes_of v) false xs) (append-nil (lane_order v)) ends));
       sources = rw (plan, happened) (march-halts sys end false may v.happened 1 v.plan h.sources);
     }
 
@@ -320,13 +320,13 @@ module _ (sys : System) (looks n floor end : ℕ) (base : Bool) (v u w : LaneVie
   told_is : untold_all w.told ≡ untold_all v.told ++ look_item n floor ∷ []
   told_is = ap untold_all (told ∙ gains.told) ∙ map-append untold v.told (look_told n floor ∷ [])
 
-  asks : (source place : ℕ) (s : Stim) → Acts u base source place s → acts_next sys v.plan (order_of v) (floor == 0) ≡ Some (record { source = source; place = place })
+  asks : (source place : ℕ) (s : Stim) → Acts u base source place s → acts_next sys v.plan (lane_order v) (floor == 0) ≡ Some (record { source = source; place = place })
   asks source place s a =
-      sym (acts-more sys v.plan (order_of v) (placed 0 (look_item n floor)) (floor == 0) (look-idle 0 n floor))
+      sym (acts-more sys v.plan (lane_order v) (placed 0 (look_item n floor)) (floor == 0) (look-idle 0 n floor))
       ∙ ap (λ xs. acts_next sys v.plan xs (floor == 0)) (sym (order-looked v u n floor gains h.rises))
-      ∙ ap (λ b. acts_next sys v.plan (order_of u) b) (sym same)
-      ∙ ap (λ p. acts_next sys p (order_of u) base) (sym gains.plan)
-      ∙ ap (λ s. acts_next s u.plan (order_of u) base) (sym sys_is)
+      ∙ ap (λ b. acts_next sys v.plan (lane_order u) b) (sym same)
+      ∙ ap (λ p. acts_next sys p (lane_order u) base) (sym gains.plan)
+      ∙ ap (λ s. acts_next s u.plan (lane_order u) base) (sym sys_is)
       ∙ a.next no_stim
 
   -- what is told of a source whose stimulus is its next
@@ -339,9 +339,9 @@ module _ (sys : System) (looks n floor end : ℕ) (base : Bool) (v u w : LaneVie
 
   -- so it ends, by what the stimulus came to
   ended : (cuts : Bool) (source place : ℕ) (s : Stim) (a : Acts u base source place s) (g : List Told) → Comes source g u w
-      → ((front : List (List Item)) (here : List Item) (back : List (List Item)) → 1 + length front ≡ source → RunsInOrder sys v.plan looks (untold_all v.told) (front ++ here ∷ back) (order_of v)
-      → acts_next sys v.plan (order_of v) (floor == 0) ≡ Some (record { source = 1 + length front; place = place })
-      → EndsInOrder sys v.plan (untold_all v.told ++ look_item n floor ∷ []) (front ++ (here ++ source_items g) ∷ back) cuts (order_of v ++ placed 0 (look_item n floor) ∷ all_placed (1 + length front) (source_items g)))
+      → ((front : List (List Item)) (here : List Item) (back : List (List Item)) → 1 + length front ≡ source → RunsInOrder sys v.plan looks (untold_all v.told) (front ++ here ∷ back) (lane_order v)
+      → acts_next sys v.plan (lane_order v) (floor == 0) ≡ Some (record { source = 1 + length front; place = place })
+      → EndsInOrder sys v.plan (untold_all v.told ++ look_item n floor ∷ []) (front ++ (here ++ source_items g) ∷ back) cuts (lane_order v ++ placed 0 (look_item n floor) ∷ all_placed (1 + length front) (source_items g)))
       → ((ss : List Stim) → Ready ss v.happened source place s a.left → SourceGoes sys sim (take (begun_by source v.happened) ss) (lane_told source v.happened)
       → SourceEnds sys sim end cuts ss (lane_told source v.happened ++ map (for_object 0) g))
       → IsOrderEnded sys end w
@@ -354,18 +354,18 @@ module _ (sys : System) (looks n floor end : ℕ) (base : Bool) (v u w : LaneVie
       let happened : w.happened ≡ v.happened ++ one ∷ [] = comes ∙ rw gains.happened refl in
       let lanes : lanes_of w ≡ grown.front ++ (grown.here ++ source_items g) ∷ grown.back =
       ap (λ p. lanes_from 1 p w.happened) (plan ∙ gains.plan) ∙ ap (lanes_from 1 v.plan) happened ∙ grown.new in
-      let order : order_of w ≡ order_of v ++ placed 0 (look_item n floor) ∷ all_placed (1 + length grown.front) (source_items g) =
+      let order : lane_order w ≡ lane_order v ++ placed 0 (look_item n floor) ∷ all_placed (1 + length grown.front) (source_items g) =
       order-came v u w n floor source g gains h.rises told comes
-      ∙ append_assoc (order_of v) (placed 0 (look_item n floor) ∷ []) (all_placed source (source_items g))
-      ∙ ap (λ k. order_of v ++ placed 0 (look_item n floor) ∷ all_placed k (source_items g)) (sym seat) in
-      let came = by-order grown.front grown.here grown.back seat (subst (λ ls. RunsInOrder sys v.plan looks (untold_all v.told) ls (order_of v)) grown.old h.order)
+      ∙ append_assoc (lane_order v) (placed 0 (look_item n floor) ∷ []) (all_placed source (source_items g))
+      ∙ ap (λ k. lane_order v ++ placed 0 (look_item n floor) ∷ all_placed k (source_items g)) (sym seat) in
+      let came = by-order grown.front grown.here grown.back seat (subst (λ ls. RunsInOrder sys v.plan looks (untold_all v.told) ls (lane_order v)) grown.old h.order)
       (asks source place s a ∙ ap (λ k. Some (record { source = k; place = place })) (sym seat)) in
       record {
         cuts = cuts;
         order =
-            subst (λ p. EndsInOrder sys p (untold_all w.told) (lanes_of w) cuts (order_of w)) (sym (plan ∙ gains.plan))
-            (subst (λ is. EndsInOrder sys v.plan is (lanes_of w) cuts (order_of w)) (sym told_is)
-            (subst (λ ls. EndsInOrder sys v.plan (untold_all v.told ++ look_item n floor ∷ []) ls cuts (order_of w)) (sym lanes)
+            subst (λ p. EndsInOrder sys p (untold_all w.told) (lanes_of w) cuts (lane_order w)) (sym (plan ∙ gains.plan))
+            (subst (λ is. EndsInOrder sys v.plan is (lanes_of w) cuts (lane_order w)) (sym told_is)
+            (subst (λ ls. EndsInOrder sys v.plan (untold_all v.told ++ look_item n floor ∷ []) ls cuts (lane_order w)) (sym lanes)
             (subst (λ xs. EndsInOrder sys v.plan (untold_all v.told ++ look_item n floor ∷ []) (grown.front ++ (grown.here ++ source_items g) ∷ grown.back) cuts xs) (sym order) came)));
         sources = rw (plan, gains.plan, happened)
             (halt-grows sys v.happened one end cuts may 1 v.plan some few (λ ss is goes. by-source ss (is-ready source place s a ss is goes) goes) h.sources);
@@ -381,7 +381,7 @@ module _ (sys : System) (looks n floor end : ℕ) (base : Bool) (v u w : LaneVie
           let items = (stimuli_are_their_own sys f.s true).0 f.one fits in
           ended false f.source f.place f.s f.acts (plain (body.Stim f.place n) ∷ f.one) f.comes
           (λ front here back seat order acts.
-          order_ends_in_stimulus sys v.plan looks (untold_all v.told) front here back (order_of v) order n floor f.place (source_items f.one) false
+          order_ends_in_stimulus sys v.plan looks (untold_all v.told) front here back (lane_order v) order n floor f.place (source_items f.one) false
           (record { next = next; acts = acts; lookless = items.lookless }) items.behind items.ends)
           (λ ss r goes.
           subst (λ xs. SourceEnds sys sim end false xs (lane_told f.source v.happened ++ map (for_object 0) (plain (body.Stim f.place n) ∷ f.one))) r.all
@@ -390,21 +390,21 @@ module _ (sys : System) (looks n floor end : ℕ) (base : Bool) (v u w : LaneVie
           let fits : StimFits sys sim f.s f.asserted (f.one ++ f.back) = subst (λ x. StimFits x sim f.s f.asserted (f.one ++ f.back)) sys_is f.fits in
           let items = (stimuli_are_their_own sys f.s f.asserted).1 f.one f.back f.size f.some fits in
           let told_g : source_items (f.one ++ plain (body.Spill f.size) ∷ []) ≡ source_items f.one ++ spill_item f.size ∷ [] = items-append f.one (plain (body.Spill f.size) ∷ []) in
-          let long : length (lane_told f.source v.happened) ≡ length (told_by f.source u.happened) = length-map (told_by f.source v.happened) (for_object 0) ∙ ap (λ hs. length (told_by f.source hs)) (sym gains.happened) in
+          let long : length (lane_told f.source v.happened) ≡ length (told_by_source f.source u.happened) = length-map (told_by_source f.source v.happened) (for_object 0) ∙ ap (λ hs. length (told_by_source f.source hs)) (sym gains.happened) in
           let states = f.states in
           ended true f.source f.place f.s f.acts (plain (body.Stim f.place n) ∷ (f.one ++ plain (body.Spill f.size) ∷ [])) f.comes
           (λ front here back seat order acts.
-          rw told_g (order_ends_in_stimulus sys v.plan looks (untold_all v.told) front here back (order_of v) order n floor f.place (source_items f.one ++ spill_item f.size ∷ []) true
+          rw told_g (order_ends_in_stimulus sys v.plan looks (untold_all v.told) front here back (lane_order v) order n floor f.place (source_items f.one ++ spill_item f.size ∷ []) true
           (record { next = next; acts = acts; lookless = items.lookless }) items.behind items.ends))
           (λ ss r goes.
           subst (λ xs. SourceEnds sys sim end true xs (lane_told f.source v.happened ++ map (for_object 0) (plain (body.Stim f.place n) ∷ (f.one ++ plain (body.Spill f.size) ∷ [])))) r.all
           (rw (map-append (for_object 0) f.one (plain (body.Spill f.size) ∷ []), sym r.counted)
           ((source_lane_stops sys end (take (begun_by f.source v.happened) ss) (lane_told f.source v.happened) may goes f.s f.acts.left).3 n f.size f.one f.back f.asserted f.some fits (omega (arith, states, long)) f.full)))
       go (inr (inr (inr f))) =
-          let long : length (lane_told f.source v.happened) ≡ length (told_by f.source u.happened) = length-map (told_by f.source v.happened) (for_object 0) ∙ ap (λ hs. length (told_by f.source hs)) (sym gains.happened) in
+          let long : length (lane_told f.source v.happened) ≡ length (told_by_source f.source u.happened) = length-map (told_by_source f.source v.happened) (for_object 0) ∙ ap (λ hs. length (told_by_source f.source hs)) (sym gains.happened) in
           let states = f.states in
           ended false f.source f.place f.s f.acts (plain (body.Spill f.size) ∷ []) f.comes
-          (λ front here back seat order acts. order_ends_in_full_lane sys v.plan looks (untold_all v.told) front here back (order_of v) order n floor f.size next)
+          (λ front here back seat order acts. order_ends_in_full_lane sys v.plan looks (untold_all v.told) front here back (lane_order v) order n floor f.size next)
           (λ ss r goes.
           subst (λ xs. SourceEnds sys sim end false xs (lane_told f.source v.happened ++ map (for_object 0) (plain (body.Spill f.size) ∷ []))) r.all
           ((source_lane_stops sys end (take (begun_by f.source v.happened) ss) (lane_told f.source v.happened) may goes f.s f.acts.left).1 f.size (omega (arith, states, long)) f.full))

@@ -9,7 +9,7 @@ use Rattle.qp_model.specs.Acts.{Actor, Config}
 use Rattle.qp_model.specs.Able.{task_able, chart_able}
 use Rattle.qp_model.specs.Step.{Remainder, StepGoesOn, whole_step}
 use Rattle.qp_model.specs.Course.{Starts}
-use Rattle.qp_model.specs.Standing.{Between, Within, Leaves, Advances}
+use Rattle.qp_model.specs.Standing.{Between, Within, Leaves, StepAdvances}
 use Rattle.qp_model.proofs.CourseLemmas.{leaves-on, leaves-took, leaves-done, course-start}
 use Rattle.qp_kernel.specs.Stages as stage
 use Rattle.qp_kernel.specs.Stages.{Stage, IsReady, ComesTo, closes}
@@ -39,7 +39,7 @@ module _ (sys : System) (a : Actor) (first : Config) (es : List Entry) (ps : Lis
 
   -- its step comes to a scheduling point
   pub comes-point : (s : Stage) (ev : Event) (e : Entry) (left later : Remainder) (c d : Config) (g : List Told) → IsWithinStep s ev e left c
-      → Advances sys a ev e left c (tell g ++ Point ∷ []) later d → IsReady sys a later d
+      → StepAdvances sys a ev e left c (tell g ++ Point ∷ []) later d → IsReady sys a later d
       → ComesTo sys a first es ps s → ComesTo sys a first es (ps ++ (tell g ++ Point ∷ [])) (stage.Paused ev e later d)
   unfolding ComesTo
   comes-point s ev e left later c d g within goes ready h =

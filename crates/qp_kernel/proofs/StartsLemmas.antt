@@ -12,43 +12,43 @@ use Rattle.qp_model.proofs.KernelRowLemmas.{IsOwnRole}
 use Rattle.qp_model_order.specs.SourceRun.{untold, untold_all}
 use Rattle.qp_kernel.specs.Turning.{spill_told}
 use Rattle.qp_kernel.proofs.ToldPieces.{AreOwn}
-use Rattle.qp_kernel.specs.Starts.{AreStarts, IsStartAlone, behind, dones, up_to}
+use Rattle.qp_kernel.specs.Starts.{AreStarts, IsStartAlone, behind_starts, dones, up_to}
 use Rattle.qp_model.specs.OutputSummary.{is_done_record}
 
 -- a lane is its starts and what stands behind them
-pub parts : (n : ℕ) (is : List Item) → up_to n is ++ behind n is ≡ is
+pub parts : (n : ℕ) (is : List Item) → up_to n is ++ behind_starts n is ≡ is
 parts zero is = refl
 parts (suc n) [] = refl
 parts (suc n) (i ∷ is) = by (is_done_record i.body) (parts n is) (parts (suc n) is)
   where
-    by : (b : Bool) → up_to n is ++ behind n is ≡ is → up_to (suc n) is ++ behind (suc n) is ≡ is → (i ∷ cond b (up_to n is) (up_to (suc n) is)) ++ cond b (behind n is) (behind (suc n) is) ≡ i ∷ is
+    by : (b : Bool) → up_to n is ++ behind_starts n is ≡ is → up_to (suc n) is ++ behind_starts (suc n) is ≡ is → (i ∷ cond b (up_to n is) (up_to (suc n) is)) ++ cond b (behind_starts n is) (behind_starts (suc n) is) ≡ i ∷ is
     by true one more = ap (λ js. i ∷ js) one
     by false one more = ap (λ js. i ∷ js) more
 
 -- starts to their end, with records behind them
-pub starts-split : (n : ℕ) (xs ys : List Item) → behind n xs ≡ [] → dones xs ≡ n → (up_to n (xs ++ ys) ≡ xs) × (behind n (xs ++ ys) ≡ ys)
+pub starts-split : (n : ℕ) (xs ys : List Item) → behind_starts n xs ≡ [] → dones xs ≡ n → (up_to n (xs ++ ys) ≡ xs) × (behind_starts n (xs ++ ys) ≡ ys)
 starts-split zero [] ys b d = (refl, refl)
 starts-split zero (x ∷ xs) ys b d = absurd (cc)
 starts-split (suc n) [] ys b d = absurd (omega (arith, d))
 starts-split (suc n) (x ∷ xs) ys b d = by (is_done_record x.body) b d (λ k e. starts-split n xs ys k e) (λ k e. starts-split (suc n) xs ys k e)
   where
-    by : (c : Bool) → cond c (behind n xs) (behind (suc n) xs) ≡ [] → cond c (suc (dones xs)) (dones xs) ≡ suc n
-        → (behind n xs ≡ [] → dones xs ≡ n → (up_to n (xs ++ ys) ≡ xs) × (behind n (xs ++ ys) ≡ ys))
-        → (behind (suc n) xs ≡ [] → dones xs ≡ suc n → (up_to (suc n) (xs ++ ys) ≡ xs) × (behind (suc n) (xs ++ ys) ≡ ys))
-        → (x ∷ cond c (up_to n (xs ++ ys)) (up_to (suc n) (xs ++ ys)) ≡ x ∷ xs) × (cond c (behind n (xs ++ ys)) (behind (suc n) (xs ++ ys)) ≡ ys)
+    by : (c : Bool) → cond c (behind_starts n xs) (behind_starts (suc n) xs) ≡ [] → cond c (suc (dones xs)) (dones xs) ≡ suc n
+        → (behind_starts n xs ≡ [] → dones xs ≡ n → (up_to n (xs ++ ys) ≡ xs) × (behind_starts n (xs ++ ys) ≡ ys))
+        → (behind_starts (suc n) xs ≡ [] → dones xs ≡ suc n → (up_to (suc n) (xs ++ ys) ≡ xs) × (behind_starts (suc n) (xs ++ ys) ≡ ys))
+        → (x ∷ cond c (up_to n (xs ++ ys)) (up_to (suc n) (xs ++ ys)) ≡ x ∷ xs) × (cond c (behind_starts n (xs ++ ys)) (behind_starts (suc n) (xs ++ ys)) ≡ ys)
     by true b d one more = let k = one b (omega (arith, d)) in (ap (λ l. x ∷ l) k.0, k.1)
     by false b d one more = let k = more b d in (ap (λ l. x ∷ l) k.0, k.1)
 
 -- behind so many starts to their end
-pub behind-more : (n m r : ℕ) (xs ys : List Item) → r ≡ n + m → behind n xs ≡ [] → dones xs ≡ n → behind r (xs ++ ys) ≡ behind m ys
-behind-more zero m r [] ys e b d = let same : r ≡ m = omega (arith, e) in ap (λ k. behind k ys) same
+pub behind-more : (n m r : ℕ) (xs ys : List Item) → r ≡ n + m → behind_starts n xs ≡ [] → dones xs ≡ n → behind_starts r (xs ++ ys) ≡ behind_starts m ys
+behind-more zero m r [] ys e b d = let same : r ≡ m = omega (arith, e) in ap (λ k. behind_starts k ys) same
 behind-more zero m r (x ∷ xs) ys e b d = absurd (cc)
 behind-more (suc n) m r [] ys e b d = absurd (omega (arith, d))
 behind-more (suc n) m zero (x ∷ xs) ys e b d = absurd (omega (arith, e))
 behind-more (suc n) m (suc r) (x ∷ xs) ys e b d = by (is_done_record x.body) b d (λ k f. behind-more n m r xs ys (omega (arith, e)) k f) (λ k f. behind-more (suc n) m (suc r) xs ys e k f)
   where
-    by : (c : Bool) → cond c (behind n xs) (behind (suc n) xs) ≡ [] → cond c (suc (dones xs)) (dones xs) ≡ suc n → (behind n xs ≡ [] → dones xs ≡ n → behind r (xs ++ ys) ≡ behind m ys)
-        → (behind (suc n) xs ≡ [] → dones xs ≡ suc n → behind (suc r) (xs ++ ys) ≡ behind m ys) → cond c (behind r (xs ++ ys)) (behind (suc r) (xs ++ ys)) ≡ behind m ys
+    by : (c : Bool) → cond c (behind_starts n xs) (behind_starts (suc n) xs) ≡ [] → cond c (suc (dones xs)) (dones xs) ≡ suc n → (behind_starts n xs ≡ [] → dones xs ≡ n → behind_starts r (xs ++ ys) ≡ behind_starts m ys)
+        → (behind_starts (suc n) xs ≡ [] → dones xs ≡ suc n → behind_starts (suc r) (xs ++ ys) ≡ behind_starts m ys) → cond c (behind_starts r (xs ++ ys)) (behind_starts (suc r) (xs ++ ys)) ≡ behind_starts m ys
     by true b d one more = one b (omega (arith, d))
     by false b d one more = more b d
 
@@ -84,9 +84,9 @@ own-undone body.Done h = absurd h
 own-undone _ h = refl
 
 -- records of a start before its `done`
-own-behind : (n o : ℕ) (g : List Told) (more : List Item) → AreOwn g → behind (suc n) (untold_all (map (for_object o) g) ++ more) ≡ behind (suc n) more
+own-behind : (n o : ℕ) (g : List Told) (more : List Item) → AreOwn g → behind_starts (suc n) (untold_all (map (for_object o) g) ++ more) ≡ behind_starts (suc n) more
 own-behind n o [] more own = refl
-own-behind n o (t ∷ g) more own = ap (λ (c : Bool). cond c (behind n (untold_all (map (for_object o) g) ++ more)) (behind (suc n) (untold_all (map (for_object o) g) ++ more))) (own-undone t.body own.0) ∙ own-behind n o g more own.2
+own-behind n o (t ∷ g) more own = ap (λ (c : Bool). cond c (behind_starts n (untold_all (map (for_object o) g) ++ more)) (behind_starts (suc n) (untold_all (map (for_object o) g) ++ more))) (own-undone t.body own.0) ∙ own-behind n o g more own.2
 
 own-dones : (o : ℕ) (g : List Told) (more : List Item) → AreOwn g → dones (untold_all (map (for_object o) g) ++ more) ≡ dones more
 own-dones o [] more own = refl
@@ -107,18 +107,18 @@ done-starts o g front whole own = subst (λ x. AreStarts 1 (untold_all (map (for
 
 -- one that asserts
 pub own-alone : (n o : ℕ) (g : List Told) → AreOwn g → IsStartAlone (suc n) (untold_all (map (for_object o) g))
-own-alone n o g own w = ap (λ is. marks w (behind (suc n) is)) (sym (append-nil (untold_all (map (for_object o) g)))) ∙ ap (marks w) (own-behind n o g [] own)
+own-alone n o g own w = ap (λ is. marks w (behind_starts (suc n) is)) (sym (append-nil (untold_all (map (for_object o) g)))) ∙ ap (marks w) (own-behind n o g [] own)
 
 -- one whose lane is full within it, or behind it
 pub own-spills : (n o many : ℕ) (g : List Told) → AreOwn g → IsStartAlone (suc n) (untold_all (map (for_object o) g ++ spill_told many ∷ []))
-own-spills n o many g own w = ap (λ is. marks w (behind (suc n) is)) (items-append o g (spill_told many ∷ [])) ∙ ap (marks w) (own-behind n o g (untold (spill_told many) ∷ []) own)
+own-spills n o many g own w = ap (λ is. marks w (behind_starts (suc n) is)) (items-append o g (spill_told many ∷ [])) ∙ ap (marks w) (own-behind n o g (untold (spill_told many) ∷ []) own)
 
 pub done-spills : (n o many : ℕ) (g front : List Told) → g ≡ front ++ plain body.Done ∷ [] → AreOwn front → IsStartAlone (suc n) (untold_all (map (for_object o) g ++ spill_told many ∷ []))
 done-spills n o many g front whole own w =
     let starts = done-starts o g front whole own in
-    ap (λ is. marks w (behind (suc n) is)) (items-append o g (spill_told many ∷ []))
+    ap (λ is. marks w (behind_starts (suc n) is)) (items-append o g (spill_told many ∷ []))
     ∙ ap (marks w) (behind-more 1 n (suc n) (untold_all (map (for_object o) g)) (untold (spill_told many) ∷ []) (omega arith) starts.0 starts.1) ∙ by n
   where
-    by : (m : ℕ) → marks w (behind m (untold (spill_told many) ∷ [])) ≡ []
+    by : (m : ℕ) → marks w (behind_starts m (untold (spill_told many) ∷ [])) ≡ []
     by zero = refl
     by (suc m) = refl

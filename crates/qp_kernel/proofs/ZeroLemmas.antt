@@ -18,7 +18,7 @@ use Rattle.qp_model.specs.Ends.{is_turn_mark, is_end}
 use Rattle.qp_model.specs.End.{took_count, takes_of}
 use Rattle.qp_model.specs.Sites.{object_at}
 use Rattle.qp_model.specs.Course.{actor, first_config, chart_at, Starts}
-use Rattle.qp_model.specs.Standing.{Advances}
+use Rattle.qp_model.specs.Standing.{StepAdvances}
 use Rattle.qp_model.specs.Step.{Remainder, StepGoesOn, whole_step}
 use Rattle.qp_model.specs.Acts.{Config}
 use Rattle.qp_model.proofs.KernelRowLemmas.{lane_on-then, look-next, seen-empty, seen-entry, rest-next, took-next, done-next, release-next, started-next, MayLook, IsOwnRole, IsWithin}
@@ -321,7 +321,7 @@ module _ (sys : System) (kernel budget : ℕ) (told : List ToldItem) (now : ℕ 
   pub zero-point : (outer : List ℕ) (g : List Told) (ev : Event) (e : Entry) (left later : Remainder) (c d : Config) → IsWithin k p outer → AreOwn g
       → list_any (λ t. is_end t.body) g ≡ false → IsWithinStep (stages p) ev e left c
       → ((o : ObjectDef) (chart : Chart) → o.priority ≡ p → object_at sys o.priority ≡ Some o → chart_at sys o.chart ≡ Some chart
-      → Advances sys (actor o chart) ev e left c (tell g ++ Point ∷ []) later d × IsReady sys (actor o chart) later d)
+      → StepAdvances sys (actor o chart) ev e left c (tell g ++ Point ∷ []) later d × IsReady sys (actor o chart) later d)
       → LaneZero sys kernel budget (told ++ map (for_object p) g) now upto (record k { ceiling = ceiling_through k.ceiling g }) p
       (moved stages p (stage.Paused ev e later d)) (having entries p (entries p))
   zero-point outer g ev e left later c d at own calm within goes =

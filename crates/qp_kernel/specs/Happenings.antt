@@ -24,8 +24,8 @@ run_order n lane [] = all_placed 0 lane
 run_order n lane (h ∷ hs) = all_placed 0 (take (h.at - n) lane) ++ placed_of h ++ run_order h.at (drop (h.at - n) lane) hs
 
 -- the order of all records that the lane and the sources have
-abbrev pub order_of : LaneView → List Placed
-order_of v = run_order 0 (untold_all v.told) v.happened
+abbrev pub lane_order : LaneView → List Placed
+lane_order v = run_order 0 (untold_all v.told) v.happened
 
 -- they came in this order, and none after so many records of the lane
 unfoldable pub rises : ℕ → List Happening → ℕ → Bool
@@ -33,19 +33,19 @@ rises n [] most = nat_le n most
 rises n (h ∷ hs) most = nat_le n h.at && rises h.at hs most
 
 -- what the lane of a source tells
-unfoldable pub told_by : ℕ → List Happening → List Told
-told_by n [] = []
-told_by n (h ∷ hs) = (if h.source == n then h.told else []) ++ told_by n hs
+unfoldable pub told_by_source : ℕ → List Happening → List Told
+told_by_source n [] = []
+told_by_source n (h ∷ hs) = (if h.source == n then h.told else []) ++ told_by_source n hs
 
 -- the same, as told for no object
 abbrev pub lane_told : ℕ → List Happening → List ToldItem
-lane_told n hs = map (for_object 0) (told_by n hs)
+lane_told n hs = map (for_object 0) (told_by_source n hs)
 
 -- the lanes of the sources from number n on
 unfoldable pub lanes_from : ℕ → List (List Stim) → List Happening → List (List Item)
-unfolding told_by
+unfolding told_by_source
 lanes_from n [] hs = []
-lanes_from n (ss ∷ more) hs = source_items (told_by n hs) ∷ lanes_from (n + 1) more hs
+lanes_from n (ss ∷ more) hs = source_items (told_by_source n hs) ∷ lanes_from (n + 1) more hs
 
 abbrev pub lanes_of : LaneView → List (List Item)
 lanes_of v = lanes_from 1 v.plan v.happened
@@ -57,26 +57,26 @@ begun_by n (h ∷ hs) = (if h.source == n then 1 else 0) + begun_by n hs
 
 -- each source has done so many of its stimuli, each with its records
 unfoldable pub SourcesMarch : System → ℕ → List (List Stim) → List Happening → Type 0
-unfolding begun_by told_by
+unfolding begun_by told_by_source
 SourcesMarch sys n [] hs = ⊤
 SourcesMarch sys n (ss ∷ more) hs = SourceGoes sys sim (take (begun_by n hs) ss) (lane_told n hs) × SourcesMarch sys (n + 1) more hs
 
 -- each source has come to where a run that ended so may leave it
 unfoldable pub SourcesHalt : System → ℕ → Bool → ℕ → List (List Stim) → List Happening → Type 0
-unfolding told_by
+unfolding told_by_source
 SourcesHalt sys end cuts n [] hs = ⊤
 SourcesHalt sys end cuts n (ss ∷ more) hs = SourceEnds sys sim end cuts ss (lane_told n hs) × SourcesHalt sys end cuts (n + 1) more hs
 
 -- Between two looks: the records are in the order of a run with so many looks, and the sources are as far as that.
 pub record IsInOrder (sys : System) (looks : ℕ) (v : LaneView) : Type 0 where
-  pub order : RunsInOrder sys v.plan looks (untold_all v.told) (lanes_of v) (order_of v)
+  pub order : RunsInOrder sys v.plan looks (untold_all v.told) (lanes_of v) (lane_order v)
   pub sources : SourcesMarch sys 1 v.plan v.happened
   pub rises : rises 0 v.happened (length v.told) ≡ true
 
 -- Where the run has stopped early with this end.
 pub record IsOrderEnded (sys : System) (end : ℕ) (v : LaneView) : Type 0 where
   pub cuts : Bool
-  pub order : EndsInOrder sys v.plan (untold_all v.told) (lanes_of v) cuts (order_of v)
+  pub order : EndsInOrder sys v.plan (untold_all v.told) (lanes_of v) cuts (lane_order v)
   pub sources : SourcesHalt sys end cuts 1 v.plan v.happened
 
 -- no `stim` stands in the lane itself

@@ -12,7 +12,7 @@ use Rattle.qp_model.specs.Sources.{StimFits}
 use Rattle.qp_calls.specs.LaneView.{LaneView, is_codeless, is_known, no_code}
 use Rattle.qp_kernel.specs.declared.world.Irq.{Irq}
 use Rattle.qp_kernel.specs.declared.world.Irq.TheVariants as irq
-use Rattle.qp_kernel.specs.Happenings.{order_of, told_by, has_no_stim}
+use Rattle.qp_kernel.specs.Happenings.{lane_order, told_by_source, has_no_stim}
 
 -- the lane chosen, its records, the codes that it handed to `stop` and the object set by `by` are as they were; words may have gone on, and
 -- records of another lane may have come behind those of the log
@@ -39,8 +39,8 @@ pub record IsUntouched (old new : LaneView) : Type 0 where
   pub hands : new.hands ≡ old.hands
 
 -- the stimuli of a source, which is counted from 1
-abbrev pub stimuli_of : List (List Stim) → ℕ → List Stim
-stimuli_of plan source = get_or plan (source - 1) []
+abbrev pub source_stimuli : List (List Stim) → ℕ → List Stim
+source_stimuli plan source = get_or plan (source - 1) []
 
 -- This stimulus of this source, by its place from 1, is the one that acts in a look; others are left behind it.
 pub record Acts (v : LaneView) (base : Bool) (source place : ℕ) (s : Stim) : Type 0 where
@@ -48,8 +48,8 @@ pub record Acts (v : LaneView) (base : Bool) (source place : ℕ) (s : Stim) : T
   pub few : source ≤ length v.plan
   pub counted : 0 < place
   pub left : List Stim
-  pub its : drop (place - 1) (stimuli_of v.plan source) ≡ s ∷ left
-  pub next : has_no_stim v → acts_next v.sys v.plan (order_of v) base ≡ Some (record { source = source; place = place })
+  pub its : drop (place - 1) (source_stimuli v.plan source) ≡ s ∷ left
+  pub next : has_no_stim v → acts_next v.sys v.plan (lane_order v) base ≡ Some (record { source = source; place = place })
 
 -- it came to these records in the lane of its source
 abbrev pub Comes : ℕ → List Told → LaneView → LaneView → Type 0
@@ -88,7 +88,7 @@ pub record HappensInPart (look : ℕ) (base : Bool) (old new : LaneView) : Type 
   pub acts : Acts old base source place s
   pub some : back ≢ []
   pub fits : StimFits old.sys sim s asserted (one ++ back)
-  pub states : size ≡ length (told_by source old.happened) + (1 + length one)
+  pub states : size ≡ length (told_by_source source old.happened) + (1 + length one)
   pub full : 999992 < size
   pub comes : Comes source (plain (body.Stim place look) ∷ (one ++ plain (body.Spill size) ∷ [])) old new
 
@@ -99,7 +99,7 @@ pub record FindsNoRoom (base : Bool) (old new : LaneView) : Type 0 where
   pub s : Stim
   pub size : ℕ
   pub acts : Acts old base source place s
-  pub states : size ≡ length (told_by source old.happened)
+  pub states : size ≡ length (told_by_source source old.happened)
   pub full : 999992 < size
   pub comes : Comes source (plain (body.Spill size) ∷ []) old new
 
@@ -108,7 +108,7 @@ pub record HasNone (acts base : Bool) (old new : LaneView) : Type 0 where
   pub untouched : IsUntouched old new
   pub happened : new.happened ≡ old.happened
   pub asked : acts ≡ false → new.asked ≡ old.asked
-  pub none : acts ≡ true → has_no_stim old → acts_next old.sys old.plan (order_of old) base ≡ None
+  pub none : acts ≡ true → has_no_stim old → acts_next old.sys old.plan (lane_order old) base ≡ None
 
 -- no lane of the world has handed in a code or found one
 abbrev pub is_unset : LaneView → Bool

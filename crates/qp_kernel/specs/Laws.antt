@@ -13,7 +13,7 @@ use Rattle.qp_model.specs.Told.{Told, Event, for_object, plain, told_took}
 use Rattle.qp_model.specs.Pieces.{Piece, Point, tell}
 use Rattle.qp_model.specs.Acts.{Config}
 use Rattle.qp_model.specs.Step.{Remainder, StepGoesOn, whole_step}
-use Rattle.qp_model.specs.Standing.{Advances}
+use Rattle.qp_model.specs.Standing.{StepAdvances}
 use Rattle.qp_model.specs.Course.{actor, first_config, Starts}
 use Rattle.qp_model.specs.KernelLane.{Reading, Inside, Looking, Chosen, Ended, Resting, Over, floor_in, above, base_ended, looking_at, unread}
 use Rattle.qp_model.specs.Ends.{is_end, may_cut, quiet}
@@ -46,8 +46,8 @@ LooksAreSettled =
     → Stands sys terms (record s { now = later; upto = more })
 
 -- the next object's start comes to its `done`
-abbrev pub ObjectStarts : Type 0
-ObjectStarts =
+abbrev pub ObjectStartCompletes : Type 0
+ObjectStartCompletes =
     (sys : System) (terms : Terms) (s : KernelState) (p : ℕ) (d : ObjectDef) (chart : Chart) (others : List ℕ) (g : List Told) (c : Config)
     → AreNumbered sys → IsObject sys p d chart → 0 < p → Stands sys terms s → s.owed ≡ 0
     → s.reading.unstarted ≡ p ∷ others → s.stages p ≡ stage.Unstarted
@@ -115,7 +115,7 @@ StepPauses =
     (ev : Event) (e : Entry) (left later : Remainder) (c after : Config)
     → AreNumbered sys → IsObject sys p d chart → 0 < p → Stands sys terms s → s.owed ≡ 0
     → IsInStep s.reading p outer → IsWithinStep (s.stages p) ev e left c
-    → Advances sys (actor d chart) ev e left c (tell g ++ Point ∷ []) later after
+    → StepAdvances sys (actor d chart) ev e left c (tell g ++ Point ∷ []) later after
     → IsReady sys (actor d chart) later after
     → (level : ℕ) × Stands sys terms (record s {
       told = s.told ++ map (for_object p) g;

@@ -14,10 +14,10 @@ up_to (suc n) [] = []
 up_to (suc n) (i ∷ is) = i ∷ (if is_done_record i.body then up_to n is else up_to (suc n) is)
 
 -- and those behind
-abbrev pub behind : ℕ → List Item → List Item
-behind zero is = is
-behind (suc n) [] = []
-behind (suc n) (i ∷ is) = if is_done_record i.body then behind n is else behind (suc n) is
+abbrev pub behind_starts : ℕ → List Item → List Item
+behind_starts zero is = is
+behind_starts (suc n) [] = []
+behind_starts (suc n) (i ∷ is) = if is_done_record i.body then behind_starts n is else behind_starts (suc n) is
 
 -- how many starts and steps come to their end
 abbrev pub dones : List Item → ℕ
@@ -26,8 +26,8 @@ dones (i ∷ is) = if is_done_record i.body then suc (dones is) else dones is
 
 -- these are just so many starts, each to its end
 abbrev pub AreStarts : ℕ → List Item → Type 0
-AreStarts n is = (behind n is ≡ []) × (dones is ≡ n)
+AreStarts n is = (behind_starts n is ≡ []) × (dones is ≡ n)
 
 -- behind so many starts, or what came of them, stands nothing that draws a number or shows a word
 abbrev pub IsStartAlone : ℕ → List Item → Type 0
-IsStartAlone n is = (w : Word) → marks w (behind n is) ≡ []
+IsStartAlone n is = (w : Word) → marks w (behind_starts n is) ≡ []

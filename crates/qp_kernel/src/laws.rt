@@ -1,6 +1,6 @@
 //! Laws of the kernel's lane, from its first record to the journal of its run. Each function here does nothing: its contract is the law.
 
-ghost use Rattle.qp_kernel.specs.Laws.{LaneBegins, LooksAreSettled, ObjectStarts, LookIsAdded, EmptyIsSeen, EntryIsSeen, RestIsAdded, StepBegins, StepPauses, StepEnds, RunEndsQuietly, RunStopsElsewhere, BudgetEnds, AssertionEndsStep, AssertionEndsStart, SpillEndsStep, SpillEndsStart, FullLaneEnds, DeferredAreKept, RunsAreLawful, QuietRunsAreLawful};
+ghost use Rattle.qp_kernel.specs.Laws.{LaneBegins, LooksAreSettled, ObjectStartCompletes, LookIsAdded, EmptyIsSeen, EntryIsSeen, RestIsAdded, StepBegins, StepPauses, StepEnds, RunEndsQuietly, RunStopsElsewhere, BudgetEnds, AssertionEndsStep, AssertionEndsStart, SpillEndsStep, SpillEndsStart, FullLaneEnds, DeferredAreKept, RunsAreLawful, QuietRunsAreLawful};
 
 /// Before its first record lane 0 stands: no object has started, and nothing is owed.
 pub fn lane_begins()
@@ -14,7 +14,7 @@ pub fn looks_are_settled()
 
 /// The next object's start comes to its `done`, and the object rests.
 pub fn objects_start()
-    ensures { ObjectStarts }
+    ensures { ObjectStartCompletes }
 {}
 
 /// A look is added, with the next count and the floor that stands; the object that owes its scheduling point has it.

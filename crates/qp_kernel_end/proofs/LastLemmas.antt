@@ -11,14 +11,14 @@ use Rattle.qp_model.specs.Ends.{ends_last, is_assert, is_end, is_spent, is_spill
 use Rattle.qp_model.specs.History.{lane_items}
 use Rattle.qp_model.specs.Home.{lane_at}
 use Rattle.qp_model.specs.Record.{Item, body_of, item_of}
-use Rattle.qp_kernel_end.specs.LastRecords.{last_asserted_at, last_code, last_is, last_of, last_outcome}
+use Rattle.qp_kernel_end.specs.LastRecords.{last_asserted_at, last_rec_code, last_rec_is, last_rec, last_outcome}
 use Rattle.qp_kernel_end.specs.Outcome.{asserted_at, asserts, code_in, code_of, is_asserted, is_spent_lane, outcome_of, runs_out, spent_at}
 
 -- in a lane like this nothing follows a record that ends it
 abbrev Ends : List Rec → Type 0
 Ends lane = ends_last (lane_items lane) ≡ true
 
-last-behind : (r s : Rec) (lane : List Rec) → last_of (r ∷ s ∷ lane) ≡ last_of (s ∷ lane)
+last-behind : (r s : Rec) (lane : List Rec) → last_rec (r ∷ s ∷ lane) ≡ last_rec (s ∷ lane)
 last-behind r s lane =
     let place : length (r ∷ s ∷ lane) - 1 ≡ suc (length (s ∷ lane) - 1) = omega arith in
     ap (λ i. slice_get (r ∷ s ∷ lane) i) place
@@ -39,7 +39,7 @@ ends-behind r s lane h = ends-head (item_of r) (item_of s) (lane_items lane) h
 abbrev IsOfEnds : (Rec → Bool) → Type 0
 IsOfEnds test = (r : Rec) → is_end (body_of r) ≡ false → test r ≡ false
 
-any-last : (test : Rec → Bool) → IsOfEnds test → (lane : List Rec) → Ends lane → list_any test lane ≡ last_is test lane
+any-last : (test : Rec → Bool) → IsOfEnds test → (lane : List Rec) → Ends lane → list_any test lane ≡ last_rec_is test lane
 any-last test of [] h = refl
 any-last test of (r ∷ []) h = by (test r)
   where
@@ -93,8 +93,8 @@ code-none (body.BadTicks t n i) h = absurd (cc)
 code-none (body.NoLifo a f l m) h = absurd (cc)
 code-none _ h = refl
 
-code-last : (lane : List Rec) → Ends lane → code_in lane ≡ last_code lane
-unfolding code_in last_code asserts
+code-last : (lane : List Rec) → Ends lane → code_in lane ≡ last_rec_code lane
+unfolding code_in last_rec_code asserts
 code-last [] h = refl
 code-last (r ∷ []) h = by (asserts r) refl
   where
@@ -124,10 +124,10 @@ at-all (lane ∷ lanes) n h = by (ends_last (lane_items lane)) (list_all (λ lan
 module _ (j : Journal) (last : list_all (λ lane. ends_last (lane_items lane)) j.lanes ≡ true) where
   asserted-same : (o : Option ℕ) → asserted_at j o ≡ last_asserted_at j o
   asserted-same (Some n) = rw (code-last (lane_at j n) (at-all j.lanes n last)) refl
-  asserted-same None = ap spent_at (position-same is_spent_lane (last_is runs_out) (any-last runs_out runs_out-end) j.lanes last)
+  asserted-same None = ap spent_at (position-same is_spent_lane (last_rec_is runs_out) (any-last runs_out runs_out-end) j.lanes last)
 
   pub last-tells : last_outcome j ≡ outcome_of j
   unfolding last_outcome outcome_of
   last-tells =
-      sym (ap (asserted_at j) (position-same is_asserted (last_is asserts) (any-last asserts asserts-end) j.lanes last)
-      ∙ asserted-same (position (last_is asserts) j.lanes))
+      sym (ap (asserted_at j) (position-same is_asserted (last_rec_is asserts) (any-last asserts asserts-end) j.lanes last)
+      ∙ asserted-same (position (last_rec_is asserts) j.lanes))

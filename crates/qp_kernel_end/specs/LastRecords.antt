@@ -9,23 +9,23 @@ use Rattle.qp_kernel_end.specs.declared.journal.Outcome.{Outcome}
 use Rattle.qp_kernel_end.specs.declared.journal.Outcome.TheVariants.{Asserted}
 use Rattle.qp_kernel_end.specs.Outcome.{asserts, code_of, runs_out, spent_at}
 
-abbrev pub last_of : List Rec → Option Rec
-last_of lane = slice_get lane (length lane - 1)
+abbrev pub last_rec : List Rec → Option Rec
+last_rec lane = slice_get lane (length lane - 1)
 
 -- the test holds of the lane's last record
-abbrev pub last_is : (Rec → Bool) → List Rec → Bool
-last_is test lane = option_map_or test (last_of lane) false
+abbrev pub last_rec_is : (Rec → Bool) → List Rec → Bool
+last_rec_is test lane = option_map_or test (last_rec lane) false
 
 -- the code of the lane's last record
-unfoldable pub last_code : List Rec → ℕ
+unfoldable pub last_rec_code : List Rec → ℕ
 unfolding body_of
-last_code lane = option_map_or (λ r. code_of (body_of r)) (last_of lane) 0
+last_rec_code lane = option_map_or (λ r. code_of (body_of r)) (last_rec lane) 0
 
 -- the lowest lane that ends in an assertion, with its code; without one the lowest that ends in a `spent` or a `spill`
 abbrev pub last_asserted_at : Journal → Option ℕ → Outcome
-last_asserted_at j (Some n) = Asserted (last_code (lane_at j n)) n
-last_asserted_at j None = spent_at (position (last_is runs_out) j.lanes)
+last_asserted_at j (Some n) = Asserted (last_rec_code (lane_at j n)) n
+last_asserted_at j None = spent_at (position (last_rec_is runs_out) j.lanes)
 
 unfoldable pub last_outcome : Journal → Outcome
-unfolding last_code asserts runs_out
-last_outcome j = last_asserted_at j (position (last_is asserts) j.lanes)
+unfolding last_rec_code asserts runs_out
+last_outcome j = last_asserted_at j (position (last_rec_is asserts) j.lanes)

@@ -5,7 +5,7 @@ ghost use Rattle.std.specs.List.{list_all};
 ghost use Rattle.qp_model.specs.Ends.{ends_last};
 ghost use Rattle.qp_model.specs.History.{lane_items};
 ghost use Rattle.qp_kernel_end.specs.Outcome.{asserts, outcome_of, runs_out};
-ghost use Rattle.qp_kernel_end.specs.LastRecords.{last_is, last_outcome};
+ghost use Rattle.qp_kernel_end.specs.LastRecords.{last_rec_is, last_outcome};
 
 use crate::records::{ends_asserted, ends_spent, last_code};
 use qp_model::{Journal, Lane};
@@ -23,7 +23,7 @@ pub enum Outcome {
 
 /// The lowest lane whose last record is an assertion.
 fn asserted_lane(lanes: &[Lane]) -> Option<usize>
-    ensures place { result ≡ position (last_is asserts) lanes.now }
+    ensures place { result ≡ position (last_rec_is asserts) lanes.now }
     ensures within { IfSome result (λ i. i < length lanes.now) }
 {
     lanes.iter().position(|lane| ends_asserted(lane))
@@ -31,7 +31,7 @@ fn asserted_lane(lanes: &[Lane]) -> Option<usize>
 
 /// The lowest lane whose last record is a `spent` or a `spill`.
 fn spent_lane(lanes: &[Lane]) -> Option<usize>
-    ensures place { result ≡ position (last_is runs_out) lanes.now }
+    ensures place { result ≡ position (last_rec_is runs_out) lanes.now }
     ensures within { IfSome result (λ i. i < length lanes.now) }
 {
     lanes.iter().position(|lane| ends_spent(lane))

@@ -2,7 +2,7 @@
 
 ghost use Rattle.std.specs.Prelude.{◌≡◌};
 ghost use Rattle.qp_kernel_end.specs.Outcome.{asserts, code_of, runs_out};
-ghost use Rattle.qp_kernel_end.specs.LastRecords.{last_code, last_is};
+ghost use Rattle.qp_kernel_end.specs.LastRecords.{last_rec_code, last_rec_is};
 
 use qp_model::{Body, Lane, Rec};
 
@@ -36,7 +36,7 @@ fn runs_out(r: &Rec) -> bool
 
 /// Whether the lane's last record is an assertion.
 pub fn ends_asserted(lane: &Lane) -> bool
-    ensures { result ≡ last_is asserts lane.now }
+    ensures { result ≡ last_rec_is asserts lane.now }
 {
     match lane.items.last() {
         Some(r) => asserts(r),
@@ -46,7 +46,7 @@ pub fn ends_asserted(lane: &Lane) -> bool
 
 /// Whether the lane's last record is a `spent` or a `spill`.
 pub fn ends_spent(lane: &Lane) -> bool
-    ensures { result ≡ last_is runs_out lane.now }
+    ensures { result ≡ last_rec_is runs_out lane.now }
 {
     match lane.items.last() {
         Some(r) => runs_out(r),
@@ -55,9 +55,9 @@ pub fn ends_spent(lane: &Lane) -> bool
 }
 
 /// The code of the lane's last record.
-#[tactic(auto, unfolding(crate::specs::LastRecords::last_code))]
+#[tactic(auto, unfolding(crate::specs::LastRecords::last_rec_code))]
 pub fn last_code(lane: &Lane) -> u8
-    ensures { result ≡ last_code lane.now }
+    ensures { result ≡ last_rec_code lane.now }
 {
     match lane.items.last() {
         Some(r) => code_of(&r.body()),

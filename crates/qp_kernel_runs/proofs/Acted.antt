@@ -20,7 +20,7 @@ use Rattle.qp_model_order.specs.Placing.{AreBehind}
 use Rattle.qp_model_order.specs.SourceRun.{untold, untold_all}
 use Rattle.qp_model_order.specs.Stimulus.{source_items}
 use Rattle.qp_model_order.proofs.OrderLaws.{stimuli_are_their_own}
-use Rattle.qp_kernel.specs.Happenings.{run_order, rises, told_by, lane_told, begun_by}
+use Rattle.qp_kernel.specs.Happenings.{run_order, rises, told_by_source, lane_told, begun_by}
 use Rattle.qp_kernel.proofs.HappeningLemmas.{one as as_one, count-cons, order-happens, rises-happens, told-happens, begun-happens}
 use Rattle.qp_calls_log.specs.declared.log.Log.{Log}
 use Rattle.qp_plain.specs.declared.world.PlainWorld.{PlainWorld}
@@ -29,7 +29,7 @@ use Rattle.qp_plain.specs.Books.{log_recs}
 use Rattle.qp_plain.specs.LaneLaws.{told-length}
 use Rattle.qp_calls_log.proofs.LogLemmas.{length-kinds}
 use Rattle.qp_plain.proofs.Holding.{any-default}
-use Rattle.qp_plain_sound.specs.Log.{lane_of}
+use Rattle.qp_plain_sound.specs.Log.{lane_recs}
 use Rattle.qp_plain_sound.specs.Sound.{facts_in}
 use Rattle.qp_kernel_runs.proofs.Worlds.{tolds, told-of}
 use Rattle.qp_calls_stimulus.specs.declared.doing.Stimulated.{Stimulated}
@@ -37,8 +37,8 @@ use Rattle.qp_calls_stimulus.specs.declared.doing.Stimulated.TheVariants as stim
 use Rattle.qp_calls_stimulus.specs.Stimulating as stimulating
 use Rattle.qp_kernel_runs.specs.Acting.{is_halt}
 use Rattle.qp_kernel_runs.specs.Choosing.{left_of}
-use Rattle.qp_kernel_runs.specs.SimHolds.{SimHolds, Counts, is_whole, is_unspilled, last_source}
-use Rattle.qp_kernel_runs.specs.Visiting.{VisitLeaves, Amounts, HasStopped}
+use Rattle.qp_kernel_runs.specs.SimHolds.{SimHolds, BegunCounts, is_whole, is_unspilled, last_source}
+use Rattle.qp_kernel_runs.specs.Visiting.{VisitLeaves, Amounts, OtherHasStopped}
 use Rattle.qp_kernel_runs.proofs.OrderLemmas.{placed-untold}
 use Rattle.qp_model.proofs.LineLemmas.{same_number}
 use Rattle.qp_model.proofs.ListLemmas.{all-push}
@@ -65,14 +65,14 @@ module _ (sys : System) (s : Stim) (place look : ℕ) (one : List Told) (fits : 
   behind : AreBehind false (source_items one)
   behind = ((stimuli_are_their_own sys s false).0 one fits).behind
 
-  pub whole-one : (at source : ℕ) → is_whole (record { at = at; source = source; told = stimulating.begun place look one }) ≡ true
+  pub whole-one : (at source : ℕ) → is_whole (record { at = at; source = source; told = stimulating.begun_records place look one }) ≡ true
   whole-one at source =
       let first = count-cons (λ (u : Told). is_some (stim_of u.body)) (plain (body.Stim place look)) one in
       let none = none-stim one behind in
-      let sum : count_by (λ (u : Told). is_some (stim_of u.body)) (stimulating.begun place look one) ≡ 1 = omega (arith, first, none) in
+      let sum : count_by (λ (u : Told). is_some (stim_of u.body)) (stimulating.begun_records place look one) ≡ 1 = omega (arith, first, none) in
       ap (λ n. n == 1) sum
 
-  pub unspilled-one : (at source : ℕ) → is_unspilled (record { at = at; source = source; told = stimulating.begun place look one }) ≡ true
+  pub unspilled-one : (at source : ℕ) → is_unspilled (record { at = at; source = source; told = stimulating.begun_records place look one }) ≡ true
   unspilled-one at source = ap not (none-spill one behind)
 
 -- the source that acted last is the last
@@ -82,13 +82,13 @@ last-more n [] h = refl
 last-more n (x ∷ hs) h = last-more x.source hs h
 
 -- each source has as many records as it has begun stimuli
-pub begun-few : (n : ℕ) (hs : List Happening) → list_all is_whole hs ≡ true → begun_by n hs ≤ length (told_by n hs)
-unfolding begun_by told_by
+pub begun-few : (n : ℕ) (hs : List Happening) → list_all is_whole hs ≡ true → begun_by n hs ≤ length (told_by_source n hs)
+unfolding begun_by told_by_source
 begun-few n [] h = omega arith
 begun-few n (x ∷ hs) h =
     let parts = and_parts _ _ h in
     let later = begun-few n hs parts.1 in
-    let both = length-append (cond (x.source == n) x.told []) (told_by n hs) in
+    let both = length-append (cond (x.source == n) x.told []) (told_by_source n hs) in
     let here = go (x.source == n) x.told parts.0 in
     omega (arith, later, both, here)
   where
@@ -99,11 +99,11 @@ begun-few n (x ∷ hs) h =
 
 -- no `spill` stands in the lane of a source whose stimuli came whole
 pub none-spilled : (n : ℕ) (hs : List Happening) → list_all is_unspilled hs ≡ true → spills_told (lane_told n hs) ≡ false
-unfolding told_by
+unfolding told_by_source
 none-spilled n [] h = refl
 none-spilled n (x ∷ hs) h =
     let parts = and_parts _ _ h in
-    ap spills_told (map-append (for_object 0) (cond (x.source == n) x.told []) (told_by n hs))
+    ap spills_told (map-append (for_object 0) (cond (x.source == n) x.told []) (told_by_source n hs))
     ∙ joined (cond (x.source == n) x.told []) (lane_told n hs) (go (x.source == n) x.told parts.0) (none-spilled n hs parts.1)
   where
     go : (u : Bool) (g : List Told) → not (list_any (λ t. is_spill t.body) g) ≡ true → list_any (λ t. is_spill t.body) (cond u g []) ≡ false
@@ -130,8 +130,8 @@ lane-few (g ∷ gs) (suc k) = lane-few gs k
 pub told-few : (w : PlainWorld) (k : ℕ) → length (get_or (tolds w) k []) ≤ 1000001
 told-few w k =
     let few = lane-few (logs_of w.book) k in
-    let told = ap length (told-of w k) ∙ told-length (facts_in w.sys.now (lists_of w.book)) 0 (lane_items (lane_of (lists_of w.book) k)) in
-    let items = lane-length (lane_of (lists_of w.book) k) in
+    let told = ap length (told-of w k) ∙ told-length (facts_in w.sys.now (lists_of w.book)) 0 (lane_items (lane_recs (lists_of w.book) k)) in
+    let items = lane-length (lane_recs (lists_of w.book) k) in
     omega (arith, few, told, items)
 
 pub within-drop : {A : Type 0} (n : ℕ) (xs ys : List A) (y : A) → drop n xs ≡ y ∷ ys → n < length xs
@@ -184,7 +184,7 @@ module _ (plan : List (List Stim)) (counted : List ℕ) (last : ℕ) (hs : List 
   rises_told = let n = length-map v.told untold in subst (λ k. rises 0 hs k ≡ true) (omega (arith, n)) old.rises
 
   lane_more : (n : ℕ) → lane_told n (hs ++ h ∷ []) ≡ lane_told n hs ++ map (for_object 0) (cond (j + 1 == n) g [])
-  lane_more n = ap (map (for_object 0)) (told-happens n hs h) ∙ map-append (for_object 0) (told_by n hs) (cond (j + 1 == n) g [])
+  lane_more n = ap (map (for_object 0)) (told-happens n hs h) ∙ map-append (for_object 0) (told_by_source n hs) (cond (j + 1 == n) g [])
 
   sources_now : (n : ℕ) → 0 < n → n ≤ length plan → (u : Bool) → (n == j + 1) ≡ u → get_or w.aside.told n [] ≡ lane_told n (hs ++ h ∷ [])
   sources_now n some few true e =
@@ -197,7 +197,7 @@ module _ (plan : List (List Stim)) (counted : List ℕ) (last : ℕ) (hs : List 
       leaves.others n (eqb-false n (j + 1) e) ∙ old.sources n some few
       ∙ sym (lane_more n ∙ ap (λ u. lane_told n hs ++ map (for_object 0) (cond u g [])) off ∙ append-nil (lane_told n hs))
 
-  begun_now : Counts plan counted last hs → (n : ℕ) → n < length plan → (u : Bool) → (n == j) ≡ u → get_or next n 0 ≡ begun_by (n + 1) (hs ++ h ∷ [])
+  begun_now : BegunCounts plan counted last hs → (n : ℕ) → n < length plan → (u : Bool) → (n == j) ≡ u → get_or next n 0 ≡ begun_by (n + 1) (hs ++ h ∷ [])
   begun_now c n few true e =
       let is : n ≡ j = eqb-true n j e in
       let room : j < length counted = let long = old.counted in omega (arith, long, lt) in
@@ -213,7 +213,7 @@ module _ (plan : List (List Stim)) (counted : List ℕ) (last : ℕ) (hs : List 
       let here : get_or next n 0 ≡ get_or counted n 0 = get_or-set_other counted j n place 0 (eqb-false n j e) in
       omega (arith, here, was, more, off)
 
-  few_now : Counts plan counted last hs → (n : ℕ) → n < length plan → (u : Bool) → (n == j) ≡ u → get_or next n 0 ≤ length (get_or plan n [])
+  few_now : BegunCounts plan counted last hs → (n : ℕ) → n < length plan → (u : Bool) → (n == j) ≡ u → get_or next n 0 ≤ length (get_or plan n [])
   few_now c n few true e =
       let is : n ≡ j = eqb-true n j e in
       let room : j < length counted = let long = old.counted in omega (arith, long, lt) in
@@ -225,7 +225,7 @@ module _ (plan : List (List Stim)) (counted : List ℕ) (last : ℕ) (hs : List 
       let was = c.few n few in
       omega (arith, here, was)
 
-  counts_now : (one : List Told) → g ≡ stimulating.begun place look one → StimFits sys sim s false one → Counts plan next (j + 1) (hs ++ h ∷ [])
+  counts_now : (one : List Told) → g ≡ stimulating.begun_records place look one → StimFits sys sim s false one → BegunCounts plan next (j + 1) (hs ++ h ∷ [])
   counts_now one is fits =
       let c = old.counts refl in
       record {
@@ -241,13 +241,13 @@ module _ (plan : List (List Stim)) (counted : List ℕ) (last : ℕ) (hs : List 
       above k = grind (arith, nat_tests)
 
   module _ (answer : Stimulated) (had : ℕ) (amounts : Amounts sys s place look had g v w answer) where
-    counts_of : (x : Stimulated) → Amounts sys s place look had g v w x → is_halt x ≡ false → Counts plan next (j + 1) (hs ++ h ∷ [])
+    counts_of : (x : Stimulated) → Amounts sys s place look had g v w x → is_halt x ≡ false → BegunCounts plan next (j + 1) (hs ++ h ∷ [])
     counts_of stimulated.Done k e = counts_now k.0 k.1 (k.2 sim)
     counts_of stimulated.Tried k e = absurd k
     counts_of stimulated.Stopped k e = absurd (cc)
     counts_of stimulated.Memory k e = absurd (cc)
 
-    halts_of : (x : Stimulated) → Amounts sys s place look had g v w x → is_halt x ≡ true → HasStopped w
+    halts_of : (x : Stimulated) → Amounts sys s place look had g v w x → is_halt x ≡ true → OtherHasStopped w
     halts_of stimulated.Done k e = absurd (cc)
     halts_of stimulated.Tried k e = absurd k
     halts_of stimulated.Stopped k e = k.0

@@ -7,8 +7,8 @@ use Rattle.qp_model.specs.declared.stimulus.Stim.{Stim}
 use Rattle.qp_model.specs.History.{lane_items}
 use Rattle.qp_model.specs.Knowing.{told_lane}
 use Rattle.qp_model_order.specs.SourceRun.{untold_all}
-use Rattle.qp_kernel.specs.Happenings.{run_order, rises, told_by, begun_by}
-use Rattle.qp_plain_sound.specs.Log.{lane_of, items_placed}
+use Rattle.qp_kernel.specs.Happenings.{run_order, rises, told_by_source, begun_by}
+use Rattle.qp_plain_sound.specs.Log.{lane_recs, items_placed}
 use Rattle.qp_plain_sound.specs.Sound.{facts_in}
 use Rattle.qp_plain_sound.specs.View.{view_of}
 use Rattle.qp_plain_sound.proofs.Logs.{lanes-log}
@@ -16,17 +16,17 @@ use Rattle.qp_plain.specs.declared.world.PlainWorld.{PlainWorld}
 use Rattle.qp_plain.specs.Book.{lists_of}
 use Rattle.qp_plain.specs.NewWorld.{lanes_in}
 use Rattle.qp_plain.specs.WorldView.{world_view}
-use Rattle.qp_kernel_runs.specs.NewSim.{IsNewWorld}
-use Rattle.qp_kernel_runs.specs.SimHolds.{SimHolds, Counts, last_source}
+use Rattle.qp_kernel_runs.specs.NewSim.{IsNewSim}
+use Rattle.qp_kernel_runs.specs.SimHolds.{SimHolds, BegunCounts, last_source}
 use Rattle.qp_kernel_runs.proofs.Worlds.{tells, told-here, told-of, told-other, lane-is, long-aside, long-beside}
 
-module _ (w : PlainWorld) (first : IsNewWorld w) where
-  bare : (k : ℕ) → lane_items (lane_of (lists_of w.book) k) ≡ []
+module _ (w : PlainWorld) (first : IsNewSim w) where
+  bare : (k : ℕ) → lane_items (lane_recs (lists_of w.book) k) ≡ []
   bare k =
       sym (lanes-log (lists_of w.book) w.book.order.items w.holds.world.orders k)
       ∙ ap (λ log. items_placed (filter (λ x. x.lane == k) log)) first.log
 
-  untold : (k : ℕ) → tells w (lane_of (lists_of w.book) k) ≡ []
+  untold : (k : ℕ) → tells w (lane_recs (lists_of w.book) k) ≡ []
   unfolding told_lane
   untold k = ap (told_lane (facts_in w.sys.now (lists_of w.book)) 0) (bare k)
 
@@ -38,7 +38,7 @@ module _ (w : PlainWorld) (first : IsNewWorld w) where
   order-first = first.log ∙ sym (ap (λ t. run_order 0 (untold_all t) []) told-none)
 
   module _ (plan : List (List Stim)) (begun : List ℕ) (lanes : lanes_in w ≡ 1 + length plan) (zero : begun ≡ replicate (length plan) 0) where
-    counts-first : Counts plan begun 0 []
+    counts-first : BegunCounts plan begun 0 []
     unfolding begun_by last_source
     counts-first = record {
       whole = refl;
@@ -50,7 +50,7 @@ module _ (w : PlainWorld) (first : IsNewWorld w) where
     }
 
     pub sim-begins : SimHolds plan begun 0 false [] (world_view w)
-    unfolding told_by rises
+    unfolding told_by_source rises
     sim-begins = record {
       home = lane-is w ∙ first.first;
       lanes = long-aside w ∙ lanes;

@@ -16,7 +16,7 @@ use Rattle.qp_plain.specs.Book.{lists_of, no_purse, purses_of}
 use Rattle.qp_plain.specs.NewWorld.{GoesTo, chosen, lanes_in}
 use Rattle.qp_plain.specs.WorldView.{world_view}
 use Rattle.qp_kernel.specs.Interrupting.{IsLaneKept}
-use Rattle.qp_kernel_runs.specs.Visiting.{VisitLeaves, HasStopped}
+use Rattle.qp_kernel_runs.specs.Visiting.{VisitLeaves, OtherHasStopped}
 use Rattle.qp_kernel_runs.proofs.Worlds.{tolds, purses, told-here, told-aside, lane-is, no-name, long, within, long-aside, long-beside, own_purse, purse-here, told-other, purse-other, purses-aside, tolds-stay, purses-stay}
 
 -- What two views have alike where another lane is chosen between them.
@@ -293,7 +293,7 @@ module _ (source former : ℕ) (a b c d e f : PlainWorld) (home : chosen a ≡ 0
           told-other f k (λ p. far (p ∙ back.at)) ∙ others_told k other ∙ sym (told-other a k (λ p. far (p ∙ home)))
 
   -- a code of the source is seen from lane 0
-  pub source-stopped : is_codeless (own_purse d) ≡ false → source < lanes_in a → HasStopped (world_view f)
+  pub source-stopped : is_codeless (own_purse d) ≡ false → source < lanes_in a → OtherHasStopped (world_view f)
   source-stopped coded few =
       none-all (world_view f).aside.purses source no_purse (subst (λ n. source < n) (sym (long-beside f ∙ same_lanes)) few)
       (ap is_codeless (purse-other f source (λ q. away (sym (q ∙ back.at))) ∙ ap (λ xs. get_or xs source no_purse) purses_last

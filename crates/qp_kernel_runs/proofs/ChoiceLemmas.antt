@@ -13,7 +13,7 @@ use Rattle.qp_model.specs.Record.{Item}
 use Rattle.qp_model.specs.Told.{Told, ToldItem}
 use Rattle.qp_model.specs.OneOrder.{Placed, Turn, acted_last, acts_next, all_empty, begun, is_stim, stimuli_after, may_act, stim_of, turned}
 use Rattle.qp_model.proofs.ListLemmas.{and-true}
-use Rattle.qp_calls.specs.Counting.{one, times}
+use Rattle.qp_calls.specs.Counting.{one_if, times}
 use Rattle.qp_calls.specs.LaneView.{LaneView, Happening}
 use Rattle.qp_model_order.specs.Placing.{all_placed}
 use Rattle.qp_model_order.specs.SourceRun.{untold_all}
@@ -21,7 +21,7 @@ use Rattle.qp_model_order.specs.Stimulus.{source_items}
 use Rattle.qp_plain_sound.proofs.EntryCounts.{count-times}
 use Rattle.qp_plain_sound.proofs.Times.{times-append}
 use Rattle.qp_kernel.specs.Happenings.{begun_by, has_no_stim, placed_of, run_order}
-use Rattle.qp_kernel_runs.specs.SimHolds.{Counts, is_whole, last_source}
+use Rattle.qp_kernel_runs.specs.SimHolds.{BegunCounts, is_whole, last_source}
 use Rattle.qp_kernel_runs.specs.Choosing.{IsChosen, left_of, place_after}
 
 -- The first of a list.
@@ -148,11 +148,11 @@ begun-told n s g = go (n == s) refl g
     go : (u : Bool) → (n == s) ≡ u → (g : List Told) → times (λ x. is_stim x && (x.lane == s)) (all_placed n (source_items g)) ≡ (if u then times (λ t. is_some (stim_of t.body)) g else 0)
     go true e [] = refl
     go true e (t ∷ g) =
-        let here : one (is_some (stim_of t.body) && (n == s)) ≡ one (is_some (stim_of t.body)) = ap (λ b. one (is_some (stim_of t.body) && b)) e ∙ ap one (and-true (is_some (stim_of t.body))) in
+        let here : one_if (is_some (stim_of t.body) && (n == s)) ≡ one_if (is_some (stim_of t.body)) = ap (λ b. one_if (is_some (stim_of t.body) && b)) e ∙ ap one_if (and-true (is_some (stim_of t.body))) in
         omega (arith, here, go true e g)
     go false e [] = refl
     go false e (t ∷ g) =
-        let here : one (is_some (stim_of t.body) && (n == s)) ≡ 0 = ap (λ b. one (is_some (stim_of t.body) && b)) e ∙ ap one (and_right (is_some (stim_of t.body)) false refl) in
+        let here : one_if (is_some (stim_of t.body) && (n == s)) ≡ 0 = ap (λ b. one_if (is_some (stim_of t.body) && b)) e ∙ ap one_if (and_right (is_some (stim_of t.body)) false refl) in
         omega (arith, here, go false e g)
 
 begun-order : (k n : ℕ) (lane : List Item) (hs : List Happening) → list_all is_whole hs ≡ true → times (λ x. is_stim x && (x.lane == suc k)) (run_order n lane hs) ≡ begun_by (suc k) hs
@@ -234,7 +234,7 @@ module _ (plan : List (List Stim)) (counted : List ℕ) (last : ℕ) (before : L
       ∙ ap (λ m. Some (record { source = j + 1; place = m + 1 })) (same j within)
 
 pub acts-chosen : (sys : System) (plan : List (List Stim)) (counted : List ℕ) (last : ℕ) (hs : List Happening) (v : LaneView) (base : Bool) (chosen : Option ℕ)
-    → length counted ≡ length plan → last ≤ length plan → Counts plan counted last hs → has_no_stim v
+    → length counted ≡ length plan → last ≤ length plan → BegunCounts plan counted last hs → has_no_stim v
     → IsChosen (base && all_empty sys (run_order 0 (untold_all v.told) hs)) plan counted last chosen
     → acts_next sys plan (run_order 0 (untold_all v.told) hs) base ≡ option_map (λ j. record { source = j + 1; place = get_or counted j 0 + 1 }) chosen
 unfolding acts_next

@@ -22,7 +22,7 @@ use Rattle.qp_kernel_runs.specs.NewSim.{IsSim}
 use Rattle.qp_kernel_runs.specs.SimView.{sim_view}
 use Rattle.qp_kernel_turns.specs.declared.objects.Objects.{Objects}
 use Rattle.qp_kernel_turns.specs.Objects.{AreMade}
-use Rattle.qp_kernel_runs.specs.Running.{IsClosed, MayRun}
+use Rattle.qp_kernel_runs.specs.Running.{IsClosed, MayRunKernel}
 use Rattle.qp_kernel.specs.Turning.{Terms, kernel_in}
 
 -- a journal with the end of its outcome
@@ -46,7 +46,7 @@ cut-of items n is some =
 
 -- the world of a run that begins
 pub may-run : (sys : System) (stimuli : List (List Stim)) (n : ℕ) (plain : PlainWorld) (w : SimWorld) (xs : Objects) → IsNewWorld sys n plain → IsSim plain stimuli w → AreMade sys xs
-    → StimuliFit sys stimuli → MayRun sys xs (sim_view w)
+    → StimuliFit sys stimuli → MayRunKernel sys xs (sim_view w)
 unfolding view_of
 may-run sys stimuli n plain w xs new is made fit =
     let v = new.view in

@@ -37,7 +37,7 @@ use Rattle.qp_kernel.specs.Run.{SourcesGo}
 use Rattle.qp_kernel.specs.QuietRun.{IsQuietRun}
 use Rattle.qp_kernel.specs.Turning.{AreAble, Terms, kernel_in}
 use Rattle.qp_kernel.specs.Laws.{kept_by}
-use Rattle.qp_kernel.specs.Happenings.{SourcesMarch, begun_by, lane_told, lanes_of, order_of, told_by}
+use Rattle.qp_kernel.specs.Happenings.{SourcesMarch, begun_by, lane_told, lanes_of, lane_order, told_by_source}
 use Rattle.qp_kernel.proofs.ZeroLawful.{IsFound, all-found}
 use Rattle.qp_kernel.proofs.DeferredLemmas.{deferred_are_kept, no-port}
 use Rattle.qp_kernel.proofs.QuietRuns.{quiet_runs_are_lawful}
@@ -102,32 +102,32 @@ module _ (sys : System) (stimuli : List (List Stim)) (lanes : List (List Rec)) (
       empty [] e = refl
       empty (x ∷ xs) e = absurd (omega (arith, e))
 
-  all-empty : all_empty sys (order_of v) ≡ true
+  all-empty : all_empty sys (lane_order v) ≡ true
   unfolding all_empty is_object object_at
   all-empty = go sys.objects found
     where
       go : (ds : List ObjectDef) → AllByRecursion (IsFound sys.objects) ds
-          → list_all (λ d. count_by (λ x. enters d.priority x.item) (order_of v) == count_by (λ x. leaves d.priority x.item) (order_of v)) ds ≡ true
+          → list_all (λ d. count_by (λ x. enters d.priority x.item) (lane_order v) == count_by (λ x. leaves d.priority x.item) (lane_order v)) ds ≡ true
       go [] h = refl
       go (d ∷ ds) h =
           let is = no-entries d.priority d h.0.0 h.0.0 refl in
           let came = left.entered d.priority (ap is_some h.0.0) in
           let went = left.left d.priority (ap is_some h.0.0) in
           let spent = is.1 in
-          let same : (count_by (λ x. enters d.priority x.item) (order_of v) == count_by (λ x. leaves d.priority x.item) (order_of v)) ≡ true = grind (arith, nat_tests, came, went, spent) in
+          let same : (count_by (λ x. enters d.priority x.item) (lane_order v) == count_by (λ x. leaves d.priority x.item) (lane_order v)) ≡ true = grind (arith, nat_tests, came, went, spent) in
           rw (same, go ds h.1) refl
 
-  none : LeftNone (order_of v) 1 v.plan
-  none = none-left sys v.plan (order_of v) all-empty idle.next
+  none : LeftNone (lane_order v) 1 v.plan
+  none = none-left sys v.plan (lane_order v) all-empty idle.next
 
-  went-on : (n : ℕ) (more : List (List Stim)) → 0 < n → n + length more ≡ length lanes → LeftNone (order_of v) n more → SourcesMarch sys n more v.happened → SourcesGo sys j n more
+  went-on : (n : ℕ) (more : List (List Stim)) → 0 < n → n + length more ≡ length lanes → LeftNone (lane_order v) n more → SourcesMarch sys n more v.happened → SourcesGo sys j n more
   unfolding SourcesMarch SourcesGo
   went-on n [] some all h m = tt
   went-on n (ss ∷ more) some all h m =
-      let alone : told_alone (lane_told n v.happened) ≡ told_by n v.happened = back (told_by n v.happened) in
+      let alone : told_alone (lane_told n v.happened) ≡ told_by_source n v.happened = back (told_by_source n v.happened) in
       let count = runs-count sys 1 (take (begun_by n v.happened) ss) (told_alone (lane_told n v.happened)) m.0.runs in
       let begins = begun-told n 0 (untold_all v.told) v.happened some in
-      let as_many : begun (order_of v) n ≡ length (take (begun_by n v.happened) ss) = begins ∙ ap (count_by (λ (t : Told). is_some (stim_of t.body))) (sym alone) ∙ count in
+      let as_many : begun (lane_order v) n ≡ length (take (begun_by n v.happened) ss) = begins ∙ ap (count_by (λ (t : Told). is_some (stim_of t.body))) (sym alone) ∙ count in
       let done : take (begun_by n v.happened) ss ≡ ss = take-all (begun_by n v.happened) ss (subst (λ k. drop k ss ≡ []) as_many h.0) in (
         subst (λ (ts : List ToldItem). SourceGoes sys sim ss ts) (sym (source-told sys stimuli lanes v left j at n some (omega (arith, all)))) (subst (λ xs. SourceGoes sys sim xs (lane_told n v.happened)) done m.0),
         went-on (n + 1) more (omega arith) (omega (arith, all)) h.1 m.1,
@@ -164,7 +164,7 @@ module _ (sys : System) (stimuli : List (List Stim)) (lanes : List (List Rec)) (
         words = words-hold sys stimuli lanes v left j at;
         count = count-is sys stimuli lanes v left j at;
         room = lanes-roomy sys stimuli lanes v left j at;
-        log = order_of v;
+        log = lane_order v;
         numbers = numbers-are sys stimuli lanes v left j at;
         told = zero-told sys stimuli lanes v left j at ∙ sym idle.told;
         now = λ n few. ap (λ x. has_stim x n) sources ∙ idle.now n (subst (λ k. n ≤ k) idle.settled few);
@@ -176,10 +176,10 @@ module _ (sys : System) (stimuli : List (List Stim)) (lanes : List (List Rec)) (
         rest = λ d is. ap is_resting (idle.rest d is);
         looks = idle.looks;
         order =
-            subst (λ x. RunsInOrder sys stimuli idle.looks x (source_lanes sys j) (order_of v)) (sym (zero-items sys stimuli lanes v left j at))
-            (subst (λ x. RunsInOrder sys stimuli idle.looks (untold_all v.told) x (order_of v)) (sym sources)
-            (subst (λ p. RunsInOrder sys p idle.looks (untold_all v.told) (lanes_of v) (order_of v)) left.plan idle.in_order.order));
-        sources = went-on 1 stimuli (omega arith) (sym left.count) (subst (LeftNone (order_of v) 1) left.plan none) (subst (λ p. SourcesMarch sys 1 p v.happened) left.plan idle.in_order.sources);
+            subst (λ x. RunsInOrder sys stimuli idle.looks x (source_lanes sys j) (lane_order v)) (sym (zero-items sys stimuli lanes v left j at))
+            (subst (λ x. RunsInOrder sys stimuli idle.looks (untold_all v.told) x (lane_order v)) (sym sources)
+            (subst (λ p. RunsInOrder sys p idle.looks (untold_all v.told) (lanes_of v) (lane_order v)) left.plan idle.in_order.order));
+        sources = went-on 1 stimuli (omega arith) (sym left.count) (subst (LeftNone (lane_order v) 1) left.plan none) (subst (λ p. SourcesMarch sys 1 p v.happened) left.plan idle.in_order.sources);
         end = end;
         queues = subst (λ (ls : List (List Rec)). lines_empty sys (all_items ls) ≡ true) (sym at) rests.0;
         blocks = subst (λ (ls : List (List Rec)). blocks_rest sys (all_items ls) (deferred_of sys j sys.objects) ≡ true) (sym at) rests.1;

@@ -15,7 +15,7 @@ use Rattle.qp_calls.specs.LaneView.{LaneView, Purse, Happening, is_codeless, no_
 use Rattle.qp_calls.specs.Clauses.{Stopped}
 use Rattle.qp_plain_sound.specs.View.{view_of}
 use Rattle.qp_model_order.specs.SourceRun.{untold_all}
-use Rattle.qp_kernel.specs.Happenings.{run_order, order_of, told_by, has_no_stim}
+use Rattle.qp_kernel.specs.Happenings.{run_order, lane_order, told_by_source, has_no_stim}
 use Rattle.qp_kernel.specs.Interrupting.{IsLaneKept, IsUntouched, Acts, Happens, HappensToFail, HappensInPart, FindsNoRoom, HasNone, IsStopped, is_unset}
 use Rattle.qp_kernel_turns.specs.Halting.{asked_once}
 use Rattle.qp_calls_log.specs.declared.log.Log.{Log}
@@ -247,7 +247,7 @@ module _ (w : SimWorld) (sys : System) (made : (world_view w.plain).sys ≡ sys)
   logged = w.holds.order
 
   pub chosen-acts : (found : Option ℕ) → IsChosen rests w.stim.now w.begun.items w.last found → has_no_stim v
-      → acts_next v.sys v.plan (order_of v) base ≡ option_map (λ j. record { source = j + 1; place = get_or w.begun.items j 0 + 1 }) found
+      → acts_next v.sys v.plan (lane_order v) base ≡ option_map (λ j. record { source = j + 1; place = get_or w.begun.items j 0 + 1 }) found
   unfolding view_of
   chosen-acts found is none =
       acts-chosen v.sys w.stim.now w.begun.items w.last w.done.list (world_view w.plain) base found w.holds.counted w.holds.recent (w.holds.counts live) none
@@ -302,7 +302,7 @@ module _ (w : SimWorld) (sys : System) (made : (world_view w.plain).sys ≡ sys)
     memory-acted = lane_kept
 
     abbrev Amount : Stimulated → Type 0
-    Amount x = Amounts sys acted.s place look (length (told_by (j + 1) w.done.list)) acted.g (world_view w.plain) (world_view new.plain) x
+    Amount x = Amounts sys acted.s place look (length (told_by_source (j + 1) w.done.list)) acted.g (world_view w.plain) (world_view new.plain) x
 
     of-system : (asserted : Bool) (g : List Told) → StimFits sys sim acted.s asserted g → StimFits v.sys sim acted.s asserted g
     of-system asserted g fits = subst (λ y. StimFits y sim acted.s asserted g) (sym made) fits
@@ -326,7 +326,7 @@ module _ (w : SimWorld) (sys : System) (made : (world_view w.plain).sys ≡ sys)
       abbrev u : LaneView
       u = seated new.stim.now new.done.list (world_view p)
 
-      why-acted : (EndsInAssertion sys acted.s place look acted.g ⊎ EndsInSpill sys acted.s place look (length (told_by (j + 1) w.done.list)) acted.g ⊎ EndsAtOnce (length (told_by (j + 1) w.done.list)) acted.g)
+      why-acted : (EndsInAssertion sys acted.s place look acted.g ⊎ EndsInSpill sys acted.s place look (length (told_by_source (j + 1) w.done.list)) acted.g ⊎ EndsAtOnce (length (told_by_source (j + 1) w.done.list)) acted.g)
           → ((u.happened ≡ v.happened) × (is_unset v ≡ false)) ⊎ HappensToFail look base v u ⊎ HappensInPart look base v u ⊎ FindsNoRoom base v u
       why-acted (inl a) = inr (inl (record { source = j + 1; place = place; s = acted.s; one = a.one; acts = acts; fits = of-system true a.one (a.fits sim); comes = comes-as _ a.is }))
       why-acted (inr (inl a)) = inr (inr (inl (record {
@@ -348,7 +348,7 @@ module _ (w : SimWorld) (sys : System) (made : (world_view w.plain).sys ≡ sys)
         source = j + 1;
         place = place;
         s = acted.s;
-        size = length (told_by (j + 1) w.done.list);
+        size = length (told_by_source (j + 1) w.done.list);
         acts = acts;
         states = refl;
         full = a.full;

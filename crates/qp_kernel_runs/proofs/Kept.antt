@@ -21,7 +21,7 @@ use Rattle.qp_calls.specs.declared.answers.Arm.TheVariants as armed
 use Rattle.qp_calls.specs.declared.answers.Tick as ticking
 use Rattle.qp_calls.specs.declared.answers.Tick.TheVariants as ticked
 use Rattle.qp_calls.specs.LaneView.{LaneView, Shown, NotShown, Gains, AddsOf, Looks}
-use Rattle.qp_calls.specs.Clauses.{GivesBlock, Makes, MakesMore, LetsGo, GoesBack, ClaimsEntry, ClaimsFront, Takes, Sees, Does, Subscribing, Unsubscribing, ReadsSubscribers, Arms, Disarms, Rearms, TicksOne, last_nil, same_counts}
+use Rattle.qp_calls.specs.Clauses.{GivesBlock, Makes, MakesMore, LetsGo, GoesBack, ClaimsEntry, ClaimsFront, Takes, Sees, AddsDrawn, Subscribing, Unsubscribing, ReadsSubscribers, CallArms, CallDisarms, CallRearms, AnswersTick, last_nil, same_counts}
 use Rattle.qp_plain.specs.declared.world.PlainWorld.{PlainWorld}
 use Rattle.qp_plain.specs.WorldView.{world_view}
 use Rattle.qp_kernel_runs.specs.declared.world.SimWorld.{SimWorld}
@@ -83,7 +83,7 @@ module _ (w : SimWorld) (p : PlainWorld) where
   pub sees : (q : ℕ) (c : counts.Counts) → Sees q v u c → Still
   sees q c x = added _ _ x.0
 
-  does : (a : Word) (g : ℕ → Told) → Does a g v u → Still
+  does : (a : Word) (g : ℕ → Told) → AddsDrawn a g v u → Still
   does a g x = added _ _ x.1
 
   pub subscribing : (sig : ℕ) (r : Bool) → Subscribing sig v u r → Still
@@ -97,18 +97,18 @@ module _ (w : SimWorld) (p : PlainWorld) where
   pub reads : (sig set : ℕ) → ReadsSubscribers sig v u set → Still
   reads sig set x = added _ _ x.1
 
-  pub arms : (k ticks interval : ℕ) (r : arming.Arm) → Arms k ticks interval v u r → Still
+  pub arms : (k ticks interval : ℕ) (r : arming.Arm) → CallArms k ticks interval v u r → Still
   arms k ticks interval armed.Done x = does _ _ x
   arms k ticks interval (armed.Armed n c) x = added _ _ x.0
 
-  pub disarms : (k former : ℕ) → Disarms k v u former → Still
+  pub disarms : (k former : ℕ) → CallDisarms k v u former → Still
   disarms k zero x = added _ _ x.1
   disarms k (suc c) x = does _ _ x
 
-  pub rearms : (k ticks former : ℕ) → Rearms k ticks v u former → Still
+  pub rearms : (k ticks former : ℕ) → CallRearms k ticks v u former → Still
   rearms k ticks former x = does _ _ x
 
-  pub ticks-one : (k : ℕ) (r : ticking.Tick) → TicksOne k v u r → Still
+  pub ticks-one : (k : ℕ) (r : ticking.Tick) → AnswersTick k v u r → Still
   ticks-one k ticked.Idle x = added _ _ x.1
   ticks-one k ticked.Down x = added _ _ x.2.1
   ticks-one k ticked.Fired x = added _ _ x.1.1

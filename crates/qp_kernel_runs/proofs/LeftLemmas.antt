@@ -16,21 +16,21 @@ use Rattle.qp_model.proofs.TakenLemmas.{drop-head}
 use Rattle.qp_calls.specs.LaneView.{LaneView}
 use Rattle.qp_model_order.specs.SourceRun.{untold_all}
 use Rattle.qp_model_order.specs.Stimulus.{source_items}
-use Rattle.qp_plain_sound.specs.Log.{lane_of}
+use Rattle.qp_plain_sound.specs.Log.{lane_recs}
 use Rattle.qp_plain_sound.specs.Sound.{facts_in}
-use Rattle.qp_kernel.specs.Happenings.{lanes_from, lanes_of, lane_told, told_by}
+use Rattle.qp_kernel.specs.Happenings.{lanes_from, lanes_of, lane_told, told_by_source}
 use Rattle.qp_model_order.proofs.SourceLanes.{untold-lane}
 use Rattle.qp_kernel_runs.specs.Left.{IsLeft}
 
 module _ (sys : System) (stimuli : List (List Stim)) (lanes : List (List Rec)) (v : LaneView) (left : IsLeft sys stimuli lanes v) (j : Journal) (at : j.lanes ≡ lanes) where
-  pub lane-is : (n : ℕ) → lane_at j n ≡ lane_of lanes n
+  pub lane-is : (n : ℕ) → lane_at j n ≡ lane_recs lanes n
   lane-is n = ap (λ x. unwrap_or (slice_get x n) []) at ∙ unwrap_or-slice_get lanes n []
 
   pub facts-are : facts_of sys j ≡ facts_in sys lanes
   unfolding facts_of
   facts-are = ap (facts_in sys) at
 
-  pub told-is : (n : ℕ) → told_lane (facts_of sys j) 0 (lane_items (lane_at j n)) ≡ told_lane (facts_in sys lanes) 0 (lane_items (lane_of lanes n))
+  pub told-is : (n : ℕ) → told_lane (facts_of sys j) 0 (lane_items (lane_at j n)) ≡ told_lane (facts_in sys lanes) 0 (lane_items (lane_recs lanes n))
   told-is n =
       ap (λ (w : Facts). told_lane w 0 (lane_items (lane_at j n))) facts-are
       ∙ ap (λ (l : List Rec). told_lane (facts_in sys lanes) 0 (lane_items l)) (lane-is n)
@@ -44,10 +44,10 @@ module _ (sys : System) (stimuli : List (List Stim)) (lanes : List (List Rec)) (
   pub source-told : (n : ℕ) → 0 < n → n < length lanes → told_lane (facts_of sys j) 0 (lane_items (lane_at j n)) ≡ lane_told n v.happened
   source-told n some few = told-is n ∙ left.sources n some few
 
-  items-are : (n : ℕ) → 0 < n → n < length lanes → (l : List Rec) → lane_of lanes n ≡ l → lane_items l ≡ source_items (told_by n v.happened)
+  items-are : (n : ℕ) → 0 < n → n < length lanes → (l : List Rec) → lane_recs lanes n ≡ l → lane_items l ≡ source_items (told_by_source n v.happened)
   items-are n some few l is =
       ap (λ (x : List Rec). lane_items x) (sym is)
-      ∙ sym (untold-lane (facts_in sys lanes) 0 (lane_items (lane_of lanes n)))
+      ∙ sym (untold-lane (facts_in sys lanes) 0 (lane_items (lane_recs lanes n)))
       ∙ ap untold_all (left.sources n some few)
 
   -- from lane n on
@@ -59,7 +59,7 @@ module _ (sys : System) (stimuli : List (List Stim)) (lanes : List (List Rec)) (
   from n (s ∷ ss) [] some is same all = absurd (omega (arith, same))
   from n (s ∷ ss) (l ∷ ls) some is same all =
       let behind = drop-head n lanes l ls is in
-      let here : lane_of lanes n ≡ l = sym (unwrap_or-slice_get lanes n []) ∙ ap (λ x. unwrap_or x []) behind.0 in
+      let here : lane_recs lanes n ≡ l = sym (unwrap_or-slice_get lanes n []) ∙ ap (λ x. unwrap_or x []) behind.0 in
       let one = items-are n some (omega (arith, all)) l here in
       let more = from (n + 1) ss ls (omega arith) behind.1 (omega (arith, same)) (omega (arith, all)) in
       rw (one, more) refl

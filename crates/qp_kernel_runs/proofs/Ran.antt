@@ -24,7 +24,7 @@ use Rattle.qp_kernel_turns.specs.Knowing.{HandsFollow}
 use Rattle.qp_kernel_turns.proofs.Keeping.{rests-kept}
 use Rattle.qp_kernel_turns.proofs.Places.{follow-then}
 use Rattle.qp_kernel_runs.specs.Left.{IsIdle, HasStoppedEarly}
-use Rattle.qp_kernel_runs.specs.Running.{RunsOn, RunsTo}
+use Rattle.qp_kernel_runs.specs.Running.{RunsOn, KernelRunsTo}
 use Rattle.qp_kernel.specs.Turning.{Terms, kernel_in}
 use Rattle.qp_kernel.specs.ZeroEnds.{ZeroEnds}
 use Rattle.qp_kernel.proofs.AlikeKernels.{one-row}
@@ -96,7 +96,7 @@ module _ (sys : System) (terms : Terms) (single : terms.threaded ≡ false) (sou
     stop-on w order = record { of = order.of ∙ started.grows.gains.sys; plan = order.plan ∙ started.grows.gains.plan }
 
     -- whatever the turn came to
-    pub turned : (t : Turn) → TurnsTo sys terms a b t → TurnsInOrder true sys a b t → RunsTo sys terms v b.lane t
+    pub turned : (t : Turn) → TurnsTo sys terms a b t → TurnsInOrder true sys a b t → KernelRunsTo sys terms v b.lane t
     turned turn.Idle goes order = (idle-on goes, idle-is goes order)
     turned turn.Stopped goes order = (stop-on b.lane (subst (λ l. StopsInOrder true sys l b.lane) from order), stop-is b.lane (subst (λ l. TurnStopped sys terms l b.lane) from goes) (subst (λ l. StopsInOrder true sys l b.lane) from order))
     turned turn.Memory goes order = tt

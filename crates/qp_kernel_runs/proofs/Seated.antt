@@ -22,7 +22,7 @@ use Rattle.qp_calls.specs.declared.answers.Arm.TheVariants as armed
 use Rattle.qp_calls.specs.declared.answers.Tick as ticking
 use Rattle.qp_calls.specs.declared.answers.Tick.TheVariants as ticked
 use Rattle.qp_calls.specs.LaneView.{LaneView, Happening, Shown, NotShown, Gains, GrowsOf, AddsOf, Looks, is_known}
-use Rattle.qp_calls.specs.Clauses.{Draws, GivesBlock, Makes, MakesMore, DropsOne, LetsGo, GoesBack, ShowsQueue, ClaimsEntry, ClaimsFront, EventIs, EntryStands, Takes, Sees, Counted, Does, Subscribing, Unsubscribing, ReadsSubscribers, Arms, Disarms, Rearms, TicksOne, last_nil, same_counts}
+use Rattle.qp_calls.specs.Clauses.{Draws, GivesBlock, Makes, MakesMore, DropsOne, LetsGo, GoesBack, ShowsQueue, ClaimsEntry, ClaimsFront, EventIs, EntryStands, Takes, Sees, Counted, AddsDrawn, Subscribing, Unsubscribing, ReadsSubscribers, CallArms, CallDisarms, CallRearms, AnswersTick, last_nil, same_counts}
 use Rattle.qp_calls.specs.declared.tokens.HeldEntry.TheVariants as token
 use Rattle.qp_model.specs.declared.bodies.Body.{Body}
 use Rattle.qp_model.specs.declared.bodies.Body.TheVariants.{Spill, BadTicks}
@@ -175,7 +175,7 @@ module _ (plan : List (List Stim)) (hs : List Happening) (v w : LaneView) where
   pub counted : (p : ℕ) (c : counts.Counts) → Counted p v w c → Counted p s t c
   counted p c x = (looks _ _ _ x.0, shows _ _ _ _ x.1, x.2)
 
-  does : (a : Word) (g : ℕ → Told) → Does a g v w → Does a g s t
+  does : (a : Word) (g : ℕ → Told) → AddsDrawn a g v w → AddsDrawn a g s t
   does a g x = (x.0, adds _ _ x.1, x.2)
 
   pub subscribing : (sig : ℕ) (r : Bool) → Subscribing sig v w r → Subscribing sig s t r
@@ -189,18 +189,18 @@ module _ (plan : List (List Stim)) (hs : List Happening) (v w : LaneView) where
   pub reads : (sig set : ℕ) → ReadsSubscribers sig v w set → ReadsSubscribers sig s t set
   reads sig set x = (x.0, adds _ _ x.1, x.2)
 
-  pub arms : (k ticks interval : ℕ) (r : arming.Arm) → Arms k ticks interval v w r → Arms k ticks interval s t r
+  pub arms : (k ticks interval : ℕ) (r : arming.Arm) → CallArms k ticks interval v w r → CallArms k ticks interval s t r
   arms k ticks interval armed.Done x = does _ _ x
   arms k ticks interval (armed.Armed n c) x = (adds _ _ x.0, x.1)
 
-  pub disarms : (k former : ℕ) → Disarms k v w former → Disarms k s t former
+  pub disarms : (k former : ℕ) → CallDisarms k v w former → CallDisarms k s t former
   disarms k zero x = (x.0, adds _ _ x.1)
   disarms k (suc c) x = does _ _ x
 
-  pub rearms : (k ticks former : ℕ) → Rearms k ticks v w former → Rearms k ticks s t former
+  pub rearms : (k ticks former : ℕ) → CallRearms k ticks v w former → CallRearms k ticks s t former
   rearms k ticks former x = does _ _ x
 
-  pub ticks-one : (k : ℕ) (r : ticking.Tick) → TicksOne k v w r → TicksOne k s t r
+  pub ticks-one : (k : ℕ) (r : ticking.Tick) → AnswersTick k v w r → AnswersTick k s t r
   ticks-one k ticked.Idle x = (x.0, adds _ _ x.1)
   ticks-one k ticked.Down x = (x.0, x.1, (x.2.0, adds _ _ x.2.1, x.2.2))
   ticks-one k ticked.Fired x = (x.0, (x.1.0, adds _ _ x.1.1, x.1.2))

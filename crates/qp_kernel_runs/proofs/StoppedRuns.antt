@@ -22,7 +22,7 @@ use Rattle.qp_model_order.specs.SourceRun.{SourceEnds, untold_all}
 use Rattle.qp_plain_sound.proofs.LawLemmas.{log-numbered, by-the_book}
 use Rattle.qp_kernel.specs.ZeroEnds.{ZeroEnds}
 use Rattle.qp_kernel.specs.Run.{SourcesEnd, IsRun}
-use Rattle.qp_kernel.specs.Happenings.{SourcesHalt, lanes_of, order_of}
+use Rattle.qp_kernel.specs.Happenings.{SourcesHalt, lanes_of, lane_order}
 use Rattle.qp_kernel.proofs.LawfulLemmas.{lawful}
 use Rattle.qp_kernel_runs.specs.Left.{IsLeft, HasStoppedEarly}
 use Rattle.qp_kernel.proofs.AlikeKernels.{one-order}
@@ -34,7 +34,7 @@ module _ (sys : System) (stimuli : List (List Stim)) (lanes : List (List Rec)) (
   pub words-hold : Words sys j.lanes
   words-hold = subst (Words sys) (sym at) (by-the_book sys lanes left.order 0 0 0 [] [] [] left.world).words
 
-  pub numbers-are : in_order [] (items_ordered (order_of v)) ≡ true
+  pub numbers-are : in_order [] (items_ordered (lane_order v)) ≡ true
   numbers-are = subst (λ log. in_order [] (items_ordered log) ≡ true) left.log (log-numbered sys lanes left.order left.world)
 
   pub lanes-roomy : list_all (λ lane. has_room (lane_items lane)) j.lanes ≡ true
@@ -64,7 +64,7 @@ module _ (sys : System) (stimuli : List (List Stim)) (lanes : List (List Rec)) (
         words = words-hold;
         count = count-is;
         room = lanes-roomy;
-        log = order_of v;
+        log = lane_order v;
         numbers = numbers-are;
         zero =
             subst (λ ts. ZeroEnds sys j.kernel j.budget j.end 1 ts (has_stim (source_lanes sys j))) (sym (zero-told sys stimuli lanes v left j at))
@@ -74,9 +74,9 @@ module _ (sys : System) (stimuli : List (List Stim)) (lanes : List (List Rec)) (
         cuts = order.cuts;
         sources = halted j.end order.cuts 1 stimuli (omega arith) (sym left.count) refl (subst (λ p. SourcesHalt sys j.end order.cuts 1 p v.happened) left.plan order.sources);
         order =
-            subst (λ x. EndsInOrder sys stimuli x (source_lanes sys j) order.cuts (order_of v)) (sym items)
-            (subst (λ x. EndsInOrder sys stimuli (untold_all v.told) x order.cuts (order_of v)) (sym sources)
-            (subst (λ p. EndsInOrder sys p (untold_all v.told) (lanes_of v) order.cuts (order_of v)) left.plan order.order));
+            subst (λ x. EndsInOrder sys stimuli x (source_lanes sys j) order.cuts (lane_order v)) (sym items)
+            (subst (λ x. EndsInOrder sys stimuli (untold_all v.told) x order.cuts (lane_order v)) (sym sources)
+            (subst (λ p. EndsInOrder sys p (untold_all v.told) (lanes_of v) order.cuts (lane_order v)) left.plan order.order));
         stated = ap (λ (ls : List (List Rec)). j.end == end_of (all_items ls)) at ∙ stated;
         queues = loud _;
         blocks = loud _;

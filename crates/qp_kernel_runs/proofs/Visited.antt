@@ -24,13 +24,13 @@ use Rattle.qp_plain.specs.declared.world.PlainWorld.{PlainWorld}
 use Rattle.qp_plain.specs.Book.{lists_of}
 use Rattle.qp_plain.specs.NewWorld.{GoesTo, chosen, lanes_in}
 use Rattle.qp_plain.specs.WorldView.{world_view}
-use Rattle.qp_kernel.specs.Happenings.{lane_told, told_by}
+use Rattle.qp_kernel.specs.Happenings.{lane_told, told_by_source}
 use Rattle.qp_calls_stimulus.specs.declared.doing.Stimulated.{Stimulated}
 use Rattle.qp_calls_stimulus.specs.declared.doing.Stimulated.TheVariants as stimulated
 use Rattle.qp_calls.specs.Halting.{HaltsFull}
-use Rattle.qp_calls_stimulus.specs.Stimulating.{Stimulates, KeepsOwn, Happens, Tries, Asserts, Spills, Exhausts, begun}
+use Rattle.qp_calls_stimulus.specs.Stimulating.{Stimulates, KeepsOwn, StimulusHappens, StimulusTries, StimulusAsserts, Spills, Exhausts, begun_records}
 use Rattle.qp_kernel_runs.specs.Newest.{newest}
-use Rattle.qp_kernel_runs.specs.Visiting.{Rests, HasStopped, Amounts, Visits}
+use Rattle.qp_kernel_runs.specs.Visiting.{Rests, OtherHasStopped, Amounts, Visits}
 use Rattle.qp_kernel_runs.proofs.Worlds.{tolds, told-here, told-other, lane-is, own_purse}
 use Rattle.qp_kernel_runs.proofs.Beside.{Went, before, behind, lane_there, tolds_first, source-leaves, source-stopped}
 use Rattle.qp_model.proofs.HistoryLemmas.{no-total, total-append}
@@ -89,7 +89,7 @@ looks-none x lane (o ∷ os) g h =
     by (inl k) later = later k.1
     by (inr k) later = ap (λ g. total x (placed_items lane g)) k.1 ∙ no-total x
 
-silent : (x : Word) (lane place look : ℕ) (one : List Told) → total x (placed_items lane one) ≡ 0 → total x (placed_items lane (begun place look (plain body.Settle ∷ one))) ≡ 0
+silent : (x : Word) (lane place look : ℕ) (one : List Told) → total x (placed_items lane one) ≡ 0 → total x (placed_items lane (begun_records place look (plain body.Settle ∷ one))) ≡ 0
 unfolding placed_items
 silent x lane place look one none =
     total-off x (record { of = 0; body = body.Stim place look }) (items_placed (map (placed_by lane) (map (for_object 0) (plain body.Settle ∷ one)))) refl
@@ -141,18 +141,18 @@ module _ (source former : ℕ) (a b c d e f : PlainWorld) (home : chosen a ≡ 0
     at_source : (world_view d).lane ≡ source
     at_source = went.lane ∙ lane-is c ∙ in_lane
 
-    beyond : drop (length (told_by source hs)) (told_alone (lane_told source hs ++ map (for_object 0) g)) ≡ g
+    beyond : drop (length (told_by_source source hs)) (told_alone (lane_told source hs ++ map (for_object 0) g)) ≡ g
     beyond =
-        ap (drop (length (told_by source hs)))
-        (map-append (λ t. t.told) (lane_told source hs) (map (for_object 0) g) ∙ ap (λ l. l ++ told_alone (map (for_object 0) g)) (told-source (told_by source hs)) ∙ ap (λ l. told_by source hs ++ l) (told-source g))
-        ∙ drop-append_seam (told_by source hs) g
+        ap (drop (length (told_by_source source hs)))
+        (map-append (λ t. t.told) (lane_told source hs) (map (for_object 0) g) ∙ ap (λ l. l ++ told_alone (map (for_object 0) g)) (told-source (told_by_source source hs)) ∙ ap (λ l. told_by_source source hs ++ l) (told-source g))
+        ∙ drop-append_seam (told_by_source source hs) g
 
     its : newest hs (world_view d) ≡ record { at = length (world_view a).told; source = source; told = g }
     unfolding newest
     its =
-        ap (λ n. record { at = n; source = (world_view d).lane; told = drop (length (told_by (world_view d).lane hs)) (told_alone (world_view d).told) }) (ap length zero_there)
-        ∙ ap (λ k. record { at = length (world_view a).told; source = k; told = drop (length (told_by k hs)) (told_alone (world_view d).told) }) at_source
-        ∙ ap (λ l. record { at = length (world_view a).told; source = source; told = drop (length (told_by source hs)) (told_alone l) })
+        ap (λ n. record { at = n; source = (world_view d).lane; told = drop (length (told_by_source (world_view d).lane hs)) (told_alone (world_view d).told) }) (ap length zero_there)
+        ∙ ap (λ k. record { at = length (world_view a).told; source = k; told = drop (length (told_by_source k hs)) (told_alone (world_view d).told) }) at_source
+        ∙ ap (λ l. record { at = length (world_view a).told; source = source; told = drop (length (told_by_source source hs)) (told_alone l) })
         (went.told ∙ ap (λ l. l ++ map (for_object 0) g) (told_there ∙ tells))
         ∙ ap (λ l. record { at = length (world_view a).told; source = source; told = l }) beyond
 
@@ -164,7 +164,7 @@ module _ (source former : ℕ) (a b c d e f : PlainWorld) (home : chosen a ≡ 0
       amounts = amounts;
     }
 
-    seen_stopped : is_codeless (own_purse d) ≡ false → HasStopped (world_view f)
+    seen_stopped : is_codeless (own_purse d) ≡ false → OtherHasStopped (world_view f)
     seen_stopped code = source-stopped source former a b c d e f home some go set was reset back (map (for_object 0) g) went code few
 
     hands_kept : (world_view d).hands ≡ (world_view c).hands → (world_view f).hands ≡ (world_view a).hands
@@ -187,20 +187,20 @@ module _ (source former : ℕ) (a b c d e f : PlainWorld) (home : chosen a ≡ 0
   for-none : (g : List Told) (w : LaneView) → Grows g (world_view c) w → Gains (map (for_object 0) g) (world_view c) w
   for-none g w grows = subst (λ o. Gains (map (for_object o) g) (world_view c) w) (ap (λ v. v.by) set) grows
 
-  whole : Happens sys s place look (world_view c) (world_view d) → Comes stimulated.Done
+  whole : StimulusHappens sys s place look (world_view c) (world_view d) → Comes stimulated.Done
   whole h =
-      let went = went-gains (map (for_object 0) (begun place look h.one)) (world_view c) (world_view d) (for-none (begun place look h.one) (world_view d) h.grows) own in
-      comes (begun place look h.one) went stimulated.Done (h.one, refl, h.fits, hands_kept (begun place look h.one) went h.hands)
+      let went = went-gains (map (for_object 0) (begun_records place look h.one)) (world_view c) (world_view d) (for-none (begun_records place look h.one) (world_view d) h.grows) own in
+      comes (begun_records place look h.one) went stimulated.Done (h.one, refl, h.fits, hands_kept (begun_records place look h.one) went h.hands)
 
-  failed : Asserts sys s place look (world_view c) (world_view d) → Comes stimulated.Stopped
+  failed : StimulusAsserts sys s place look (world_view c) (world_view d) → Comes stimulated.Stopped
   failed h =
-      let went = went-stops (map (for_object 0) (begun place look h.one)) (world_view c) h.mid (world_view d) h.code (for-none (begun place look h.one) h.mid h.grows) h.stops own in
-      comes (begun place look h.one) went stimulated.Stopped
-      (seen_stopped (begun place look h.one) went (coded h.code h.mid d h.stops), inl (record { one = h.one; is = refl; fits = h.fits }))
+      let went = went-stops (map (for_object 0) (begun_records place look h.one)) (world_view c) h.mid (world_view d) h.code (for-none (begun_records place look h.one) h.mid h.grows) h.stops own in
+      comes (begun_records place look h.one) went stimulated.Stopped
+      (seen_stopped (begun_records place look h.one) went (coded h.code h.mid d h.stops), inl (record { one = h.one; is = refl; fits = h.fits }))
 
   spilled : Spills sys s place look (world_view c) (world_view d) → Comes stimulated.Stopped
   spilled h =
-      let one = begun place look h.one in
+      let one = begun_records place look h.one in
       let size = length h.mid.told in
       let last : List Told = plain (body.Spill size) ∷ [] in
       let first : Gains (map (for_object 0) one) (world_view c) h.mid = for-none one h.mid h.grows in
@@ -240,9 +240,9 @@ module _ (source former : ℕ) (a b c d e f : PlainWorld) (home : chosen a ≡ 0
       comes h.g went stimulated.Memory (seen_stopped h.g went (coded 7 h.mid d h.dry.stops))
 
   -- a `settle` finds no entry
-  never : Tries sys s place look (world_view c) (world_view d) → ⊥
+  never : StimulusTries sys s place look (world_view c) (world_view d) → ⊥
   never h =
-      let g = begun place look (plain body.Settle ∷ h.one) in
+      let g = begun_records place look (plain body.Settle ∷ h.one) in
       let went = went-gains (map (for_object 0) g) (world_view c) (world_view d) (for-none g (world_view d) h.grows) own in
       let x = word.Queue h.found.object in
       let none : total x (placed_items (world_view c).lane g) ≡ 0 = silent x (world_view c).lane place look h.one (looks-none x (world_view c).lane (priorities sys) h.one h.fits) in

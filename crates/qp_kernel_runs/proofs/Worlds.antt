@@ -6,7 +6,7 @@ use Rattle.qp_model.specs.Told.{ToldItem}
 use Rattle.qp_model.specs.History.{lane_items}
 use Rattle.qp_model.specs.Knowing.{told_lane}
 use Rattle.qp_calls.specs.LaneView.{Purse}
-use Rattle.qp_plain_sound.specs.Log.{lane_of}
+use Rattle.qp_plain_sound.specs.Log.{lane_recs}
 use Rattle.qp_plain_sound.specs.Sound.{facts_in}
 use Rattle.qp_plain_sound.specs.View.{view_of}
 use Rattle.qp_plain.specs.declared.world.PlainWorld.{PlainWorld}
@@ -35,7 +35,7 @@ module _ (w : PlainWorld) where
   unfolding told_lane lane_items
   nothing = refl
 
-  pub told-of : (k : ℕ) → get_or (tolds w) k [] ≡ tells w (lane_of (lists_of w.book) k)
+  pub told-of : (k : ℕ) → get_or (tolds w) k [] ≡ tells w (lane_recs (lists_of w.book) k)
   told-of k = ap (get_or (tolds w) k) (sym nothing) ∙ map-at (tells w) [] (lists_of w.book) k
 
   pub told-here : (world_view w).told ≡ get_or (tolds w) (chosen w) []

@@ -3,7 +3,7 @@ use Rattle.std.specs.Prelude.{◌≡◌, ℕ, ◌+◌, List, [], ◌∷◌, ◌+
 use Rattle.qp_model.specs.declared.stimulus.Stim.{Stim}
 use Rattle.qp_model.specs.declared.systems.System.{System}
 use Rattle.qp_model.specs.Told.{Told}
-use Rattle.qp_kernel.specs.Happenings.{told_by}
+use Rattle.qp_kernel.specs.Happenings.{told_by_source}
 use Rattle.qp_plain.specs.WorldView.{world_view}
 use Rattle.qp_calls_stimulus.specs.declared.doing.Stimulated.{Stimulated}
 use Rattle.qp_calls_stimulus.specs.declared.doing.Stimulated.TheVariants as stimulated
@@ -24,5 +24,5 @@ pub record HasActed (j : ℕ) (sys : System) (look : ℕ) (old new : SimWorld) (
   pub g : List Told
   pub leaves : VisitLeaves (j + 1) g (world_view old.plain) (world_view new.plain)
   pub happened : new.done.list ≡ old.done.list ++ (record { at = length (world_view old.plain).told; source = j + 1; told = g }) ∷ []
-  pub amounts : Amounts sys s (get_or old.begun.items j 0 + 1) look (length (told_by (j + 1) old.done.list)) g (world_view old.plain) (world_view new.plain) answer
+  pub amounts : Amounts sys s (get_or old.begun.items j 0 + 1) look (length (told_by_source (j + 1) old.done.list)) g (world_view old.plain) (world_view new.plain) answer
   pub plan : new.stim.now ≡ old.stim.now

@@ -21,7 +21,7 @@ use Rattle.qp_calls.specs.Deferring.{tokens_in}
 use Rattle.qp_calls.specs.LaneView.{LaneView, Counts}
 use Rattle.qp_calls.specs.Tokens.{Token}
 use Rattle.qp_model_order.specs.RunOrder.{has_stim}
-use Rattle.qp_plain_sound.specs.Log.{lane_of, log_of}
+use Rattle.qp_plain_sound.specs.Log.{lane_recs, log_of}
 use Rattle.qp_plain_sound.specs.Sound.{SoundWorld, facts_in, hands_in}
 use Rattle.qp_plain_sound.specs.View.{shown_in}
 use Rattle.qp_plain_sound.specs.WordStates.{line_in}
@@ -29,7 +29,7 @@ use Rattle.qp_kernel.specs.Stages as stage
 use Rattle.qp_kernel.specs.ZeroEnds.{ZeroEnds}
 use Rattle.qp_kernel.specs.Turning.{KernelState, Stands, Terms, kernel_in}
 use Rattle.qp_kernel.specs.Laws.{kept_by}
-use Rattle.qp_kernel.specs.Happenings.{IsInOrder, IsOrderEnded, lanes_of, lane_told, order_of}
+use Rattle.qp_kernel.specs.Happenings.{IsInOrder, IsOrderEnded, lanes_of, lane_told, lane_order}
 
 -- These lanes were left by a world whose kernel lane was seen so: it tells of lane 0, of the lanes of the sources, and of the order of all
 -- records.
@@ -39,14 +39,14 @@ pub record IsLeft (sys : System) (stimuli : List (List Stim)) (lanes : List (Lis
   pub order : List ℕ
   pub world : SoundWorld sys lanes order
   pub count : length lanes ≡ 1 + length stimuli
-  pub zero : told_lane (facts_in sys lanes) 0 (lane_items (lane_of lanes 0)) ≡ v.told
-  pub sources : (n : ℕ) → 0 < n → n < length lanes → told_lane (facts_in sys lanes) 0 (lane_items (lane_of lanes n)) ≡ lane_told n v.happened
-  pub log : log_of lanes order ≡ order_of v
+  pub zero : told_lane (facts_in sys lanes) 0 (lane_items (lane_recs lanes 0)) ≡ v.told
+  pub sources : (n : ℕ) → 0 < n → n < length lanes → told_lane (facts_in sys lanes) 0 (lane_items (lane_recs lanes n)) ≡ lane_told n v.happened
+  pub log : log_of lanes order ≡ lane_order v
   pub shown : (w : Word) → v.shown w ≡ shown_in sys lanes w
   pub hands : v.hands ≡ hands_in sys lanes order
   -- as many posts and takes as the queues tell stand in the order
-  pub entered : (a : ℕ) → IsTrue (is_object sys a) → count_by (λ x. enters a x.item) (order_of v) ≡ (line_in sys lanes a).f + (line_in sys lanes a).l
-  pub left : (a : ℕ) → IsTrue (is_object sys a) → count_by (λ x. leaves a x.item) (order_of v) ≡ (line_in sys lanes a).m
+  pub entered : (a : ℕ) → IsTrue (is_object sys a) → count_by (λ x. enters a x.item) (lane_order v) ≡ (line_in sys lanes a).f + (line_in sys lanes a).l
+  pub left : (a : ℕ) → IsTrue (is_object sys a) → count_by (λ x. leaves a x.item) (lane_order v) ≡ (line_in sys lanes a).m
   pub room : list_all (λ lane. has_room (lane_items lane)) lanes ≡ true
 
 -- The kernel came to the end of its row at the base: nothing is left to be done.
@@ -68,7 +68,7 @@ pub record IsIdle (sys : System) (terms : Terms) (v : LaneView) : Type 0 where
   pub rest : (d : ObjectDef) → object_at sys d.priority ≡ Some d → state.stages d.priority ≡ stage.Resting (keeps d.priority)
   pub hands : (t : Token) → count_of t v.hands ≡ count_of t (tokens_in (kept_by keeps sys.objects))
   -- no source may act, and every queue is empty
-  pub next : acts_next sys v.plan (order_of v) true ≡ None
+  pub next : acts_next sys v.plan (lane_order v) true ≡ None
   pub empties : (d : ObjectDef) → object_at sys d.priority ≡ Some d → (f l m : ℕ) × (v.shown (word.Queue d.priority) ≡ Counts f l m) × (f + l ≡ m)
 
 -- The run stopped early, however it stated its end.

@@ -9,7 +9,7 @@ use Rattle.qp_kernel_runs.specs.Seating.{seated}
 use Rattle.qp_kernel_runs.specs.SimView.{sim_view}
 
 -- no record has been made, and lane 0 is chosen
-pub record IsNewWorld (w : PlainWorld) : Type 0 where
+pub record IsNewSim (w : PlainWorld) : Type 0 where
   pub log : log_in w ≡ []
   pub first : chosen w ≡ 0
 

@@ -16,7 +16,7 @@ use Rattle.qp_kernel_runs.specs.Left.{IsIdle, HasStoppedEarly}
 use Rattle.qp_kernel.specs.Turning.{Terms, kernel_in}
 
 -- the lane and the objects of a run that begins
-pub record MayRun (sys : System) (xs : Objects) (v : LaneView) : Type 0 where
+pub record MayRunKernel (sys : System) (xs : Objects) (v : LaneView) : Type 0 where
   pub made : AreMade sys xs
   pub fresh : IsFreshLane sys v
   pub fit : StimuliFit sys v.plan
@@ -26,10 +26,10 @@ pub record RunsOn (v w : LaneView) : Type 0 where
   pub of : w.sys ≡ v.sys
   pub plan : w.plan ≡ v.plan
 
-abbrev pub RunsTo : System → Terms → LaneView → LaneView → Turn → Type 0
-RunsTo sys terms v w turn.Idle = RunsOn v w × IsIdle sys terms w
-RunsTo sys terms v w turn.Stopped = RunsOn v w × HasStoppedEarly sys terms w
-RunsTo sys terms v w turn.Memory = Unit {0}
+abbrev pub KernelRunsTo : System → Terms → LaneView → LaneView → Turn → Type 0
+KernelRunsTo sys terms v w turn.Idle = RunsOn v w × IsIdle sys terms w
+KernelRunsTo sys terms v w turn.Stopped = RunsOn v w × HasStoppedEarly sys terms w
+KernelRunsTo sys terms v w turn.Memory = Unit {0}
 
 -- the journal of these lanes, with the end that their records state
 pub record IsClosed (lanes : List (List Rec)) (terms : Terms) (j : Journal) : Type 0 where

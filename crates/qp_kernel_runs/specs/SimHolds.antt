@@ -23,7 +23,7 @@ last_source n [] = n
 last_source n (h ∷ hs) = last_source h.source hs
 
 -- each source has begun so many stimuli, and none has failed
-pub record Counts (plan : List (List Stim)) (begun : List ℕ) (last : ℕ) (hs : List Happening) : Type 0 where
+pub record BegunCounts (plan : List (List Stim)) (begun : List ℕ) (last : ℕ) (hs : List Happening) : Type 0 where
   pub whole : list_all is_whole hs ≡ true
   pub calm : list_all is_unspilled hs ≡ true
   pub sources : list_all (λ h. nat_lt 0 h.source) hs ≡ true
@@ -42,5 +42,5 @@ pub record SimHolds (plan : List (List Stim)) (begun : List ℕ) (last : ℕ) (h
   pub order : v.log ≡ run_order 0 (untold_all v.told) hs
   pub sources : (n : ℕ) → 0 < n → n ≤ length plan → get_or v.aside.told n [] ≡ lane_told n hs
   pub rises : rises 0 hs (length v.told) ≡ true
-  pub counts : halted ≡ false → Counts plan begun last hs
+  pub counts : halted ≡ false → BegunCounts plan begun last hs
   pub halts : halted ≡ true → IsFalse (list_all is_codeless v.aside.purses)

@@ -12,7 +12,7 @@ use Rattle.qp_calls.specs.LaneView.{LaneView, Happening, Counts, placed_by, is_c
 use Rattle.qp_kernel.specs.Interrupting.{IsLaneKept}
 use Rattle.qp_calls_stimulus.specs.declared.doing.Stimulated.{Stimulated}
 use Rattle.qp_calls_stimulus.specs.declared.doing.Stimulated.TheVariants as stimulated
-use Rattle.qp_calls_stimulus.specs.Stimulating.{begun}
+use Rattle.qp_calls_stimulus.specs.Stimulating.{begun_records}
 
 -- The lane of the source gained these records, and the lane chosen is as it was.
 pub record VisitLeaves (source : ℕ) (g : List Told) (v w : LaneView) : Type 0 where
@@ -30,13 +30,13 @@ abbrev pub Rests : LaneView → Type 0
 Rests v = (p : ℕ) → IsTrue (is_object v.sys p) → (f l m : ℕ) × (v.shown (word.Queue p) ≡ Counts f l m) × (f + l ≡ m)
 
 -- a lane beside this one has handed in a code
-abbrev pub HasStopped : LaneView → Type 0
-HasStopped w = IsFalse (list_all is_codeless w.aside.purses)
+abbrev pub OtherHasStopped : LaneView → Type 0
+OtherHasStopped w = IsFalse (list_all is_codeless w.aside.purses)
 
 -- the records up to an assertion
 pub record EndsInAssertion (sys : System) (s : Stim) (place look : ℕ) (g : List Told) : Type 0 where
   pub one : List Told
-  pub is : g ≡ begun place look one
+  pub is : g ≡ begun_records place look one
   pub fits : (kernel : ℕ) → StimFits sys kernel s true one
 
 -- the records up to the `spill` of a lane that had so many
@@ -45,7 +45,7 @@ pub record EndsInSpill (sys : System) (s : Stim) (place look had : ℕ) (g : Lis
   pub back : List Told
   pub asserted : Bool
   pub size : ℕ
-  pub is : g ≡ begun place look (one ++ plain (body.Spill size) ∷ [])
+  pub is : g ≡ begun_records place look (one ++ plain (body.Spill size) ∷ [])
   pub fits : (kernel : ℕ) → StimFits sys kernel s asserted (one ++ back)
   pub some : back ≢ []
   pub states : size ≡ had + (1 + length one)
@@ -59,11 +59,11 @@ pub record EndsAtOnce (had : ℕ) (g : List Told) : Type 0 where
 -- what the records are, by the answer
 abbrev pub Amounts : System → Stim → ℕ → ℕ → ℕ → List Told → LaneView → LaneView → Stimulated → Type 0
 Amounts sys s place look had g v w stimulated.Done =
-    (one : List Told) × (g ≡ begun place look one) × ((kernel : ℕ) → StimFits sys kernel s false one) × (w.hands ≡ v.hands)
+    (one : List Told) × (g ≡ begun_records place look one) × ((kernel : ℕ) → StimFits sys kernel s false one) × (w.hands ≡ v.hands)
 Amounts sys s place look had g v w stimulated.Tried = ⊥
 Amounts sys s place look had g v w stimulated.Stopped =
-    HasStopped w × (EndsInAssertion sys s place look g ⊎ EndsInSpill sys s place look had g ⊎ EndsAtOnce had g)
-Amounts sys s place look had g v w stimulated.Memory = HasStopped w
+    OtherHasStopped w × (EndsInAssertion sys s place look g ⊎ EndsInSpill sys s place look had g ⊎ EndsAtOnce had g)
+Amounts sys s place look had g v w stimulated.Memory = OtherHasStopped w
 
 pub record Visits (source : ℕ) (sys : System) (s : Stim) (place look : ℕ) (hs more : List Happening) (v w : LaneView) (answer : Stimulated) : Type 0 where
   pub g : List Told

@@ -11,7 +11,7 @@ use std::alloc::Global;
 
 impl<'a> SimWorld<'a> {
     ghost use Rattle.qp_plain.specs.NewWorld.{lanes_in};
-    ghost use Rattle.qp_kernel_runs.specs.NewSim.{IsNewWorld, IsSim};
+    ghost use Rattle.qp_kernel_runs.specs.NewSim.{IsNewSim, IsSim};
 
     /// The world with these stimuli. The plain world has one lane more than the stimuli have sources, and nothing has
     /// happened in it.
@@ -21,7 +21,7 @@ impl<'a> SimWorld<'a> {
         stim: &'a Stimuli,
     ) -> Result<SimWorld<'a>, Memory>
         requires lanes { lanes_in plain ≡ 1 + length stim.now }
-        requires first { IsNewWorld plain }
+        requires first { IsNewSim plain }
         ensures { IfOk result (λ w. IsSim plain.entry stim.now w) }
     {
         let Ok(begun) = vec![in alloc; 0u32; stim.sources.len()] else {

@@ -11,7 +11,7 @@ ghost use Rattle.qp_kernel.specs.Turning.{kernel_in, under};
 ghost use Rattle.qp_kernel_runs.specs.SimView.{sim_view};
 ghost use Rattle.qp_kernel_end.specs.Rests.{AreRestsIn};
 ghost use Rattle.qp_kernel_runs.specs.Resting.{ObjectsShow, RestsAfter};
-ghost use Rattle.qp_kernel_runs.specs.Running.{IsClosed, MayRun, RunsTo};
+ghost use Rattle.qp_kernel_runs.specs.Running.{IsClosed, MayRunKernel, KernelRunsTo};
 ghost use Rattle.qp_kernel_runs.specs.SimRun.{IsQvRun, IsRunOf, IsSimRun};
 
 use crate::rests::rests;
@@ -84,8 +84,8 @@ fn run<R: Wait>(
 ) -> Ended
     requires sound { IsSound sys.now }
     requires few { budget ≤ 1000000 }
-    requires may { MayRun sys.now objects.old (sim_view world.old) }
-    ensures goes { RunsTo sys.now (under cooperative budget) (sim_view world.old) (sim_view world.new) result.turn }
+    requires may { MayRunKernel sys.now objects.old (sim_view world.old) }
+    ensures goes { KernelRunsTo sys.now (under cooperative budget) (sim_view world.old) (sim_view world.new) result.turn }
     ensures rests { RestsAfter sys.now (sim_view world.new).told result.turn result.rests.items }
 {
     match objects.start(world, sys) {

@@ -3,7 +3,7 @@
 ghost use Rattle.std.specs.Prelude.{◌≡◌, ◌<◌, [], false, get_or};
 ghost use Rattle.qp_model.specs.Sound.{IsSound};
 ghost use Rattle.qp_model.specs.declared.stimulus.Stim.TheVariants as stim;
-ghost use Rattle.qp_stim.specs.Rules.{StimFits};
+ghost use Rattle.qp_stim.specs.Rules.{StimulusFits};
 ghost use Rattle.qp_calls.specs.Notes.{spills_told};
 ghost use Rattle.qp_kernel.specs.Happenings.{lane_told};
 ghost use Rattle.qp_plain.specs.NewWorld.{chosen, lanes_in};
@@ -36,7 +36,7 @@ pub(crate) fn visit<L: Ledger>(
     requires within { source < lanes_in plain.old }
     requires made_for { (world_view plain.old).sys ≡ sys.now }
     requires sound { IsSound sys.now }
-    requires fits { StimFits sys.now s.now }
+    requires fits { StimulusFits sys.now s.now }
     requires spills { spills_told (get_or (world_view plain.old).aside.told source []) ≡ false }
     requires tells { get_or (world_view plain.old).aside.told source [] ≡ lane_told source done.now.list }
     requires rests { s.now ≡ stim.Settle → Rests (world_view plain.old) }

@@ -22,7 +22,7 @@ use Rattle.qp_kernel.specs.Happenings.{IsInOrder, has_no_stim}
 use Rattle.qp_kernel_turns.specs.declared.objects.Objects.{Objects}
 use Rattle.qp_kernel_turns.specs.Objects.{MayStartAt, StartsAt}
 use Rattle.qp_kernel_turns.specs.Knowing.{IsObjectWithChart, KnowsAt}
-use Rattle.qp_kernel_turns.specs.Starting.{AllStarted, GrowsAlong, GrowsAndStops, HasBegun, HaveBegun, StartStopped, StartsAll, StartsOne, left_from}
+use Rattle.qp_kernel_turns.specs.Starting.{AllStarted, GrowsAlong, GrowsAndStops, HasBegun, HaveBegun, StartStopped, StartsAll, StartsOne, priorities_from}
 use Rattle.qp_kernel_turns.proofs.Places.{follow-none, follow-then}
 use Rattle.qp_kernel_turns.proofs.SoundObjects.{named}
 use Rattle.qp_kernel_turns.proofs.Fresh.{all-begun}
@@ -58,21 +58,21 @@ some-there [] n d at = absurd (cc)
 some-there (x ∷ xs) n d at = omega arith
 
 -- The object at a place, which is the first that has not started.
-module _ (sys : System) (sound : IsSound sys) (place : ℕ) (d : ObjectDef) (at : slice_get sys.objects place ≡ Some d) (xs : Objects) (v : LaneView) (b : HaveBegun sys (left_from sys place) xs v) where
+module _ (sys : System) (sound : IsSound sys) (place : ℕ) (d : ObjectDef) (at : slice_get sys.objects place ≡ Some d) (xs : Objects) (v : LaneView) (b : HaveBegun sys (priorities_from sys place) xs v) where
   next : IsNext (λ x. IsObjectWithChart sys x.priority) sys.objects place d
   next = next-is (λ x. IsObjectWithChart sys x.priority) sys.objects place d at (named sys sound) sound.ascend
 
   abbrev others : List ℕ
-  others = left_from sys (place + 1)
+  others = priorities_from sys (place + 1)
 
   behind-place : suc place ≡ place + 1
   behind-place = omega arith
 
   apart-next : has others d.priority ≡ false
-  apart-next = subst (λ k. has (left_from sys k) d.priority ≡ false) behind-place next.apart
+  apart-next = subst (λ k. has (priorities_from sys k) d.priority ≡ false) behind-place next.apart
 
   here : HaveBegun sys (d.priority ∷ others) xs v
-  here = subst (λ ps. HaveBegun sys ps xs v) (ap (map (λ x. x.priority)) next.left ∙ ap (λ k. d.priority ∷ left_from sys k) behind-place) b
+  here = subst (λ ps. HaveBegun sys ps xs v) (ap (map (λ x. x.priority)) next.left ∙ ap (λ k. d.priority ∷ priorities_from sys k) behind-place) b
 
   -- what holds by all terms holds by these
   abbrev any : Terms
@@ -166,9 +166,9 @@ drop-whole [] (suc n) le = refl
 drop-whole (x ∷ xs) zero le = absurd (omega (arith, le))
 drop-whole (x ∷ xs) (suc n) le = drop-whole xs n (omega (arith, le))
 
-pub all-started : (sys : System) (place : ℕ) (xs : Objects) (u : LaneView) (ys : Objects) (v : LaneView) → place ≡ length sys.objects → HaveBegun sys (left_from sys place) ys v → GrowsAlong place xs u ys v → AllStarted sys xs ys u v
+pub all-started : (sys : System) (place : ℕ) (xs : Objects) (u : LaneView) (ys : Objects) (v : LaneView) → place ≡ length sys.objects → HaveBegun sys (priorities_from sys place) ys v → GrowsAlong place xs u ys v → AllStarted sys xs ys u v
 all-started sys place xs u ys v is b along =
-    let none : left_from sys place ≡ [] = ap (map (λ d. d.priority)) (drop-whole sys.objects place (omega (arith, is))) in
+    let none : priorities_from sys place ≡ [] = ap (map (λ d. d.priority)) (drop-whole sys.objects place (omega (arith, is))) in
     let h : HaveBegun sys [] ys v = subst (λ ps. HaveBegun sys ps ys v) none b in
     record { knows = λ terms. all-begun sys terms ys v (h.knows terms); base = h.knows; order = h.order; no_stim = h.no_stim; grows = subst (λ n. GrowsAlong n xs u ys v) is along }
 

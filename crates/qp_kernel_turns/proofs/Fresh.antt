@@ -20,16 +20,16 @@ use Rattle.qp_calls.specs.Counting.{count_of, times}
 use Rattle.qp_calls.specs.Deferring.{is_named, tokens_in}
 use Rattle.qp_calls.specs.LaneView.{IsNew, LaneView, ceiling_in}
 use Rattle.qp_dispatch.specs.declared.objects.Object.{Object}
-use Rattle.qp_dispatch.specs.Objects.{IsMade}
+use Rattle.qp_dispatch.specs.Objects.{IsObjectMade}
 use Rattle.qp_dispatch.specs.Resume.{held_in}
-use Rattle.qp_kernel.specs.Happenings.{IsInOrder, SourcesMarch, begun_by, lanes_from, lanes_of, rises, run_order, told_by}
+use Rattle.qp_kernel.specs.Happenings.{IsInOrder, SourcesMarch, begun_by, lanes_from, lanes_of, rises, run_order, told_by_source}
 use Rattle.qp_kernel.specs.Stages as stage
 use Rattle.qp_kernel.proofs.KernelLaws.{lane_begins}
 use Rattle.qp_kernel_turns.specs.declared.objects.Objects.{Objects}
 use Rattle.qp_kernel_turns.specs.declared.objects.Slot.{Slot}
 use Rattle.qp_kernel_turns.specs.Objects.{AreMade, IsPlace}
 use Rattle.qp_kernel_turns.specs.Knowing.{KnowsAt, KnowsObject, MayLook, kept_count, own_count}
-use Rattle.qp_kernel_turns.specs.Starting.{HasBegun, HaveBegun, IsFreshLane, left_from}
+use Rattle.qp_kernel_turns.specs.Starting.{HasBegun, HaveBegun, IsFreshLane, priorities_from}
 use Rattle.qp_kernel_turns.proofs.SoundObjects.{numbered, sound-object}
 use Rattle.qp_kernel.specs.Turning.{Terms}
 use Rattle.qp_model.proofs.AbleLemmas.{some-same}
@@ -38,17 +38,17 @@ use Rattle.qp_model.proofs.ListLemmas.{some-there}
 -- The order of a lane that has done nothing.
 
 lanes-empty : (n : ℕ) (plan : List (List Stim)) → AllByRecursion (λ l. l ≡ []) (lanes_from n plan [])
-unfolding lanes_from told_by
+unfolding lanes_from told_by_source
 lanes-empty n [] = tt
 lanes-empty n (ss ∷ more) = (refl, lanes-empty (n + 1) more)
 
 no-stims : (n k : ℕ) (plan : List (List Stim)) → has_stim (lanes_from n plan []) k ≡ false
-unfolding lanes_from told_by
+unfolding lanes_from told_by_source
 no-stims n k [] = refl
 no-stims n k (ss ∷ more) = no-stims (n + 1) k more
 
 march-begins : (sys : System) (n : ℕ) (plan : List (List Stim)) → SourcesMarch sys n plan []
-unfolding SourcesMarch begun_by told_by SourceRuns
+unfolding SourcesMarch begun_by told_by_source SourceRuns
 march-begins sys n [] = tt
 march-begins sys n (ss ∷ more) = (record { alone = refl; runs = (refl, refl); calm = refl; settled = refl }, march-begins sys (n + 1) more)
 
@@ -70,7 +70,7 @@ has-found (x ∷ xs) o d h = by (x.priority == o) h (λ k. has-found xs o d k)
     by true k go = refl
     by false k go = go k
 
-pub made-held : (d : ObjectDef) (chart : Chart) (x : Object) → IsMade d chart x → held_in x.lasting x.stage ≡ []
+pub made-held : (d : ObjectDef) (chart : Chart) (x : Object) → IsObjectMade d chart x → held_in x.lasting x.stage ≡ []
 made-held d chart x made = ap (held_in x.lasting) made.between ∙ ap (λ es. es ++ []) made.first.empty
 
 pub kept-none : (t : Token) (slots : List (Option Slot)) → ((p : ℕ) (slot : Slot) → slice_get slots p ≡ Some (Some slot) → held_in slot.object.lasting slot.object.stage ≡ []) → kept_count t slots ≡ 0
@@ -97,8 +97,8 @@ made-object sys xs v d chart sound made found its = by there.0 there.1 (made.eac
     by (Some slot) at is =
         let same : is.0.object ≡ d = some-same (sym is.0.of ∙ found) in
         let drawn : is.0.chart ≡ chart = some-same (sym is.0.has ∙ ap (λ x. chart_at sys x.chart) same ∙ its) in
-        let one : IsMade d is.0.chart slot.object = subst (λ x. IsMade x is.0.chart slot.object) same is.0.made in
-        let new : IsMade d chart slot.object = subst (λ x. IsMade d x slot.object) drawn one in
+        let one : IsObjectMade d is.0.chart slot.object = subst (λ x. IsObjectMade x is.0.chart slot.object) same is.0.made in
+        let new : IsObjectMade d chart slot.object = subst (λ x. IsObjectMade d x slot.object) drawn one in
         record {
           slot = slot;
           there = at;
@@ -115,7 +115,7 @@ made-object sys xs v d chart sound made found its = by there.0 there.1 (made.eac
         }
 
 -- before the first start
-pub begun : (sys : System) (xs : Objects) (v : LaneView) → IsSound sys → AreMade sys xs → IsFreshLane sys v → HaveBegun sys (left_from sys 0) xs v
+pub begun : (sys : System) (xs : Objects) (v : LaneView) → IsSound sys → AreMade sys xs → IsFreshLane sys v → HaveBegun sys (priorities_from sys 0) xs v
 unfolding unread object_at ceiling_in
 begun sys xs v sound made fresh = record { knows = knows; order = order-begins sys v fresh.new; no_stim = rw (fresh.new.told) refl }
   where
@@ -125,7 +125,7 @@ begun sys xs v sound made fresh = record { knows = knows; order = order-begins s
     none : (t : Token) → kept_count t xs.slots.items ≡ 0
     none t = kept-none t xs.slots.items (λ p slot at. let is = made.each p (Some slot) at in made-held is.0.object is.0.chart slot.object is.0.made)
 
-    knows : (terms : Terms) → KnowsAt (HasBegun sys (left_from sys 0)) sys terms 0 [] xs v
+    knows : (terms : Terms) → KnowsAt (HasBegun sys (priorities_from sys 0)) sys terms 0 [] xs v
     knows terms = record {
       knows = record {
         state = record { told = []; now = has_stim (lanes_of v); upto = 0; reading = unread sys; owed = 0; stages = λ o. stage.Unstarted; entries = λ o. [] };

@@ -25,7 +25,7 @@ use Rattle.qp_calls.specs.Notes.{told_note}
 use Rattle.qp_calls.proofs.Growing.{room-then}
 use Rattle.qp_calls.specs.declared.answers.Counts as counts
 use Rattle.qp_calls.specs.LaneView.{Gains, GrowsOf, LaneView, Roomier, is_codeless, mark_after, mark_by, no_code, own_after}
-use Rattle.qp_kernel.specs.Happenings.{IsInOrder, has_no_stim, order_of, run_order}
+use Rattle.qp_kernel.specs.Happenings.{IsInOrder, has_no_stim, lane_order, run_order}
 use Rattle.qp_kernel.specs.Interrupting.{Happens, HasNone, IsLaneKept, IsStopped, is_unset}
 use Rattle.qp_kernel.specs.Turning.{look_told, seen_told}
 use Rattle.qp_kernel.proofs.HappeningLemmas.{IsIdleRecord, acts-more, order-more}
@@ -149,7 +149,7 @@ module _ (acts : Bool) (sys : System) (looks n floor : ℕ) (base : Bool) (v u w
   no_stim-w : IsLaneKept u w → has_no_stim w
   no_stim-w kept = rw kept.told no_stim-u
 
-  order-kept : IsLaneKept u w → w.happened ≡ u.happened → order_of w ≡ order_of u
+  order-kept : IsLaneKept u w → w.happened ≡ u.happened → lane_order w ≡ lane_order u
   order-kept kept still = ap (λ ts. run_order 0 (untold_all ts) w.happened) kept.told ∙ ap (run_order 0 (untold_all u.told)) still
 
   pub none-in_order : (a : Stand) → HasNone acts base u w → LookedInOrder acts sys (floor == 0) (record a { looks = n; lane = w }) false
@@ -159,11 +159,11 @@ module _ (acts : Bool) (sys : System) (looks n floor : ℕ) (base : Bool) (v u w
       no_stim = no_stim-w none.untouched.kept;
     };
     none = λ never acting.
-        let asked : acts_next u.sys u.plan (order_of u) base ≡ None = none.none acting no_stim-u in
-        ap (λ p. acts_next sys p (order_of w) (floor == 0)) none.untouched.kept.plan
+        let asked : acts_next u.sys u.plan (lane_order u) base ≡ None = none.none acting no_stim-u in
+        ap (λ p. acts_next sys p (lane_order w) (floor == 0)) none.untouched.kept.plan
         ∙ ap (λ xs. acts_next sys u.plan xs (floor == 0)) (order-kept none.untouched.kept none.happened)
-        ∙ ap (λ b. acts_next sys u.plan (order_of u) b) (sym same)
-        ∙ ap (λ s. acts_next s u.plan (order_of u) base) (sym (gains.sys ∙ of))
+        ∙ ap (λ b. acts_next sys u.plan (lane_order u) b) (sym same)
+        ∙ ap (λ s. acts_next s u.plan (lane_order u) base) (sym (gains.sys ∙ of))
         ∙ asked;
   }
 
@@ -191,10 +191,10 @@ seen-idle p f l m = record { stim = refl; enters = λ o. refl; leaves = λ o. (a
 -- such a record is no matter of which source acts
 pub none-still : (acts : Bool) (sys : System) (looks : ℕ) (t : ToldItem) (v w : LaneView) → IsIdleRecord (placed 0 (untold t)) → Gains (t ∷ []) v w → InOrder acts sys looks v → (base : Bool) → acts ≡ true → NoneActs base sys v → NoneActs base sys w
 none-still acts sys looks t v w idle gains h base acting none =
-    let order : order_of w ≡ order_of v ++ placed 0 (untold t) ∷ [] =
+    let order : lane_order w ≡ lane_order v ++ placed 0 (untold t) ∷ [] =
     rw (gains.told, gains.happened, map-append untold v.told (t ∷ [])) (order-more 0 (untold_all v.told) (untold_all (t ∷ [])) v.happened (within v (h.order acting).rises)) in
-    ap (λ s. acts_next sys s (order_of w) base) gains.plan ∙ ap (λ xs. acts_next sys v.plan xs base) order
-    ∙ acts-more sys v.plan (order_of v) (placed 0 (untold t)) base idle ∙ none
+    ap (λ s. acts_next sys s (lane_order w) base) gains.plan ∙ ap (λ xs. acts_next sys v.plan xs base) order
+    ∙ acts-more sys v.plan (lane_order v) (placed 0 (untold t)) base idle ∙ none
 
 none-seen : (acts : Bool) (sys : System) (looks p f l m : ℕ) (v w : LaneView) → Gains (seen_told p f l m ∷ []) v w → InOrder acts sys looks v → (base : Bool) → acts ≡ true → NoneActs base sys v → NoneActs base sys w
 none-seen acts sys looks p f l m v w gains h base acting none = none-still acts sys looks (seen_told p f l m) v w (seen-idle p f l m) gains h base acting none

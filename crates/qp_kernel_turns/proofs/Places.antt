@@ -12,7 +12,7 @@ use Rattle.qp_dispatch.specs.Resume.{held_in}
 use Rattle.qp_model.specs.declared.systems.System.{System}
 use Rattle.qp_kernel_turns.specs.declared.objects.Objects.{Objects}
 use Rattle.qp_kernel_turns.specs.declared.objects.Slot.{Slot}
-use Rattle.qp_kernel_turns.specs.Objects.{IsAt, Puts}
+use Rattle.qp_kernel_turns.specs.Objects.{IsAt, PutsSlot}
 use Rattle.qp_kernel_turns.specs.Knowing.{HandsCover, HandsFollow, kept_count, own_count}
 use Rattle.qp_model.proofs.AbleLemmas.{some-same}
 
@@ -53,7 +53,7 @@ seats-put (x ∷ xs) zero slot later h = let same : x ≡ Some slot = cc in rw s
 seats-put (x ∷ xs) (suc p) slot later h = ap (λ bs. is_some x ∷ bs) (seats-put xs p slot later h)
 
 -- one object's entries changed as the hands did
-pub follow-put : (xs ys : Objects) (p : ℕ) (slot later : Slot) (v w : LaneView) → IsAt xs p slot → Puts xs ys p later
+pub follow-put : (xs ys : Objects) (p : ℕ) (slot later : Slot) (v w : LaneView) → IsAt xs p slot → PutsSlot xs ys p later
     → ChangeAlike (map entry_of (held_in slot.object.lasting slot.object.stage)) (map entry_of (held_in later.object.lasting later.object.stage)) v w
     → HandsFollow xs v ys w
 follow-put xs ys p slot later v w there put alike = record {

@@ -39,7 +39,7 @@ use Rattle.qp_kernel_turns.specs.declared.objects.Slot.{Slot}
 use Rattle.qp_kernel_turns.specs.AtRest.{HaltsAtRest, OthersRest, RestsAt}
 use Rattle.qp_kernel_turns.specs.Halting.{TurnHalts}
 use Rattle.qp_kernel_turns.specs.Knowing.{HasStack, Knows, StageIs}
-use Rattle.qp_kernel_turns.specs.Objects.{IsAt, Puts}
+use Rattle.qp_kernel_turns.specs.Objects.{IsAt, PutsSlot}
 use Rattle.qp_kernel_turns.specs.Turning.{Stand}
 use Rattle.qp_kernel_turns.proofs.Places.{get-other}
 use Rattle.qp_kernel_turns.proofs.SoundObjects.{numbered}
@@ -169,7 +169,7 @@ module _ (sys : System) (sound : IsSound sys) (terms : Terms) (looks : ℕ) (sta
       (λ d free slot there. there)
 
   -- the step of an object of the stack went on
-  pub rests-stepped : (w : LaneView) (ys : Objects) (level p : ℕ) (later : Slot) (us : List ToldItem) → has stack p ≡ true → Puts xs ys p later → w.told ≡ v.told ++ us
+  pub rests-stepped : (w : LaneView) (ys : Objects) (level p : ℕ) (later : Slot) (us : List ToldItem) → has stack p ≡ true → PutsSlot xs ys p later → w.told ≡ v.told ++ us
       → ((o : ℕ) → 0 < o → (p == o) ≡ false → PassBy o us) → OthersRest sys (record { looks = looks; stack = stack; objects = record ys { ceiling = level }; lane = w })
   rests-stepped w ys level p later us busy puts told pass =
       rests-behind (record { looks = looks; stack = stack; objects = record ys { ceiling = level }; lane = w }) us refl told

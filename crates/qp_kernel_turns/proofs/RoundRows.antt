@@ -21,7 +21,7 @@ use Rattle.qp_kernel_turns.specs.declared.halting.Halt.{Halt}
 use Rattle.qp_kernel_turns.specs.BaseRows.{HasStep, InRow, SameRow, reading_in}
 use Rattle.qp_kernel_turns.specs.Knowing.{IsScanning}
 use Rattle.qp_kernel_turns.specs.Pending.{Pending, StepsOver}
-use Rattle.qp_kernel_turns.specs.TurnRows.{AreApart, RowGoes, RowStops, RowsOver, bare_row, idle_rows}
+use Rattle.qp_kernel_turns.specs.TurnRows.{SourcesAreApart, RowGoes, RowStops, RowsOver, bare_row, idle_rows}
 use Rattle.qp_kernel_turns.specs.Turning.{Stand, Stood}
 use Rattle.qp_kernel_turns.proofs.BaseRows.{few-more, idle-reads, looks-add, looks-again, looks-stepped, looks-within, reading-is}
 use Rattle.qp_kernel_turns.proofs.Rows.{looking-same}
@@ -97,7 +97,7 @@ module _ (sys : System) (terms : Terms) (k l : Kernel) (v u : LaneView) (goes : 
     within-idle p top = (row-within p top).idle ∙ r.row.idle
 
     -- a stimulus came in the look, but for `qk`
-    pub row-again : (acts : Bool) → AreApart acts terms → acts ≡ true → terms.cooperative ≡ false → has_stim (lanes_of d.lane) d.looks ≡ true → RowGoes sys terms k m v d.lane
+    pub row-again : (acts : Bool) → SourcesAreApart acts terms → acts ≡ true → terms.cooperative ≡ false → has_stim (lanes_of d.lane) d.looks ≡ true → RowGoes sys terms k m v d.lane
     row-again acts apart acting plain came = on (subst (SameRow r.here) (sym r.same) (looks-again s r.here [] single there))
       where
         by : (b : Bool) → terms.threaded ≡ b → (kernel_in terms == qk) ≡ false

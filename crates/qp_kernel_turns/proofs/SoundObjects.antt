@@ -14,7 +14,7 @@ use Rattle.qp_model.specs.WordLaw.{is_object}
 use Rattle.qp_model.proofs.NumberLemmas.{number-owned}
 use Rattle.qp_model.proofs.ObjectLemmas.{found-passes}
 use Rattle.qp_model.proofs.ListLemmas.{every-at}
-use Rattle.qp_dispatch.specs.SoundFor.{IsHome}
+use Rattle.qp_dispatch.specs.SoundFor.{IsObjectWithTimers}
 use Rattle.qp_dispatch.specs.Resume.{CanTakeSteps}
 use Rattle.qp_dispatch.proofs.SoundAble.{sound-able, sound-ready}
 use Rattle.qp_kernel.specs.Turning.{AreAble, AreNumbered}
@@ -39,7 +39,7 @@ module _ (sys : System) (sound : IsSound sys) where
   unfolding is_object
   is-object d found = rw found refl
 
-  pub home : (d : ObjectDef) (chart : Chart) → object_at sys d.priority ≡ Some d → chart_at sys d.chart ≡ Some chart → IsHome sys d.priority chart
+  pub home : (d : ObjectDef) (chart : Chart) → object_at sys d.priority ≡ Some d → chart_at sys d.chart ≡ Some chart → IsObjectWithTimers sys d.priority chart
   home d chart found its = record {
     sound = sound;
     some = numbered d found;

@@ -30,9 +30,9 @@ use Rattle.qp_dispatch.specs.declared.objects.Object.{Object}
 use Rattle.qp_dispatch.specs.declared.steps.Step.{Step}
 use Rattle.qp_dispatch.specs.declared.steps.Step.TheVariants as step
 use Rattle.qp_dispatch.specs.Lasts.{actor_of, config_of}
-use Rattle.qp_dispatch.specs.Objects.{ObjectStarts, StartsAs, home_of, is_step_over, works_for}
+use Rattle.qp_dispatch.specs.Objects.{ObjectStarts, StartsAs, setting_for, is_step_over, works_for}
 use Rattle.qp_dispatch.specs.Resume.{CanTakeSteps as ObjectReady, held_in}
-use Rattle.qp_dispatch.specs.Runs.{Setting}
+use Rattle.qp_dispatch.specs.Runs.{ObjectSetting}
 use Rattle.qp_dispatch.specs.Starting.{StartAsserted, StartDone, StartExhausted, StartSpilled, StartsTo}
 use Rattle.qp_kernel.specs.Happenings.{IsInOrder, IsOrderEnded, has_no_stim, lanes_of}
 use Rattle.qp_kernel.specs.Laws.{AllWait, OthersWait}
@@ -44,7 +44,7 @@ use Rattle.qp_kernel.proofs.OrderGrowth.{in_order-grows, order-ends}
 use Rattle.qp_kernel.proofs.TurnLemmas.{FailedForm, start-cut, start-failed, start-form}
 use Rattle.qp_kernel_turns.specs.declared.objects.Objects.{Objects}
 use Rattle.qp_kernel_turns.specs.declared.objects.Slot.{Slot}
-use Rattle.qp_kernel_turns.specs.Objects.{IsAt, MayStartAt, Puts, StartsAt}
+use Rattle.qp_kernel_turns.specs.Objects.{IsAt, MayStartAt, PutsSlot, StartsAt}
 use Rattle.qp_kernel_turns.specs.Knowing.{HandsCover, HandsFollow, HasNotStarted, IsObjectWithChart, IsObjectAt, KnowsAt, KnowsObject, StageIs, last_is}
 use Rattle.qp_model_order.specs.SourceRun.{untold_all}
 use Rattle.qp_kernel.specs.Starts.{IsStartAlone}
@@ -73,8 +73,8 @@ module _ (sys : System) (sound : IsSound sys) (terms : Terms) (p : ℕ) (others 
   abbrev x : Object
   x = its.slot.object
 
-  abbrev home : Setting
-  home = home_of sys n.chart x
+  abbrev home : ObjectSetting
+  home = setting_for sys n.chart x
 
   abbrev V : LaneView
   V = works_for x.me v
@@ -204,7 +204,7 @@ module _ (sys : System) (sound : IsSound sys) (terms : Terms) (p : ℕ) (others 
   gains-on g mid h = subst (λ o. Gains (map (for_object o) g) v (works_for v.by mid)) is-mine (gains-set x.me v.by (map (for_object x.me) g) v mid h)
 
   -- It came to its end.
-  module _ (level : ℕ) (later : Slot) (mid w : LaneView) (zs : Objects) (w-is : w ≡ works_for v.by mid) (puts : Puts xs zs p later) (at-level : zs.ceiling ≡ level) (threshold : later.threshold ≡ its.slot.threshold)
+  module _ (level : ℕ) (later : Slot) (mid w : LaneView) (zs : Objects) (w-is : w ≡ works_for v.by mid) (puts : PutsSlot xs zs p later) (at-level : zs.ceiling ≡ level) (threshold : later.threshold ≡ its.slot.threshold)
       (same : later.object ≡ record x { lasting = later.object.lasting; started = true }) (t : StartDone home level x.lasting later.object.lasting V mid) where
     abbrev c : Config
     c = config_of later.object.lasting

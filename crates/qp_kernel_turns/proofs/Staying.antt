@@ -15,10 +15,10 @@ use Rattle.qp_dispatch.specs.declared.objects.Object.{Object}
 use Rattle.qp_dispatch.specs.declared.lasting.Lasting.{Lasting}
 use Rattle.qp_dispatch.specs.declared.steps.Going.{Going}
 use Rattle.qp_dispatch.specs.declared.steps.Position.TheVariants as standing
-use Rattle.qp_dispatch.specs.Objects.{home_of}
+use Rattle.qp_dispatch.specs.Objects.{setting_for}
 use Rattle.qp_dispatch.specs.Parts.{held_by}
-use Rattle.qp_dispatch.specs.Resume.{IsGoing, IsUnderWay, event_in, held_in, left_of}
-use Rattle.qp_dispatch.specs.Runs.{Setting, hand_of}
+use Rattle.qp_dispatch.specs.Resume.{IsGoing, IsUnderWay, step_event, held_in, remainder_of}
+use Rattle.qp_dispatch.specs.Runs.{ObjectSetting, hand_of}
 use Rattle.qp_dispatch.proofs.Naming.{publishing-still}
 use Rattle.qp_kernel.specs.Stages as stage
 use Rattle.qp_kernel.specs.Stages.{Stage, is_resting, may_wait}
@@ -27,7 +27,7 @@ use Rattle.qp_kernel.specs.Laws.{AllWait, OthersWait}
 use Rattle.qp_kernel.proofs.KernelTurns.{only}
 use Rattle.qp_kernel_turns.specs.declared.objects.Objects.{Objects}
 use Rattle.qp_kernel_turns.specs.declared.objects.Slot.{Slot}
-use Rattle.qp_kernel_turns.specs.Objects.{IsAt, Puts}
+use Rattle.qp_kernel_turns.specs.Objects.{IsAt, PutsSlot}
 use Rattle.qp_kernel_turns.specs.Knowing.{HandsCover, HasStack, IsObjectAt, KnowsAll, KnowsObject, StageIs, is_paused}
 use Rattle.qp_kernel_turns.proofs.Places.{get-other, get-put, own-stand}
 
@@ -65,7 +65,7 @@ others-wait sys s p outer running stack d found other = by (has outer d.priority
 
 -- An object that waits, in a lane that has gone on.
 
-going-still : (home : Setting) (k : Lasting) (g : Going) (v w : LaneView) → w.sys ≡ v.sys → StandAll (held_in k (standing.Within g)) w → IsGoing home k g v → IsGoing home k g w
+going-still : (home : ObjectSetting) (k : Lasting) (g : Going) (v w : LaneView) → w.sys ≡ v.sys → StandAll (held_in k (standing.Within g)) w → IsGoing home k g v → IsGoing home k g w
 going-still home k g v w same all h = record {
   hand = h.hand;
   is = h.is;
@@ -82,7 +82,7 @@ stage-still sys d chart x v w stage.Unstarted same all waits h = h
 stage-still sys d chart x v w (stage.Resting c) same all waits h = h
 stage-still sys d chart x v w (stage.Begun ev e left c) same all waits h = absurd (cc)
 stage-still sys d chart x v w (stage.Paused ev e left c) same all waits (g, is, h) =
-    let home = home_of sys chart x in
+    let home = setting_for sys chart x in
     let going : IsGoing home x.lasting g v = subst (λ z. IsUnderWay home x.lasting z v) is h.under_way in
     let here : StandAll (held_in x.lasting (standing.Within g)) w = subst (λ z. StandAll (held_in x.lasting z) w) is all in (
       g,
@@ -90,9 +90,9 @@ stage-still sys d chart x v w (stage.Paused ev e left c) same all waits (g, is, 
       record {
         started = h.started;
         under_way = subst (λ z. IsUnderWay home x.lasting z w) (sym is) (going-still home x.lasting g v w same here going);
-        event = h.event ∙ ap (λ z. event_in z v) is ∙ sym (ap (λ z. event_in z w) is);
+        event = h.event ∙ ap (λ z. step_event z v) is ∙ sym (ap (λ z. step_event z w) is);
         entry = h.entry;
-        left = h.left ∙ ap (λ z. left_of home x.lasting z v) is ∙ sym (ap (λ z. left_of home x.lasting z w) is);
+        left = h.left ∙ ap (λ z. remainder_of home x.lasting z v) is ∙ sym (ap (λ z. remainder_of home x.lasting z w) is);
         config = h.config;
       },
     )
@@ -124,7 +124,7 @@ all-still sys xs v w stages entries same of cover waits all d chart found its =
 -- one goes on while the others wait
 pub all-put : (sys : System) (xs ys : Objects) (v w : LaneView) (stages : ℕ → Stage) (entries : ℕ → List model.Entry) (p : ℕ) (o : ObjectDef) (chart : Chart) (slot later : Slot) (s : Stage) (es : List model.Entry)
     → o.priority ≡ p → object_at sys o.priority ≡ Some o → chart_at sys o.chart ≡ Some chart
-    → w.sys ≡ v.sys → v.sys ≡ sys → HandsCover ys w → IsAt xs p slot → Puts xs ys p later
+    → w.sys ≡ v.sys → v.sys ≡ sys → HandsCover ys w → IsAt xs p slot → PutsSlot xs ys p later
     → ((d : ObjectDef) → object_at sys d.priority ≡ Some d → (p == d.priority) ≡ false → may_wait (stages d.priority) ≡ true)
     → IsObjectAt sys o chart later w s (length es) → KnowsAll sys xs v stages entries → KnowsAll sys ys w (moved stages p s) (having entries p es)
 all-put sys xs ys v w stages entries p o chart slot later s es priority here has same of cover there put waits now all d other found its = by (p == d.priority) refl

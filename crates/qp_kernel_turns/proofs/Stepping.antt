@@ -31,10 +31,10 @@ use Rattle.qp_dispatch.specs.declared.lasting.Lasting.{Lasting}
 use Rattle.qp_dispatch.specs.declared.steps.Position.{Position}
 use Rattle.qp_dispatch.specs.declared.part.Under.{Under}
 use Rattle.qp_dispatch.specs.Parts.{IsPublishing, held_by, left_by as left_by_under}
-use Rattle.qp_dispatch.specs.Runs.{Setting, hand_of, tasks_in}
+use Rattle.qp_dispatch.specs.Runs.{ObjectSetting, hand_of, tasks_in}
 use Rattle.qp_chart.specs.Task.{Task}
 use Rattle.qp_model.specs.Able.{task_able}
-use Rattle.qp_model.specs.Standing.{Advances}
+use Rattle.qp_model.specs.Standing.{StepAdvances}
 use Rattle.qp_calls.specs.declared.tokens.HeldEntry.{HeldEntry}
 use Rattle.qp_calls.specs.declared.tokens.HeldEntry.TheVariants as token
 use Rattle.std.specs.Option.{option_and_then}
@@ -44,7 +44,7 @@ use Rattle.qp_kernel.proofs.CeilingLemmas.{ceiling-next}
 use Rattle.qp_kernel.specs.Turning.{spill_told, Terms, kernel_in}
 use Rattle.qp_dispatch.specs.declared.steps.Position.TheVariants as standing
 use Rattle.qp_dispatch.specs.Lasts.{actor_of, config_of}
-use Rattle.qp_dispatch.specs.Objects.{ObjectResumes, ResumesAs, home_of, works_for}
+use Rattle.qp_dispatch.specs.Objects.{ObjectResumes, ResumesAs, setting_for, works_for}
 use Rattle.qp_dispatch.specs.declared.steps.Step.{Step}
 use Rattle.qp_dispatch.specs.declared.steps.Step.TheVariants as step
 use Rattle.qp_kernel_turns.specs.BaseRows.{SameRow, reading_in}
@@ -55,7 +55,7 @@ use Rattle.qp_chart_compiled.specs.Compiled.{IsCompiled}
 use Rattle.qp_calls.specs.Deferring.{ChangeAlike}
 use Rattle.qp_calls.proofs.NoteLemmas.{last-snoc}
 use Rattle.qp_dispatch.specs.Resume.{CanTakeSteps as ObjectReady}
-use Rattle.qp_dispatch.specs.Resume.{EndsAsserted, EndsSpilled, IsGoing, IsUnderWay, ToEnd, ToPoint, event_in, held_in, left_of, step_entry}
+use Rattle.qp_dispatch.specs.Resume.{EndsAsserted, EndsSpilled, IsGoing, IsUnderWay, ToEnd, ToPoint, step_event, held_in, remainder_of, step_entry}
 use Rattle.qp_kernel.specs.Happenings.{lanes_of}
 use Rattle.qp_kernel.specs.Laws.{AllWait, OthersWait}
 use Rattle.qp_kernel.specs.LaneZero.{owed_point, row_of, setting, told_pieces}
@@ -78,7 +78,7 @@ use Rattle.qp_kernel_turns.proofs.Ordered.{ends-in_order, grows-in_order, halts-
 use Rattle.qp_kernel.proofs.StageLemmas.{comes-within}
 use Rattle.qp_kernel_turns.specs.declared.objects.Objects.{Objects}
 use Rattle.qp_kernel_turns.specs.declared.objects.Slot.{Slot}
-use Rattle.qp_kernel_turns.specs.Objects.{IsAt, MayResumeAt, Puts, ResumesAt}
+use Rattle.qp_kernel_turns.specs.Objects.{IsAt, MayResumeAt, PutsSlot, ResumesAt}
 use Rattle.qp_kernel_turns.specs.Knowing.{Descends, HandsCover, HandsFollow, IsInTurn, IsLane, IsObjectWithChart, IsObjectAt, IsRunning, Knows, KnowsAt, KnowsObject, MayLook, StageIs, is_busy, is_paused, last_is}
 use Rattle.qp_kernel_turns.proofs.Places.{cover-follows, follow-put}
 use Rattle.qp_kernel_turns.proofs.SoundObjects.{able, numbered, ready}
@@ -103,7 +103,7 @@ pub record IsBusy (sys : System) (d : ObjectDef) (chart : Chart) (x : Object) (v
   pub due : Remainder
   pub c : Config
   pub within : (s ≡ stage.Begun ev e due c) ⊎ (s ≡ stage.Paused ev e due c)
-  pub turn : IsInTurn (home_of sys chart x) ev e due c x v
+  pub turn : IsInTurn (setting_for sys chart x) ev e due c x v
 
 pub busy-is : (sys : System) (d : ObjectDef) (chart : Chart) (x : Object) (v : LaneView) (s : Stage) → is_busy s ≡ true → StageIs sys d chart x v s → IsBusy sys d chart x v s
 busy-is sys d chart x v (stage.Begun ev e due c) busy h = record { ev = ev; e = e; due = due; c = c; within = inl refl; turn = h }
@@ -113,13 +113,13 @@ busy-is sys d chart x v (stage.Resting c) busy h = absurd (cc)
 
 -- The lane, while it works for an object.
 
-pub event-by : (st : Position) (o : ℕ) (v : LaneView) → event_in st (works_for o v) ≡ event_in st v
+pub event-by : (st : Position) (o : ℕ) (v : LaneView) → step_event st (works_for o v) ≡ step_event st v
 event-by standing.Between o v = refl
 event-by (standing.Taken (token.Static sig)) o v = refl
 event-by (standing.Taken (token.Pool h)) o v = refl
 event-by (standing.Within g) o v = refl
 
-pub left-by : (home : Setting) (k : Lasting) (st : Position) (o : ℕ) (v : LaneView) → left_of home k st (works_for o v) ≡ left_of home k st v
+pub left-by : (home : ObjectSetting) (k : Lasting) (st : Position) (o : ℕ) (v : LaneView) → remainder_of home k st (works_for o v) ≡ remainder_of home k st v
 left-by home k standing.Between o v = refl
 left-by home k (standing.Taken (token.Static sig)) o v = refl
 left-by home k (standing.Taken (token.Pool h)) o v = refl
@@ -132,7 +132,7 @@ publishing-by : (u : Option Under) (o : ℕ) (v : LaneView) → IsPublishing u v
 publishing-by None o v h = tt
 publishing-by (Some u) o v h = h
 
-pub under-way-by : (home : Setting) (k : Lasting) (st : Position) (o : ℕ) (v : LaneView) → IsUnderWay home k st v → IsUnderWay home k st (works_for o v)
+pub under-way-by : (home : ObjectSetting) (k : Lasting) (st : Position) (o : ℕ) (v : LaneView) → IsUnderWay home k st v → IsUnderWay home k st (works_for o v)
 under-way-by home k standing.Between o v h = h
 under-way-by home k (standing.Taken e) o v h = record { stand = stand-by (k.list.entries.items ++ e ∷ []) o v h.stand; few = h.few }
 under-way-by home k (standing.Within g) o v h = record {
@@ -239,8 +239,8 @@ module _ (sys : System) (sound : IsSound sys) (terms : Terms) (looks : ℕ) (fro
   abbrev x : Object
   x = its.slot.object
 
-  abbrev home : Setting
-  home = home_of sys n.chart x
+  abbrev home : ObjectSetting
+  home = setting_for sys n.chart x
 
   abbrev V : LaneView
   V = works_for x.me v
@@ -260,13 +260,13 @@ module _ (sys : System) (sound : IsSound sys) (terms : Terms) (looks : ℕ) (fro
   turn : IsInTurn home busy.ev busy.e busy.due busy.c x v
   turn = busy.turn
 
-  within : IsWithinStep (s.stages p) (event_in x.stage V) (step_entry x.stage) (left_of home x.lasting x.stage V) (config_of x.lasting)
+  within : IsWithinStep (s.stages p) (step_event x.stage V) (step_entry x.stage) (remainder_of home x.lasting x.stage V) (config_of x.lasting)
   within = by busy.within
     where
-      ev-is : busy.ev ≡ event_in x.stage V
+      ev-is : busy.ev ≡ step_event x.stage V
       ev-is = turn.event ∙ sym (event-by x.stage x.me v)
 
-      left-is : busy.due ≡ left_of home x.lasting x.stage V
+      left-is : busy.due ≡ remainder_of home x.lasting x.stage V
       left-is = turn.left ∙ sym (left-by home x.lasting x.stage x.me v)
 
       at-p : s.stages p ≡ s.stages n.object.priority
@@ -279,7 +279,7 @@ module _ (sys : System) (sound : IsSound sys) (terms : Terms) (looks : ℕ) (fro
       config-is = turn.config
 
       by : (s.stages n.object.priority ≡ stage.Begun busy.ev busy.e busy.due busy.c) ⊎ (s.stages n.object.priority ≡ stage.Paused busy.ev busy.e busy.due busy.c)
-          → IsWithinStep (s.stages p) (event_in x.stage V) (step_entry x.stage) (left_of home x.lasting x.stage V) (config_of x.lasting)
+          → IsWithinStep (s.stages p) (step_event x.stage V) (step_entry x.stage) (remainder_of home x.lasting x.stage V) (config_of x.lasting)
       by (inl h) = inl (cc (at-p, h, ev-is, left-is, entry-is, config-is))
       by (inr h) = inr (cc (at-p, h, ev-is, left-is, entry-is, config-is))
 
@@ -319,21 +319,21 @@ module _ (sys : System) (sound : IsSound sys) (terms : Terms) (looks : ℕ) (fro
   none-outer : has at.outer p ≡ false
   none-outer = above-not p at.outer (subst Descends at.step.running at.stack.descends).0
 
-  closing : closes (left_of home x.lasting x.stage V).tasks ≡ true
+  closing : closes (remainder_of home x.lasting x.stage V).tasks ≡ true
   closing =
       (comes-within sys (actor n.object n.chart) (first_config n.object) (s.entries n.object.priority) (told_pieces (setting sys (kernel_in terms) s.now) n.object.priority (unread sys) s.told ++ owed_point s.owed n.object.priority) (s.stages n.object.priority)
-      (event_in x.stage V) (step_entry x.stage) (left_of home x.lasting x.stage V) (config_of x.lasting) (subst (λ o. IsWithinStep (s.stages o) (event_in x.stage V) (step_entry x.stage) (left_of home x.lasting x.stage V) (config_of x.lasting)) (sym n.is) within)
+      (step_event x.stage V) (step_entry x.stage) (remainder_of home x.lasting x.stage V) (config_of x.lasting) (subst (λ o. IsWithinStep (s.stages o) (step_event x.stage V) (step_entry x.stage) (remainder_of home x.lasting x.stage V) (config_of x.lasting)) (sym n.is) within)
       (k.stands.pieces s.now (λ m le. refl) n.object n.chart n.found n.its)).1.closing
 
   -- the records of p at the end of the lane
   grown : (g : List Told) (mid : LaneView) → Grows g V mid → mid.told ≡ v.told ++ map (for_object p) g
   grown g mid h = h.told ∙ ap (λ o. v.told ++ map (for_object o) g) is-mine
 
-  goes-as : (g : List Piece) (end : Option Config) → StepGoesOn V.sys (actor_of x.me n.chart x.lasting) (event_in x.stage V) (step_entry x.stage) (left_of home x.lasting x.stage V) (config_of x.lasting) g end
-      → StepGoesOn sys (actor n.object n.chart) (event_in x.stage V) (step_entry x.stage) (left_of home x.lasting x.stage V) (config_of x.lasting) g end
+  goes-as : (g : List Piece) (end : Option Config) → StepGoesOn V.sys (actor_of x.me n.chart x.lasting) (step_event x.stage V) (step_entry x.stage) (remainder_of home x.lasting x.stage V) (config_of x.lasting) g end
+      → StepGoesOn sys (actor n.object n.chart) (step_event x.stage V) (step_entry x.stage) (remainder_of home x.lasting x.stage V) (config_of x.lasting) g end
   goes-as g end h =
-      subst (λ a. StepGoesOn sys a (event_in x.stage V) (step_entry x.stage) (left_of home x.lasting x.stage V) (config_of x.lasting) g end) is-actor
-      (subst (λ y. StepGoesOn y (actor_of x.me n.chart x.lasting) (event_in x.stage V) (step_entry x.stage) (left_of home x.lasting x.stage V) (config_of x.lasting) g end) k.lane.of h)
+      subst (λ a. StepGoesOn sys a (step_event x.stage V) (step_entry x.stage) (remainder_of home x.lasting x.stage V) (config_of x.lasting) g end) is-actor
+      (subst (λ y. StepGoesOn y (actor_of x.me n.chart x.lasting) (step_event x.stage V) (step_entry x.stage) (remainder_of home x.lasting x.stage V) (config_of x.lasting) g end) k.lane.of h)
 
   now-of : (w : LaneView) → lanes_of w ≡ lanes_of v → s.now ≡ has_stim (lanes_of w)
   now-of w lanes = k.now ∙ ap has_stim (sym lanes)
@@ -363,12 +363,12 @@ module _ (sys : System) (sound : IsSound sys) (terms : Terms) (looks : ℕ) (fro
     pub asserted-ends : (end : ℕ) → may_cut end ≡ true → EndsFew sys terms end s.reading.idle w.told (has_stim (lanes_of w))
     asserted-ends end cut =
         subst (λ ts. EndsFew sys terms end s.reading.idle ts (has_stim (lanes_of w))) (sym asserted-told)
-        (assertion_ends_step sys terms end s (has_stim (lanes_of w)) p n.object n.chart at.outer a.g (event_in x.stage V) (step_entry x.stage) (left_of home x.lasting x.stage V) (config_of x.lasting)
+        (assertion_ends_step sys terms end s (has_stim (lanes_of w)) p n.object n.chart at.outer a.g (step_event x.stage V) (step_entry x.stage) (remainder_of home x.lasting x.stage V) (config_of x.lasting)
         (numbered sys sound) (able sys sound) is-object positive k.stands (agreed s (has_stim (lanes_of w)) (now-of w lanes)) cut at.owed at.step within (goes-as (tell a.g) None a.goes) others)
 
     pub asserted-code : 0 < last_code w.told
     asserted-code =
-        let form = failed-form sys (actor n.object n.chart) (event_in x.stage V) (step_entry x.stage) (left_of home x.lasting x.stage V) (config_of x.lasting) closing p a.g (goes-as (tell a.g) None a.goes) in
+        let form = failed-form sys (actor n.object n.chart) (step_event x.stage V) (step_entry x.stage) (remainder_of home x.lasting x.stage V) (config_of x.lasting) closing p a.g (goes-as (tell a.g) None a.goes) in
         rw asserted-told (code-behind s.told (map (for_object p) a.g) (ends-code (map (for_object p) a.g) form.ends form.asserts))
 
     pub asserted-alone : AddsAlone p v w
@@ -389,12 +389,12 @@ module _ (sys : System) (sound : IsSound sys) (terms : Terms) (looks : ℕ) (fro
     count = ap length (grown b.g b.mid b.grows ∙ ap (λ ts. ts ++ map (for_object p) b.g) (sym k.told)) ∙ length-append s.told (map (for_object p) b.g) ∙ ap (λ i. length s.told + i) (length-map b.g (for_object p))
 
     calm : list_any (λ t. is_end t.body) b.g ≡ false
-    calm = cut-calm sys (actor n.object n.chart) (event_in x.stage V) (step_entry x.stage) (left_of home x.lasting x.stage V) (config_of x.lasting) closing b.g b.begins.0 b.begins.1 b.begins.3
+    calm = cut-calm sys (actor n.object n.chart) (step_event x.stage V) (step_entry x.stage) (remainder_of home x.lasting x.stage V) (config_of x.lasting) closing b.g b.begins.0 b.begins.1 b.begins.3
         (goes-as (tell b.g ++ b.begins.0) b.begins.1 b.begins.2)
 
     spilled-by : (end : ℕ) → may_cut end ≡ true → last_is p (s.told ++ map (for_object p) b.g) ≡ true → EndsFew sys terms end s.reading.idle (s.told ++ (map (for_object p) b.g ++ spill_told (length b.mid.told) ∷ [])) (has_stim (lanes_of w))
     spilled-by end cut last =
-        spill_ends_step sys terms end s (has_stim (lanes_of w)) p n.object n.chart at.outer b.g (length b.mid.told) (event_in x.stage V) (step_entry x.stage) (left_of home x.lasting x.stage V) (config_of x.lasting) b.begins.0 b.begins.1
+        spill_ends_step sys terms end s (has_stim (lanes_of w)) p n.object n.chart at.outer b.g (length b.mid.told) (step_event x.stage V) (step_entry x.stage) (remainder_of home x.lasting x.stage V) (config_of x.lasting) b.begins.0 b.begins.1
         (numbered sys sound) (able sys sound) is-object positive k.stands (agreed s (has_stim (lanes_of w)) (now-of w lanes)) cut at.owed at.step within calm (goes-as (tell b.g ++ b.begins.0) b.begins.1 b.begins.2) others
         (record {
           count = count;
@@ -436,7 +436,7 @@ module _ (sys : System) (sound : IsSound sys) (terms : Terms) (looks : ℕ) (fro
     }
 
   -- On to a scheduling point, or to the end.
-  module _ (level : ℕ) (later : Slot) (mid w : LaneView) (zs : Objects) (w-is : w ≡ works_for v.by mid) (puts : Puts xs zs p later) (at-level : zs.ceiling ≡ level) (threshold : later.threshold ≡ its.slot.threshold)
+  module _ (level : ℕ) (later : Slot) (mid w : LaneView) (zs : Objects) (w-is : w ≡ works_for v.by mid) (puts : PutsSlot xs zs p later) (at-level : zs.ceiling ≡ level) (threshold : later.threshold ≡ its.slot.threshold)
       (same : later.object ≡ record x { lasting = later.object.lasting; stage = later.object.stage }) where
     lanes-w : (g : List Told) → Grows g V mid → lanes_of w ≡ lanes_of v
     lanes-w g h = same-lanes v w (ap (λ u. u.plan) w-is ∙ h.plan) (ap (λ u. u.happened) w-is ∙ h.happened)
@@ -474,8 +474,8 @@ module _ (sys : System) (sound : IsSound sys) (terms : Terms) (looks : ℕ) (fro
     started-w : later.object.started ≡ true
     started-w = ap (λ o. o.started) same ∙ turn.started
 
-    home-w : home_of sys n.chart later.object ≡ home
-    home-w = ap (home_of sys n.chart) same
+    home-w : setting_for sys n.chart later.object ≡ home
+    home-w = ap (setting_for sys n.chart) same
 
     moved-other : (st : Stage) (o : ℕ) → (p == o) ≡ false → moved s.stages p st o ≡ s.stages o
     moved-other st o h = rw h refl
@@ -502,7 +502,7 @@ module _ (sys : System) (sound : IsSound sys) (terms : Terms) (looks : ℕ) (fro
         entries = having s.entries p (s.entries p);
       })
       ends =
-          step_ends sys terms s p n.object n.chart at.outer t.g (event_in x.stage V) (step_entry x.stage) (left_of home x.lasting x.stage V) (config_of x.lasting) (config_of later.object.lasting)
+          step_ends sys terms s p n.object n.chart at.outer t.g (step_event x.stage V) (step_entry x.stage) (remainder_of home x.lasting x.stage V) (config_of x.lasting) (config_of later.object.lasting)
           (numbered sys sound) is-object positive k.stands at.owed at.step within (goes-as (tell t.g) (Some (config_of later.object.lasting)) t.goes)
 
       abbrev after : KernelState
@@ -585,28 +585,28 @@ module _ (sys : System) (sound : IsSound sys) (terms : Terms) (looks : ℕ) (fro
     -- to its next scheduling point
     module _ (t : ToPoint home xs.ceiling level x.lasting x.stage later.object.lasting later.object.stage V mid) where
       abbrev due : Remainder
-      due = left_of home later.object.lasting later.object.stage mid
+      due = remainder_of home later.object.lasting later.object.stage mid
 
       abbrev paused : Stage
-      paused = stage.Paused (event_in x.stage V) (step_entry x.stage) due (config_of later.object.lasting)
+      paused = stage.Paused (step_event x.stage V) (step_entry x.stage) due (config_of later.object.lasting)
 
       going : IsGoing home later.object.lasting t.going mid
       going = subst (λ z. IsUnderWay home later.object.lasting z mid) t.stands t.under_way
 
       due-tasks : due.tasks ≡ tasks_in home t.going.left
-      due-tasks = ap (λ z. (left_of home later.object.lasting z mid).tasks) t.stands ∙ tasks-of t.going.left.under (tasks_in home t.going.left) t.going.leaf
+      due-tasks = ap (λ z. (remainder_of home later.object.lasting z mid).tasks) t.stands ∙ tasks-of t.going.left.under (tasks_in home t.going.left) t.going.leaf
 
       ready-due : IsReady sys (actor n.object n.chart) due (config_of later.object.lasting)
       ready-due = record {
         able = subst (λ ts. list_all (task_able sys true) ts ≡ true) (sym due-tasks) going.able;
-        closing = closes-left V.sys (actor_of x.me n.chart x.lasting) (moment (event_in x.stage V) (step_entry x.stage)) (left_of home x.lasting x.stage V) due (config_of x.lasting) (config_of later.object.lasting) t.g t.done closing t.split t.reaches;
+        closing = closes-left V.sys (actor_of x.me n.chart x.lasting) (moment (step_event x.stage V) (step_entry x.stage)) (remainder_of home x.lasting x.stage V) due (config_of x.lasting) (config_of later.object.lasting) t.g t.done closing t.split t.reaches;
         room = subst (λ i. length (kept_in later.object.lasting.list) ≤ i) (t.room ∙ its.is.room) going.few;
       }
 
-      advances : Advances sys (actor n.object n.chart) (event_in x.stage V) (step_entry x.stage) (left_of home x.lasting x.stage V) (config_of x.lasting) (tell t.g ++ Point ∷ []) due (config_of later.object.lasting)
+      advances : StepAdvances sys (actor n.object n.chart) (step_event x.stage V) (step_entry x.stage) (remainder_of home x.lasting x.stage V) (config_of x.lasting) (tell t.g ++ Point ∷ []) due (config_of later.object.lasting)
       advances =
-          subst (λ a. Advances sys a (event_in x.stage V) (step_entry x.stage) (left_of home x.lasting x.stage V) (config_of x.lasting) (tell t.g ++ Point ∷ []) due (config_of later.object.lasting)) is-actor
-          (subst (λ y. Advances y (actor_of x.me n.chart x.lasting) (event_in x.stage V) (step_entry x.stage) (left_of home x.lasting x.stage V) (config_of x.lasting) (tell t.g ++ Point ∷ []) due (config_of later.object.lasting)) k.lane.of t.advances)
+          subst (λ a. StepAdvances sys a (step_event x.stage V) (step_entry x.stage) (remainder_of home x.lasting x.stage V) (config_of x.lasting) (tell t.g ++ Point ∷ []) due (config_of later.object.lasting)) is-actor
+          (subst (λ y. StepAdvances y (actor_of x.me n.chart x.lasting) (step_event x.stage V) (step_entry x.stage) (remainder_of home x.lasting x.stage V) (config_of x.lasting) (tell t.g ++ Point ∷ []) due (config_of later.object.lasting)) k.lane.of t.advances)
 
       pauses : (lv : ℕ) × Stands sys terms (record s {
         told = s.told ++ map (for_object p) t.g;
@@ -616,7 +616,7 @@ module _ (sys : System) (sound : IsSound sys) (terms : Terms) (looks : ℕ) (fro
         entries = having s.entries p (s.entries p);
       })
       pauses =
-          step_pauses sys terms s p n.object n.chart at.outer t.g (event_in x.stage V) (step_entry x.stage) (left_of home x.lasting x.stage V) due (config_of x.lasting) (config_of later.object.lasting)
+          step_pauses sys terms s p n.object n.chart at.outer t.g (step_event x.stage V) (step_entry x.stage) (remainder_of home x.lasting x.stage V) due (config_of x.lasting) (config_of later.object.lasting)
           (numbered sys sound) is-object positive k.stands at.owed at.step within advances ready-due
 
       abbrev waiting : KernelState
@@ -646,8 +646,8 @@ module _ (sys : System) (sound : IsSound sys) (terms : Terms) (looks : ℕ) (fro
       ceiling-point : waiting.reading.ceiling ≡ zs.ceiling
       ceiling-point = ceiling-of sys terms waiting pauses.1 ∙ ap (ceiling_in 0) (told-w t.g t.grows) ∙ ap (λ u. ceiling_in 0 u.told) w-is ∙ sym t.lane.told ∙ sym at-level
 
-      turn-point : IsInTurn home (event_in x.stage V) (step_entry x.stage) due (config_of later.object.lasting) later.object w
-      turn-point = subst (λ u. IsInTurn home (event_in x.stage V) (step_entry x.stage) due (config_of later.object.lasting) later.object u) (sym w-is) (record {
+      turn-point : IsInTurn home (step_event x.stage V) (step_entry x.stage) due (config_of later.object.lasting) later.object w
+      turn-point = subst (λ u. IsInTurn home (step_event x.stage V) (step_entry x.stage) due (config_of later.object.lasting) later.object u) (sym w-is) (record {
         started = started-w;
         under_way = under-way-by home later.object.lasting later.object.stage v.by mid t.under_way;
         event = sym t.same_event ∙ sym (event-by later.object.stage v.by mid);
@@ -657,7 +657,7 @@ module _ (sys : System) (sound : IsSound sys) (terms : Terms) (looks : ℕ) (fro
       })
 
       stage-point : StageIs sys n.object n.chart later.object w paused
-      stage-point = (t.going, t.stands, subst (λ h. IsInTurn h (event_in x.stage V) (step_entry x.stage) due (config_of later.object.lasting) later.object w) (sym home-w) turn-point)
+      stage-point = (t.going, t.stands, subst (λ h. IsInTurn h (step_event x.stage V) (step_entry x.stage) due (config_of later.object.lasting) later.object w) (sym home-w) turn-point)
 
       pub stepped-point : KnowsAt (MayLook sys terms) sys terms looks (front ++ p ∷ []) zs w
       stepped-point = record {
@@ -772,24 +772,24 @@ module _ (sys : System) (sound : IsSound sys) (terms : Terms) (looks : ℕ) (fro
         grows-in_order acts sys looks (map (for_object p) g) v w (gains-on g mid w is grows) quiet.lookless (calm-items p g ∙ quiet.calm) (unstim-items p g unstim) h
 
     done-order : (g : List Told) (d : Config) (mid w : LaneView) → w ≡ works_for v.by mid → Grows g V mid
-        → StepGoesOn V.sys (actor_of x.me n.chart x.lasting) (event_in x.stage V) (step_entry x.stage) (left_of home x.lasting x.stage V) (config_of x.lasting) (tell g) (Some d) → InOrder acts sys looks w
+        → StepGoesOn V.sys (actor_of x.me n.chart x.lasting) (step_event x.stage V) (step_entry x.stage) (remainder_of home x.lasting x.stage V) (config_of x.lasting) (tell g) (Some d) → InOrder acts sys looks w
     done-order g d mid w is grows goes =
-        let form = done-form sys (actor n.object n.chart) (event_in x.stage V) (step_entry x.stage) (left_of home x.lasting x.stage V) (config_of x.lasting) closing g d (goes-as (tell g) (Some d) goes) in
+        let form = done-form sys (actor n.object n.chart) (step_event x.stage V) (step_entry x.stage) (remainder_of home x.lasting x.stage V) (config_of x.lasting) closing g d (goes-as (tell g) (Some d) goes) in
         goes-quiet g mid w is grows (subst (IsQuiet p) (sym form.whole) (done-quiet p form.front form.rel form.own form.calm form.drops)) form.unstim
 
     point-order : (g : List Told) (due : Remainder) (d : Config) (mid w : LaneView) → w ≡ works_for v.by mid → Grows g V mid
-        → Advances sys (actor n.object n.chart) (event_in x.stage V) (step_entry x.stage) (left_of home x.lasting x.stage V) (config_of x.lasting) (tell g ++ Point ∷ []) due d
+        → StepAdvances sys (actor n.object n.chart) (step_event x.stage V) (step_entry x.stage) (remainder_of home x.lasting x.stage V) (config_of x.lasting) (tell g ++ Point ∷ []) due d
         → IsReady sys (actor n.object n.chart) due d → InOrder acts sys looks w
-    unfolding Advances
+    unfolding StepAdvances
     point-order g due d mid w is grows advances able-due =
-        let rest = goes_on-completes sys (actor n.object n.chart) (event_in x.stage V) (step_entry x.stage) due d able-due.able able-due.room in
-        let inside = point-inner sys (actor n.object n.chart) (event_in x.stage V) (step_entry x.stage) (left_of home x.lasting x.stage V) (config_of x.lasting) closing g rest.0 rest.1
-        (subst (λ ps. StepGoesOn sys (actor n.object n.chart) (event_in x.stage V) (step_entry x.stage) (left_of home x.lasting x.stage V) (config_of x.lasting) ps rest.1) (append_assoc (tell g) (Point ∷ []) rest.0) (advances rest.0 rest.1 rest.2)) in
+        let rest = goes_on-completes sys (actor n.object n.chart) (step_event x.stage V) (step_entry x.stage) due d able-due.able able-due.room in
+        let inside = point-inner sys (actor n.object n.chart) (step_event x.stage V) (step_entry x.stage) (remainder_of home x.lasting x.stage V) (config_of x.lasting) closing g rest.0 rest.1
+        (subst (λ ps. StepGoesOn sys (actor n.object n.chart) (step_event x.stage V) (step_entry x.stage) (remainder_of home x.lasting x.stage V) (config_of x.lasting) ps rest.1) (append_assoc (tell g) (Point ∷ []) rest.0) (advances rest.0 rest.1 rest.2)) in
         goes-quiet g mid w is grows (record { calm = inner-calm g inside; lookless = own-lookless p g (inner-own g inside) }) (inner-unstim g inside)
 
     asserted-order : (y : Lasting) (z : Position) (mid w : LaneView) → w ≡ works_for v.by mid → EndsAsserted home x.lasting x.stage y z V mid → StopsInOrder acts sys v w
     asserted-order y z mid w is a =
-        let form = failed-form sys (actor n.object n.chart) (event_in x.stage V) (step_entry x.stage) (left_of home x.lasting x.stage V) (config_of x.lasting) closing p a.g (goes-as (tell a.g) None a.goes) in
+        let form = failed-form sys (actor n.object n.chart) (step_event x.stage V) (step_entry x.stage) (remainder_of home x.lasting x.stage V) (config_of x.lasting) closing p a.g (goes-as (tell a.g) None a.goes) in
         ends-in_order acts sys looks a.code (map (for_object p) a.g) v (works_for v.by a.mid) w (gains-on a.g a.mid (works_for v.by a.mid) refl a.grows) (is ∙ ap (works_for v.by) a.stops) (own-lookless p a.g form.own) form.ends h.order
 
     spilled-order : (y : Lasting) (z : Position) (mid w : LaneView) → w ≡ works_for v.by mid → EndsSpilled home x.lasting x.stage y z V mid → StopsInOrder acts sys v w
@@ -802,11 +802,11 @@ module _ (sys : System) (sound : IsSound sys) (terms : Terms) (looks : ℕ) (fro
         gains : Gains (map (for_object p) b.g) v (works_for v.by b.mid)
         gains = gains-on b.g b.mid (works_for v.by b.mid) refl b.grows
 
-        goes : StepGoesOn sys (actor n.object n.chart) (event_in x.stage V) (step_entry x.stage) (left_of home x.lasting x.stage V) (config_of x.lasting) (tell b.g ++ b.begins.0) b.begins.1
+        goes : StepGoesOn sys (actor n.object n.chart) (step_event x.stage V) (step_entry x.stage) (remainder_of home x.lasting x.stage V) (config_of x.lasting) (tell b.g ++ b.begins.0) b.begins.1
         goes = goes-as (tell b.g ++ b.begins.0) b.begins.1 b.begins.2
 
         calm-b : list_any (λ t. is_end t.body) b.g ≡ false
-        calm-b = cut-calm sys (actor n.object n.chart) (event_in x.stage V) (step_entry x.stage) (left_of home x.lasting x.stage V) (config_of x.lasting) closing b.g b.begins.0 b.begins.1 b.begins.3 goes
+        calm-b = cut-calm sys (actor n.object n.chart) (step_event x.stage V) (step_entry x.stage) (remainder_of home x.lasting x.stage V) (config_of x.lasting) closing b.g b.begins.0 b.begins.1 b.begins.3 goes
 
         by : CutForm b.g → LooksNone (untold_all (map (for_object p) b.g))
         by (WithinIt own) = own-lookless p b.g own
@@ -815,7 +815,7 @@ module _ (sys : System) (sound : IsSound sys) (terms : Terms) (looks : ℕ) (fro
             subst (λ g. LooksNone (untold_all (map (for_object p) g))) (sym whole) (done-quiet p front rel own parts drops).lookless
 
         lookless : LooksNone (untold_all (map (for_object p) b.g))
-        lookless = by (cut-form sys (actor n.object n.chart) (event_in x.stage V) (step_entry x.stage) (left_of home x.lasting x.stage V) (config_of x.lasting) closing b.g b.begins.0 b.begins.1 calm-b goes)
+        lookless = by (cut-form sys (actor n.object n.chart) (step_event x.stage V) (step_entry x.stage) (remainder_of home x.lasting x.stage V) (config_of x.lasting) closing b.g b.begins.0 b.begins.1 calm-b goes)
 
     abbrev pub OrderAfter : LaneView → Step → Type 0
     OrderAfter w step.Point = InOrder acts sys looks w

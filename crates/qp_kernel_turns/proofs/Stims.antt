@@ -14,7 +14,7 @@ use Rattle.qp_model_order.specs.RunOrder.{has_stim}
 use Rattle.qp_model_order.specs.Stimulus.{source_items}
 use Rattle.qp_model_order.proofs.StimulusForm.{items-append}
 use Rattle.qp_calls.specs.LaneView.{Happening}
-use Rattle.qp_kernel.specs.Happenings.{lanes_from, told_by}
+use Rattle.qp_kernel.specs.Happenings.{lanes_from, told_by_source}
 
 abbrev pub has_at : ℕ → List Item → Bool
 has_at k is = list_any (λ i. is_stim_at k i.body) is
@@ -31,14 +31,14 @@ or-none : (b c : Bool) → c ≡ false → (b || c) ≡ b
 or-none true c h = refl
 or-none false c h = h
 
-told-more : (n : ℕ) (hs : List Happening) (h : Happening) → told_by n (hs ++ h ∷ []) ≡ told_by n hs ++ (cond (h.source == n) h.told [])
-unfolding told_by
+told-more : (n : ℕ) (hs : List Happening) (h : Happening) → told_by_source n (hs ++ h ∷ []) ≡ told_by_source n hs ++ (cond (h.source == n) h.told [])
+unfolding told_by_source
 told-more n [] h = append-nil (cond (h.source == n) h.told [])
-told-more n (x ∷ hs) h = ap (λ ts. cond (x.source == n) x.told [] ++ ts) (told-more n hs h) ∙ sym (append_assoc (cond (x.source == n) x.told []) (told_by n hs) (cond (h.source == n) h.told []))
+told-more n (x ∷ hs) h = ap (λ ts. cond (x.source == n) x.told [] ++ ts) (told-more n hs h) ∙ sym (append_assoc (cond (x.source == n) x.told []) (told_by_source n hs) (cond (h.source == n) h.told []))
 
-lane-more : (k n : ℕ) (hs : List Happening) (h : Happening) → has_at k (source_items (told_by n (hs ++ h ∷ []))) ≡ (has_at k (source_items (told_by n hs)) || has_at k (source_items (cond (h.source == n) h.told [])))
+lane-more : (k n : ℕ) (hs : List Happening) (h : Happening) → has_at k (source_items (told_by_source n (hs ++ h ∷ []))) ≡ (has_at k (source_items (told_by_source n hs)) || has_at k (source_items (cond (h.source == n) h.told [])))
 lane-more k n hs h =
-    ap (λ ts. has_at k (source_items ts)) (told-more n hs h) ∙ ap (has_at k) (items-append (told_by n hs) (cond (h.source == n) h.told [])) ∙ any-append k (source_items (told_by n hs)) (source_items (cond (h.source == n) h.told []))
+    ap (λ ts. has_at k (source_items ts)) (told-more n hs h) ∙ ap (has_at k) (items-append (told_by_source n hs) (cond (h.source == n) h.told [])) ∙ any-append k (source_items (told_by_source n hs)) (source_items (cond (h.source == n) h.told []))
 
 -- a look that it has no `stim` of
 pub stims-same : (k i : ℕ) (plan : List (List Stim)) (hs : List Happening) (h : Happening) → has_at k (source_items h.told) ≡ false → has_stim (lanes_from i plan (hs ++ h ∷ [])) k ≡ has_stim (lanes_from i plan hs) k
@@ -46,8 +46,8 @@ unfolding lanes_from
 stims-same k i [] hs h none = refl
 stims-same k i (ss ∷ more) hs h none =
     let rest = stims-same k (i + 1) more hs h none in
-    let head : has_at k (source_items (told_by i (hs ++ h ∷ []))) ≡ has_at k (source_items (told_by i hs)) = lane-more k i hs h ∙ or-none (has_at k (source_items (told_by i hs))) (has_at k (source_items (cond (h.source == i) h.told []))) (by (h.source == i)) in
-    ap (λ b. b || has_stim (lanes_from (i + 1) more (hs ++ h ∷ [])) k) head ∙ ap (λ b. has_at k (source_items (told_by i hs)) || b) rest
+    let head : has_at k (source_items (told_by_source i (hs ++ h ∷ []))) ≡ has_at k (source_items (told_by_source i hs)) = lane-more k i hs h ∙ or-none (has_at k (source_items (told_by_source i hs))) (has_at k (source_items (cond (h.source == i) h.told []))) (by (h.source == i)) in
+    ap (λ b. b || has_stim (lanes_from (i + 1) more (hs ++ h ∷ [])) k) head ∙ ap (λ b. has_at k (source_items (told_by_source i hs)) || b) rest
   where
     by : (b : Bool) → has_at k (source_items (cond b h.told [])) ≡ false
     by true = none
@@ -60,12 +60,12 @@ stims-more k i [] hs h some low few = absurd (omega (arith, low, few))
 stims-more k i (ss ∷ more) hs h some low few = by (h.source == i) refl (λ l f. stims-more k (i + 1) more hs h some l f) (lane-more k i hs h)
   where
     by : (b : Bool) → (h.source == i) ≡ b → (i + 1 ≤ h.source → h.source < i + 1 + length more → has_stim (lanes_from (i + 1) more (hs ++ h ∷ [])) k ≡ true)
-        → has_at k (source_items (told_by i (hs ++ h ∷ []))) ≡ (has_at k (source_items (told_by i hs)) || has_at k (source_items (cond b h.told [])))
-        → (has_at k (source_items (told_by i (hs ++ h ∷ []))) || has_stim (lanes_from (i + 1) more (hs ++ h ∷ [])) k) ≡ true
-    by true is go lane = let here : has_at k (source_items (told_by i (hs ++ h ∷ []))) ≡ true = lane ∙ or_right (has_at k (source_items (told_by i hs))) (has_at k (source_items h.told)) some in rw here refl
+        → has_at k (source_items (told_by_source i (hs ++ h ∷ []))) ≡ (has_at k (source_items (told_by_source i hs)) || has_at k (source_items (cond b h.told [])))
+        → (has_at k (source_items (told_by_source i (hs ++ h ∷ []))) || has_stim (lanes_from (i + 1) more (hs ++ h ∷ [])) k) ≡ true
+    by true is go lane = let here : has_at k (source_items (told_by_source i (hs ++ h ∷ []))) ≡ true = lane ∙ or_right (has_at k (source_items (told_by_source i hs))) (has_at k (source_items h.told)) some in rw here refl
     by false is go lane =
         let other : i + 1 ≤ h.source = grind (arith, nat_tests) in
-        or_right (has_at k (source_items (told_by i (hs ++ h ∷ [])))) (has_stim (lanes_from (i + 1) more (hs ++ h ∷ [])) k) (go other (omega (arith, few)))
+        or_right (has_at k (source_items (told_by_source i (hs ++ h ∷ [])))) (has_stim (lanes_from (i + 1) more (hs ++ h ∷ [])) k) (go other (omega (arith, few)))
 
 -- records behind a `stim` have none
 pub behind-none : (cuts : Bool) (k : ℕ) (is : List Item) → AreBehind cuts is → has_at k is ≡ false

@@ -15,7 +15,7 @@ use Rattle.qp_model_order.specs.Placing.{AreBehind}
 use Rattle.qp_model_order.proofs.OrderLaws.{stimuli_are_their_own}
 use Rattle.qp_model_order.proofs.StimulusForm.{items-append}
 use Rattle.qp_calls.specs.LaneView.{GrowsOf, LaneView, Roomier, ceiling_in}
-use Rattle.qp_calls.specs.Notes.{spills_told, told_as, told_note}
+use Rattle.qp_calls.specs.Notes.{spills_told, note_told, told_note}
 use Rattle.qp_calls.specs.Tokens.{hands_after, hands_by}
 use Rattle.qp_calls.proofs.NoteLemmas.{ceiling-append}
 use Rattle.qp_dispatch.proofs.Quiet.{spills-append}
@@ -36,12 +36,12 @@ use Rattle.qp_kernel_turns.proofs.Looking.{GoesFor, look-few, look-stops, looked
 use Rattle.qp_kernel_turns.proofs.Stims.{stim-here, stim-there, stims-more, stims-same}
 
 -- a note, told
-pub noted : (o : ℕ) (b : Body) (r : Rec) (v w : LaneView) → item_of r ≡ record { of = o; body = b } → GrowsOf r.of (told_note r v) v w → GrowsOf o (told_as (ceiling_in 0 v.told) b ∷ []) v w
+pub noted : (o : ℕ) (b : Body) (r : Rec) (v w : LaneView) → item_of r ≡ record { of = o; body = b } → GrowsOf r.of (told_note r v) v w → GrowsOf o (note_told (ceiling_in 0 v.told) b ∷ []) v w
 unfolding told_note item_of body_of
 noted o b r v w is grown =
     let here : body_of r ≡ b = ap (λ (i : Item). i.body) is in
     let mine : r.of ≡ o = ap (λ (i : Item). i.of) is in
-    subst (λ i. GrowsOf i (told_as (ceiling_in 0 v.told) b ∷ []) v w) mine (subst (λ x. GrowsOf r.of (told_as (ceiling_in 0 v.told) x ∷ []) v w) here grown)
+    subst (λ i. GrowsOf i (note_told (ceiling_in 0 v.told) b ∷ []) v w) mine (subst (λ x. GrowsOf r.of (note_told (ceiling_in 0 v.told) x ∷ []) v w) here grown)
 
 -- `room` and a look, and what happens in it
 pub look-goes : (n floor : ℕ) (v v1 v2 : LaneView) → Roomier (asked_once v) v1 → GrowsOf 0 (plain (body.Look n floor) ∷ []) v1 v2 → spills_told v.told ≡ false → GoesFor (look_told n floor ∷ []) v v2

@@ -29,7 +29,7 @@ use Rattle.qp_calls.proofs.NoteLemmas.{ceiling-append}
 use Rattle.qp_dispatch.specs.declared.lasting.Lasting.{Lasting}
 use Rattle.qp_dispatch.specs.declared.steps.Position.TheVariants as standing
 use Rattle.qp_dispatch.specs.Lasts.{actor_of, config_of}
-use Rattle.qp_dispatch.specs.Objects.{BeginsStep, home_of}
+use Rattle.qp_dispatch.specs.Objects.{BeginsStep, setting_for}
 use Rattle.qp_dispatch.specs.Resume.{IsTaken, event_in_hand, held_in}
 use Rattle.qp_dispatch.proofs.Quiet.{spills-append}
 use Rattle.qp_dispatch.proofs.Taking.{taken-is}
@@ -41,7 +41,7 @@ use Rattle.qp_kernel.proofs.KernelLaws.{budget_ends, entry_is_seen, step_begins}
 use Rattle.qp_kernel_turns.specs.BaseRows.{HasStep, InRow, SameRow, reading_in}
 use Rattle.qp_kernel_turns.specs.declared.objects.Objects.{Objects}
 use Rattle.qp_kernel_turns.specs.declared.objects.Slot.{Slot}
-use Rattle.qp_kernel_turns.specs.Objects.{IsAt, IsPut}
+use Rattle.qp_kernel_turns.specs.Objects.{IsAt, IsSlotPut}
 use Rattle.qp_kernel_turns.specs.Knowing.{HandsCover, HandsFollow, IsAtRest, IsInTurn, IsLane, IsObjectWithChart, IsObjectAt, IsRunning, IsScanning, Knows, KnowsAt, KnowsObject, StageIs, is_busy, is_paused}
 use Rattle.qp_kernel_turns.proofs.BaseRows.{reading-is}
 use Rattle.qp_kernel_turns.proofs.Ends.{EndsFew}
@@ -146,7 +146,7 @@ module _ (sys : System) (sound : IsSound sys) (terms : Terms) (looks : ℕ) (sta
 
   -- it takes its entry up
   module _ (w z : LaneView) (e : HeldEntry) (ys : Objects) (later : Slot) (seen : w.told ≡ v.told ++ seen_told p f l m ∷ []) (same-hands : w.hands ≡ v.hands) (same-sys : w.sys ≡ v.sys) (lanes-w : lanes_of w ≡ lanes_of v)
-      (lane-w : IsLane sys xs.ceiling w) (takes : TakesIt p e w z) (few : its.slot.object.taken < terms.budget) (put : IsPut xs ys p later) (threshold : later.threshold ≡ its.slot.threshold)
+      (lane-w : IsLane sys xs.ceiling w) (takes : TakesIt p e w z) (few : its.slot.object.taken < terms.budget) (put : IsSlotPut xs ys p later) (threshold : later.threshold ≡ its.slot.threshold)
       (begins : BeginsStep e its.slot.object later.object) where
     abbrev c : Config
     c = config.0
@@ -201,7 +201,7 @@ module _ (sys : System) (sound : IsSound sys) (terms : Terms) (looks : ℕ) (sta
     z-sys : z.sys ≡ sys
     z-sys = takes.adds.grows.sys ∙ same-sys ∙ k.lane.of
 
-    turn : IsInTurn (home_of sys n.chart later.object) ev (entry_of e) (whole_step (actor n.object n.chart) c ev) c later.object z
+    turn : IsInTurn (setting_for sys n.chart later.object) ev (entry_of e) (whole_step (actor n.object n.chart) c ev) c later.object z
     turn = rw begins (record {
       started = at-rest.started;
       under_way = is-taken;

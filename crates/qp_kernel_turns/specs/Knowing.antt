@@ -26,9 +26,9 @@ use Rattle.qp_dispatch.specs.declared.objects.Object.{Object}
 use Rattle.qp_dispatch.specs.declared.steps.Going.{Going}
 use Rattle.qp_dispatch.specs.declared.steps.Position.TheVariants as standing
 use Rattle.qp_dispatch.specs.Lasts.{config_of}
-use Rattle.qp_dispatch.specs.Objects.{HasFirst, home_of}
-use Rattle.qp_dispatch.specs.Resume.{IsUnderWay, event_in, held_in, left_of, step_entry}
-use Rattle.qp_dispatch.specs.Runs.{Setting}
+use Rattle.qp_dispatch.specs.Objects.{HasFirst, setting_for}
+use Rattle.qp_dispatch.specs.Resume.{IsUnderWay, step_event, held_in, remainder_of, step_entry}
+use Rattle.qp_dispatch.specs.Runs.{ObjectSetting}
 use Rattle.qp_kernel.specs.Happenings.{lanes_of}
 use Rattle.qp_kernel.specs.LaneZero.{row_of, setting}
 use Rattle.qp_kernel.specs.Stages as stage
@@ -76,20 +76,20 @@ pub record IsAtRest (c : Config) (x : Object) : Type 0 where
   pub config : c ≡ config_of x.lasting
   pub few : length (kept_in x.lasting.list) ≤ x.lasting.list.entries.capacity
 
-pub record IsInTurn (home : Setting) (ev : Event) (e : model.Entry) (due : Remainder) (c : Config) (x : Object) (v : LaneView) : Type 0 where
+pub record IsInTurn (home : ObjectSetting) (ev : Event) (e : model.Entry) (due : Remainder) (c : Config) (x : Object) (v : LaneView) : Type 0 where
   pub started : x.started ≡ true
   pub under_way : IsUnderWay home x.lasting x.stage v
-  pub event : ev ≡ event_in x.stage v
+  pub event : ev ≡ step_event x.stage v
   pub entry : e ≡ step_entry x.stage
-  pub left : due ≡ left_of home x.lasting x.stage v
+  pub left : due ≡ remainder_of home x.lasting x.stage v
   pub config : c ≡ config_of x.lasting
 
 abbrev pub StageIs : System → ObjectDef → Chart → Object → LaneView → Stage → Type 0
 StageIs sys d chart x v stage.Unstarted = HasNotStarted d x
 StageIs sys d chart x v (stage.Resting c) = IsAtRest c x
-StageIs sys d chart x v (stage.Begun ev e left c) = IsInTurn (home_of sys chart x) ev e left c x v
+StageIs sys d chart x v (stage.Begun ev e left c) = IsInTurn (setting_for sys chart x) ev e left c x v
 StageIs sys d chart x v (stage.Paused ev e left c) =
-    (g : Going) × (x.stage ≡ standing.Within g) × IsInTurn (home_of sys chart x) ev e left c x v
+    (g : Going) × (x.stage ≡ standing.Within g) × IsInTurn (setting_for sys chart x) ev e left c x v
 
 -- an object of the system, with its chart, at this stage and with so many entries taken up
 pub record IsObjectAt (sys : System) (d : ObjectDef) (chart : Chart) (slot : Slot) (v : LaneView) (s : Stage) (count : ℕ) : Type 0 where
@@ -144,7 +144,7 @@ pub record KnowsAt (P : KernelState → Type 0) (sys : System) (terms : Terms) (
 -- Where the lane stands.
 
 -- no object has started
-pub record Begins (s : KernelState) : Type 0 where
+pub record IsUnstarted (s : KernelState) : Type 0 where
   pub owed : s.owed ≡ 0
   pub fresh : (o : ℕ) → s.stages o ≡ stage.Unstarted
 

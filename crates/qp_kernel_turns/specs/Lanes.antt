@@ -23,8 +23,8 @@ pub record SameLane (v w : LaneView) : Type 0 where
   pub advances : Advances v w
 
 -- a list with what came behind it
-abbrev pub IsFront : {A : Type 0} → List A → List A → Type 0
-IsFront {A} xs ys = (more : List A) × (ys ≡ xs ++ more)
+abbrev pub IsFrontOf : {A : Type 0} → List A → List A → Type 0
+IsFrontOf {A} xs ys = (more : List A) × (ys ≡ xs ++ more)
 
 -- the lane, where this has happened
 abbrev pub where_happened : List Happening → LaneView → LaneView
@@ -36,8 +36,8 @@ pub record KeepsLane (acts : Bool) (v w : LaneView) : Type 0 where
   pub same : SameLane (where_happened w.happened v) w
   pub still : acts ≡ false → w.happened ≡ v.happened
   pub asks : acts ≡ false → v.asked ≤ w.asked
-  pub told : IsFront v.told w.told
-  pub log : IsFront v.log w.log
+  pub told : IsFrontOf v.told w.told
+  pub log : IsFrontOf v.log w.log
 
 -- the lane handed in the code of its last record
 pub record HandsCode (v w : LaneView) : Type 0 where

@@ -8,7 +8,7 @@ use Rattle.qp_calls.specs.declared.tokens.HeldEntry.{HeldEntry}
 use Rattle.qp_calls.specs.LaneView.{LaneView}
 use Rattle.qp_dispatch.specs.declared.steps.Position.TheVariants as standing
 use Rattle.qp_dispatch.specs.declared.steps.Step.{Step}
-use Rattle.qp_dispatch.specs.Objects.{BeginsStep, IsNew, MayResume, MayStart, ObjectResumes, ObjectStarts, leaf_shown, works_for}
+use Rattle.qp_dispatch.specs.Objects.{BeginsStep, IsNewObject, MayResume, MayStart, ObjectResumes, ObjectStarts, leaf_shown, works_for}
 use Rattle.qp_kernel_turns.specs.declared.objects.Objects.{Objects}
 use Rattle.qp_kernel_turns.specs.declared.objects.Slot.{Slot}
 
@@ -21,18 +21,18 @@ abbrev pub IsAt : Objects → ℕ → Slot → Type 0
 IsAt xs p slot = slice_get xs.slots.items p ≡ Some (Some slot)
 
 -- another stands there now
-abbrev pub Puts : Objects → Objects → ℕ → Slot → Type 0
-Puts xs ys p slot = ys.slots.items ≡ slice_set xs.slots.items p (Some slot)
+abbrev pub PutsSlot : Objects → Objects → ℕ → Slot → Type 0
+PutsSlot xs ys p slot = ys.slots.items ≡ slice_set xs.slots.items p (Some slot)
 
 -- and all else is as it was
-pub record IsPut (xs ys : Objects) (p : ℕ) (slot : Slot) : Type 0 where
-  pub slots : Puts xs ys p slot
+pub record IsSlotPut (xs ys : Objects) (p : ℕ) (slot : Slot) : Type 0 where
+  pub slots : PutsSlot xs ys p slot
   pub ceiling : ys.ceiling ≡ xs.ceiling
 
 -- an object before its start, with its threshold, or none
 abbrev pub IsPlace : System → ℕ → Option Slot → Type 0
 IsPlace sys p None = object_at sys p ≡ None
-IsPlace sys p (Some slot) = IsNew sys p slot.object × ((d : ObjectDef) → object_at sys p ≡ Some d → slot.threshold ≡ d.threshold)
+IsPlace sys p (Some slot) = IsNewObject sys p slot.object × ((d : ObjectDef) → object_at sys p ≡ Some d → slot.threshold ≡ d.threshold)
 
 -- all objects, before their start
 pub record AreMade (sys : System) (xs : Objects) : Type 0 where
@@ -52,7 +52,7 @@ pub record BeginsAt (p : ℕ) (e : HeldEntry) (xs ys : Objects) : Type 0 where
   pub slot : Slot
   pub later : Slot
   pub there : IsAt xs p slot
-  pub put : IsPut xs ys p later
+  pub put : IsSlotPut xs ys p later
   pub threshold : later.threshold ≡ slot.threshold
   pub begins : BeginsStep e slot.object later.object
 
@@ -66,7 +66,7 @@ pub record ResumesAt (sys : System) (ceiling level p : ℕ) (xs ys : Objects) (v
   pub slot : Slot
   pub later : Slot
   pub there : IsAt xs p slot
-  pub put : IsPut xs ys p later
+  pub put : IsSlotPut xs ys p later
   pub threshold : later.threshold ≡ slot.threshold
   pub resumes : ObjectResumes sys ceiling level slot.object later.object v w answer
 
@@ -80,7 +80,7 @@ pub record StartsAt (sys : System) (level p : ℕ) (xs ys : Objects) (v w : Lane
   pub slot : Slot
   pub later : Slot
   pub there : IsAt xs p slot
-  pub put : IsPut xs ys p later
+  pub put : IsSlotPut xs ys p later
   pub threshold : later.threshold ≡ slot.threshold
   pub starts : ObjectStarts sys level slot.object later.object v w answer
 

@@ -11,7 +11,7 @@ use Rattle.qp_calls.specs.LaneView.{Counts, LaneView}
 use Rattle.qp_kernel.specs.Turning.{Terms}
 use Rattle.qp_dispatch.specs.declared.objects.Turn.{Turn}
 use Rattle.qp_dispatch.specs.declared.objects.Turn.TheVariants as turn
-use Rattle.qp_kernel.specs.Happenings.{IsInOrder, IsOrderEnded, has_no_stim, order_of}
+use Rattle.qp_kernel.specs.Happenings.{IsInOrder, IsOrderEnded, has_no_stim, lane_order}
 use Rattle.qp_kernel_turns.specs.declared.halting.Halt.{Halt}
 use Rattle.qp_kernel_turns.specs.declared.halting.Halt.TheVariants as halt
 use Rattle.qp_kernel_turns.specs.Pending.{PendingStays}
@@ -34,7 +34,7 @@ HaltsInOrder acts sys v w halt.Memory = Unit {0}
 
 -- no source may act behind these records; `base` tells that no step is under way
 abbrev pub NoneActs : Bool → System → LaneView → Type 0
-NoneActs base sys v = acts_next sys v.plan (order_of v) base ≡ None
+NoneActs base sys v = acts_next sys v.plan (lane_order v) base ≡ None
 
 -- in a look without a stimulus no source may act
 pub record LookedInOrder (acts : Bool) (sys : System) (base : Bool) (b : Stand) (came : Bool) : Type 0 where

@@ -46,8 +46,8 @@ pub record HaveBegun (sys : System) (left : List ℕ) (xs : Objects) (v : LaneVi
   pub no_stim : has_no_stim v
 
 -- the priorities of the objects from this place on
-abbrev pub left_from : System → ℕ → List ℕ
-left_from sys place = map (λ d. d.priority) (drop place sys.objects)
+abbrev pub priorities_from : System → ℕ → List ℕ
+priorities_from sys place = map (λ d. d.priority) (drop place sys.objects)
 
 -- the lane went on by the records of so many starts alone, each to its end, and the hands changed as what the objects keep
 pub record GrowsAlong (starts : ℕ) (xs : Objects) (v : LaneView) (ys : Objects) (w : LaneView) : Type 0 where
@@ -80,7 +80,7 @@ pub record StartStopped (sys : System) (v w : LaneView) : Type 0 where
 -- the first object that has not started starts, and those from this place on are left
 abbrev pub StartsOne : System → ℕ → Objects → Objects → LaneView → LaneView → Step → Type 0
 StartsOne sys place xs ys v w step.Point = ⊥
-StartsOne sys place xs ys v w step.Done = HaveBegun sys (left_from sys place) ys w × GrowsAlong 1 xs v ys w
+StartsOne sys place xs ys v w step.Done = HaveBegun sys (priorities_from sys place) ys w × GrowsAlong 1 xs v ys w
 StartsOne sys place xs ys v w step.Stopped = (h : StartStopped sys v w) × (h.before ≡ 0)
 StartsOne sys place xs ys v w step.Memory = GrowsAndStops 7 v w
 

@@ -25,8 +25,8 @@ abbrev pub bare_row : System → ℕ
 bare_row sys = if length sys.objects == 0 then 1 else 0
 
 -- under `qk` no source acts in a look
-abbrev pub AreApart : Bool → Terms → Type 0
-AreApart acts terms = terms.threaded ≡ true → acts ≡ false
+abbrev pub SourcesAreApart : Bool → Terms → Type 0
+SourcesAreApart acts terms = terms.threaded ≡ true → acts ≡ false
 
 -- under `qk` a run that stopped has at most so many
 abbrev pub FewRows : System → Terms → ℕ → LaneView → Halt → Type 0
@@ -62,11 +62,11 @@ pub record RowsOver (sys : System) (terms : Terms) (k : Kernel) (v w : LaneView)
   pub pending : k.stack.items ≡ [] → (p : ℕ) → IsTrue (is_object sys p) → Pending p v → idle_rows sys terms w ≡ idle_rows sys terms v
 
 abbrev pub TurnsRows : Bool → System → Terms → Kernel → LaneView → LaneView → Turn → Type 0
-TurnsRows acts sys terms k v w turn.Idle = AreApart acts terms → RowsOver sys terms k v w
-TurnsRows acts sys terms k v w turn.Stopped = AreApart acts terms → RowStops sys terms v w halt.Stopped
+TurnsRows acts sys terms k v w turn.Idle = SourcesAreApart acts terms → RowsOver sys terms k v w
+TurnsRows acts sys terms k v w turn.Stopped = SourcesAreApart acts terms → RowStops sys terms v w halt.Stopped
 TurnsRows acts sys terms k v w turn.Memory = Unit {0}
 
 -- the same within a turn
 abbrev pub RoundsRows : Bool → System → Terms → Kernel → LaneView → LaneView → Result (Unit {0}) Halt → Type 0
-RoundsRows acts sys terms k v w (Ok t) = AreApart acts terms → RowsOver sys terms k v w
-RoundsRows acts sys terms k v w (Err h) = AreApart acts terms → RowStops sys terms v w h
+RoundsRows acts sys terms k v w (Ok t) = SourcesAreApart acts terms → RowsOver sys terms k v w
+RoundsRows acts sys terms k v w (Err h) = SourcesAreApart acts terms → RowStops sys terms v w h

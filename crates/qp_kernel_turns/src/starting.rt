@@ -4,7 +4,7 @@ ghost use Rattle.std.specs.Prelude.{◌+◌, ◌<◌, length};
 ghost use Rattle.qp_model.specs.Sound.{IsSound};
 ghost use Rattle.qp_kernel_turns.specs.Lanes.{LaneStarts};
 ghost use Rattle.qp_kernel_turns.specs.Objects.{AreMade};
-ghost use Rattle.qp_kernel_turns.specs.Starting.{HaveBegun, IsFreshLane, StartsAll, StartsOne, left_from};
+ghost use Rattle.qp_kernel_turns.specs.Starting.{HaveBegun, IsFreshLane, StartsAll, StartsOne, priorities_from};
 
 use crate::objects::Objects;
 use qp_calls::Ops;
@@ -34,7 +34,7 @@ impl Objects {
     fn start_next<O: Ops>(&mut self, place: usize, ops: &mut O, sys: &System) -> Step
         requires sound { IsSound sys.now }
         requires place { place < length sys.now.objects }
-        requires begun { HaveBegun sys.now (left_from sys.now place) self.old (O.lane ops.old) }
+        requires begun { HaveBegun sys.now (priorities_from sys.now place) self.old (O.lane ops.old) }
         ensures { StartsOne sys.now (place + 1) self.old self.new (O.lane ops.old) (O.lane ops.new) result }
     {
         let mut ceiling = self.ceiling;

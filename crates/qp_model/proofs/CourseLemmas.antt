@@ -9,7 +9,7 @@ use Rattle.qp_model.specs.Pieces.{Piece, Tell, Point, ends_at_point}
 use Rattle.qp_model.specs.Acts.{Actor, Config}
 use Rattle.qp_model.specs.Step.{Remainder, StepGoesOn, DoesLeft, StepBehind, Step, whole_step}
 use Rattle.qp_model.specs.Course.{Starts, Steps, Course, Follows, FollowsAs, FollowsThrough, FollowsThroughAs, FollowsTo, Whole, Stopped, Anywhere, actor, first_config, chart_at}
-use Rattle.qp_model.specs.Standing.{Between, Within, Leaves, Advances}
+use Rattle.qp_model.specs.Standing.{Between, Within, Leaves, StepAdvances}
 
 -- a step more
 pub steps-snoc : (sys : System) (a : Actor) (es : List Entry) (e : Entry) (c : Option Config) (mid : Config) (ps one : List Piece) (end : Option Config)
@@ -45,8 +45,8 @@ module _ (sys : System) (a : Actor) (first : Config) (es : List Entry) (ps : Lis
 
   -- a step under way goes on
   pub leaves-on : (ev : Event) (e : Entry) (left later : Remainder) (c d : Config) (g : List Piece)
-      → Advances sys a ev e left c g later d → Leaves sys a first es ps (Within ev e left c) → Leaves sys a first es (ps ++ g) (Within ev e later d)
-  unfolding Advances Leaves
+      → StepAdvances sys a ev e left c g later d → Leaves sys a first es ps (Within ev e left c) → Leaves sys a first es (ps ++ g) (Within ev e later d)
+  unfolding StepAdvances Leaves
   leaves-on ev e left later c d g go h qs end k = rw append_assoc (h (g ++ qs) end (go qs end k))
 
   -- a step under way runs to completion

@@ -14,7 +14,7 @@ use Rattle.qp_model.specs.declared.bodies.Body.TheVariants as body
 use Rattle.qp_model.specs.Record.{Item}
 use Rattle.qp_model.specs.KernelLane.{Role, Looks, Sees, Takes, Ends, Rests, Holds, Drops, RunsOut, Spills, Acts, role_of, under_way_after, ceiling_of, Setting, floor_in, above, Upcoming, Inside, Looking, Chosen, Ended, Resting, Again, Over, Halted, Reading, base_ended, found_none, looking_at, look_next, seen_next, own_next, inside_next, found_next, ended_next, rest_next, place_next, start_next, started_next, role_next, lane_next, lane_on, unread, lane_read}
 use Rattle.qp_model.specs.Kernels.{qk, qv}
-use Rattle.qp_model.specs.KernelLaws.{under_way, ceiling_on, floor_after, SeesNone, EndsInLook, StepsBeginAbove, StepsStandAlone, SeesEach, RestsWhereAllAreEmpty}
+use Rattle.qp_model.specs.KernelLaws.{under_way, ceiling_on, floor_after, IsEmptyLook, EndsInLook, StepsBeginAbove, StepsStandAlone, SeesEach, RestsWhereAllAreEmpty}
 use Rattle.qp_model.proofs.NumberLemmas.{every, every-append}
 
 pub granted : {A : Type 0} (b : Bool) (x y : A) → cond b (Some x) None ≡ Some y → (b ≡ true) × (x ≡ y)
@@ -89,7 +89,7 @@ pub record HasLooked (sys : System) (floor : ℕ) (before : List Item) (rest : L
   pub empties : List Item
   pub n : ℕ
   pub stands : before ≡ front ++ record { of = 0; body = body.Look n floor } ∷ empties
-  pub none : AllByRecursion SeesNone empties
+  pub none : AllByRecursion IsEmptyLook empties
   -- the objects seen so far; the rest are those to be seen
   pub objects : List ℕ
   pub saw : SeesEach objects empties
@@ -199,7 +199,7 @@ module _ (s : Setting) (before : List Item) (i : Item) where
             empties = looked.empties ++ record { of = 0; body = body.Seen p f l m } ∷ [];
             n = looked.n;
             stands = stands ∙ append_assoc looked.front (record { of = 0; body = body.Look looked.n (floor_in s.sys s.kernel k.running k.ceiling) } ∷ looked.empties) (record { of = 0; body = body.Seen p f l m } ∷ []);
-            none = every-append SeesNone looked.empties (record { of = 0; body = body.Seen p f l m } ∷ []) looked.none ((p, f, l, m, refl, grind (arith, nat_tests, test)), tt);
+            none = every-append IsEmptyLook looked.empties (record { of = 0; body = body.Seen p f l m } ∷ []) looked.none ((p, f, l, m, refl, grind (arith, nat_tests, test)), tt);
             objects = looked.objects ++ p ∷ [];
             saw = SeesEach-snoc looked.objects looked.empties p f l m looked.saw (grind (arith, nat_tests, test));
             all = append_assoc looked.objects (p ∷ []) others ∙ looked.all;

@@ -5,7 +5,7 @@ use Rattle.std.proofs.lemmas.Bool.Decides.{nat_tests}
 use Rattle.qp_model.specs.declared.bodies.Body.{Body}
 use Rattle.qp_model.specs.declared.bodies.Body.TheVariants as body
 use Rattle.qp_model.specs.declared.bodies.Body.TheVariants.{NoEntry, NoBlock, Armed, BadTicks, NoLifo, Malformed}
-use Rattle.qp_model.specs.Record.{entry, never, plain_body, one, two, three, four, five, six, seven, given, asserted, forms, read_by, body_at}
+use Rattle.qp_model.specs.Record.{entry, never, plain_body, one, two, three, four, five, six, seven, new_form, asserted, forms, read_by, body_at}
 use Rattle.qp_model.specs.KindSorts.{kind_in, sort_of, is_malformed, is_of_sort, SortsHold}
 use Rattle.qp_model.specs.Ends.{is_turn_mark}
 use Rattle.qp_model.specs.OutputSummary.{is_took}
@@ -86,7 +86,7 @@ seven-gives k x h (a ∷ b ∷ c ∷ d ∷ e ∷ f ∷ []) = refl
 seven-gives k x h (a ∷ b ∷ c ∷ d ∷ e ∷ f ∷ g ∷ []) = h a b c d e f g
 seven-gives k x h (a ∷ b ∷ c ∷ d ∷ e ∷ f ∷ g ∷ y ∷ ys) = refl
 
-given-gives : Gives 15 given
+given-gives : Gives 15 new_form
 given-gives [] = refl
 given-gives (a ∷ []) = refl
 given-gives (a ∷ b ∷ []) = refl

@@ -12,7 +12,7 @@ use Rattle.qp_model.specs.Calls.{Call, Deed, Sets, Says, Calls, deed_of, ok_afte
 use Rattle.qp_model.specs.Pieces.{Piece, Point, records_in, tell, pieces_of}
 use Rattle.qp_model.specs.Acts.{Config, Actor, Moment, Later, DoesCall, DoesDeed, DoesTask, Does, names_of}
 use Rattle.qp_model.specs.Step.{StepBehind, Closes, at_leaf, moment}
-use Rattle.qp_model.specs.StepNotes.{note_of, is_step_note, notes_of, noted, notes_in}
+use Rattle.qp_model.specs.StepNotes.{note_of, is_step_note, notes_of, step_note_in, notes_in}
 use Rattle.qp_model.specs.CourseLaws.{StepsLeaveTheirNotes}
 use Rattle.qp_model.proofs.GroupLemmas.{bare-append, bare-tell, bare-pieces_of}
 use Rattle.qp_model.proofs.FitsLemmas.{is_calm, is_deferral, Usual, usual, Ending, Answers, fits-usual, calm-drops}
@@ -25,7 +25,7 @@ option_list (Some b) = b ∷ []
 pub notes-append : (g h : List Told) → notes_in (g ++ h) ≡ notes_in g ++ notes_in h
 unfolding notes_in
 notes-append [] h = refl
-notes-append (t ∷ g) h = by (noted t) (notes-append g h)
+notes-append (t ∷ g) h = by (step_note_in t) (notes-append g h)
   where
     by : (o : Option Body) → notes_in (g ++ h) ≡ notes_in g ++ notes_in h → cons_option o (notes_in (g ++ h)) ≡ cons_option o (notes_in g) ++ notes_in h
     by None e = e

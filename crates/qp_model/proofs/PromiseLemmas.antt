@@ -25,7 +25,7 @@ use Rattle.qp_model.specs.Lives.{edge_of, edges, is_empty, refs_at, edges_empty}
 use Rattle.qp_model.specs.Sites.{ring_of, blocks_of}
 use Rattle.qp_model.specs.WordLaw.{is_pool, is_block}
 use Rattle.qp_model.specs.Promises as promise
-use Rattle.qp_model.specs.Promises.{operations, NumberedOnce, posted_by, posted, entry_taken, entries_taken, is_lifo, queued, waiting_after, waiting, first_in_by, first_in, plainly_taken_by, plainly_taken, may_take, comes_and_goes}
+use Rattle.qp_model.specs.Promises.{operations, NumberedOnce, posted_by, entries_posted, entry_taken, entries_taken, is_lifo_post, entries_queued, waiting_after, waiting, first_in_by, entries_first_in, plainly_taken_by, plainly_taken, may_take, comes_and_goes}
 use Rattle.qp_model.proofs.ListLemmas.{all_below_at, list_all-has}
 use Rattle.qp_model.proofs.MachineLemmas.{allowed_from-front, allowed_from-rest, is_allowed-at, is_allowed-front, is_allowed-rest, after-keeps, keeps-from}
 use Rattle.qp_model.proofs.LineLemmas.{line_is, same_number}
@@ -230,44 +230,44 @@ drop-drop (suc n) [] = refl
 drop-drop n (x ∷ xs) = refl
 
 -- the entries so far and those posted are those taken and those left, in order, where none is posted last-in
-order_from : (ring : ℕ) (s : Line) (history : List Item) → allowed_from (line ring) s history ≡ true → list_any (λ i. is_lifo i.body) history ≡ false
-    → s.entries ++ posted history ≡ entries_taken history ++ (after_from (line ring) s history).entries
-unfolding allowed_from after_from posted entries_taken
+order_from : (ring : ℕ) (s : Line) (history : List Item) → allowed_from (line ring) s history ≡ true → list_any (λ i. is_lifo_post i.body) history ≡ false
+    → s.entries ++ entries_posted history ≡ entries_taken history ++ (after_from (line ring) s history).entries
+unfolding allowed_from after_from entries_posted entries_taken
 order_from ring s [] h none = append-nil s.entries
 order_from ring s (i ∷ is) h none = go i.body (and_parts _ _ h).0 (λ t allowed none. order_from ring t is allowed none) (and_parts _ _ h).1 none
   where
     go : (b : Body) → line_may ring s b ≡ true
-        → ((t : Line) → allowed_from (line ring) t is ≡ true → list_any (λ i. is_lifo i.body) is ≡ false → t.entries ++ posted is ≡ entries_taken is ++ (after_from (line ring) t is).entries)
-        → allowed_from (line ring) (line_next s b) is ≡ true → (is_lifo b || list_any (λ i. is_lifo i.body) is) ≡ false
-        → s.entries ++ cons_option (posted_by b) (posted is) ≡ cons_option (entry_taken b) (entries_taken is) ++ (after_from (line ring) (line_next s b) is).entries
-    go (Post a f l m e) may later allowed none = sym (append_assoc s.entries (e ∷ []) (posted is)) ∙ later (line_next s (Post a f l m e)) allowed none
+        → ((t : Line) → allowed_from (line ring) t is ≡ true → list_any (λ i. is_lifo_post i.body) is ≡ false → t.entries ++ entries_posted is ≡ entries_taken is ++ (after_from (line ring) t is).entries)
+        → allowed_from (line ring) (line_next s b) is ≡ true → (is_lifo_post b || list_any (λ i. is_lifo_post i.body) is) ≡ false
+        → s.entries ++ cons_option (posted_by b) (entries_posted is) ≡ cons_option (entry_taken b) (entries_taken is) ++ (after_from (line ring) (line_next s b) is).entries
+    go (Post a f l m e) may later allowed none = sym (append_assoc s.entries (e ∷ []) (entries_posted is)) ∙ later (line_next s (Post a f l m e)) allowed none
     go (Lifo f l m e) may later allowed none = cc
     go (Took f l m e) may later allowed none =
         let front : s.entries ≡ e ∷ drop 1 s.entries = front-is e s.entries (and_parts _ _ may).1 in
-        ap (λ es. es ++ posted is) front ∙ ap (λ es. e ∷ es) (later (line_next s (Took f l m e)) allowed none)
+        ap (λ es. es ++ entries_posted is) front ∙ ap (λ es. e ∷ es) (later (line_next s (Took f l m e)) allowed none)
     go _ may later allowed none = cc
 
 pub queue_keeps_order : promise.QueueKeepsOrder
-unfolding operations queued is_allowed after
+unfolding operations entries_queued is_allowed after
 queue_keeps_order sys lanes words a h none =
     order_from (ring_of sys a) (line (ring_of sys a)).first (operations (word.Queue a) lanes) (words.queues a h).allowed none
 
 -- so are the first-in ones whatever is posted last-in, where n last-in entries stand in front of them
 first_in_from : (ring n : ℕ) (s : Line) (history : List Item) → allowed_from (line ring) s history ≡ true → n ≤ length s.entries
-    → drop n s.entries ++ first_in history ≡ plainly_taken n history ++ drop (waiting n history) (after_from (line ring) s history).entries
-unfolding allowed_from after_from first_in plainly_taken waiting
+    → drop n s.entries ++ entries_first_in history ≡ plainly_taken n history ++ drop (waiting n history) (after_from (line ring) s history).entries
+unfolding allowed_from after_from entries_first_in plainly_taken waiting
 first_in_from ring n s [] h few = append-nil (drop n s.entries)
 first_in_from ring n s (i ∷ is) h few = go n i.body (and_parts _ _ h).0 few (λ n t allowed few. first_in_from ring n t is allowed few) (and_parts _ _ h).1
   where
     go : (n : ℕ) (b : Body) → line_may ring s b ≡ true → n ≤ length s.entries
         → ((n : ℕ) (t : Line) → allowed_from (line ring) t is ≡ true → n ≤ length t.entries
-        → drop n t.entries ++ first_in is ≡ plainly_taken n is ++ drop (waiting n is) (after_from (line ring) t is).entries)
+        → drop n t.entries ++ entries_first_in is ≡ plainly_taken n is ++ drop (waiting n is) (after_from (line ring) t is).entries)
         → allowed_from (line ring) (line_next s b) is ≡ true
-        → drop n s.entries ++ cons_option (first_in_by b) (first_in is)
+        → drop n s.entries ++ cons_option (first_in_by b) (entries_first_in is)
         ≡ cons_option (plainly_taken_by b n) (plainly_taken (waiting_after b n) is) ++ drop (waiting (waiting_after b n) is) (after_from (line ring) (line_next s b) is).entries
     go n (Post a f l m e) may few later allowed =
-        sym (append_assoc (drop n s.entries) (e ∷ []) (first_in is))
-        ∙ ap (λ es. es ++ first_in is) (sym (drop-append-le n s.entries (e ∷ []) few))
+        sym (append_assoc (drop n s.entries) (e ∷ []) (entries_first_in is))
+        ∙ ap (λ es. es ++ entries_first_in is) (sym (drop-append-le n s.entries (e ∷ []) few))
         ∙ later n (line_next s (Post a f l m e)) allowed (longer n (e ∷ []) few)
       where
         longer : (n : ℕ) (more : List Entry) → n ≤ length s.entries → n ≤ length (s.entries ++ more)
@@ -275,9 +275,9 @@ first_in_from ring n s (i ∷ is) h few = go n i.body (and_parts _ _ h).0 few (�
     go n (Lifo f l m e) may few later allowed = later (suc n) (line_next s (Lifo f l m e)) allowed (omega (arith, few))
     go zero (Took f l m e) may few later allowed =
         let front : s.entries ≡ e ∷ drop 1 s.entries = front-is e s.entries (and_parts _ _ may).1 in
-        ap (λ es. es ++ first_in is) front ∙ ap (λ es. e ∷ es) (later 0 (line_next s (Took f l m e)) allowed (omega arith))
+        ap (λ es. es ++ entries_first_in is) front ∙ ap (λ es. e ∷ es) (later 0 (line_next s (Took f l m e)) allowed (omega arith))
     go (suc n) (Took f l m e) may few later allowed =
-        ap (λ es. es ++ first_in is) (sym (drop-drop n s.entries)) ∙ later n (line_next s (Took f l m e)) allowed (shorter n s.entries few)
+        ap (λ es. es ++ entries_first_in is) (sym (drop-drop n s.entries)) ∙ later n (line_next s (Took f l m e)) allowed (shorter n s.entries few)
       where
         shorter : (n : ℕ) (es : List Entry) → suc n ≤ length es → n ≤ length (drop 1 es)
         shorter n [] few = absurd (omega (arith, few))
@@ -285,24 +285,24 @@ first_in_from ring n s (i ∷ is) h few = go n i.body (and_parts _ _ h).0 few (�
     go n _ may few later allowed = cc
 
 pub first_in_keep_order : promise.FirstInKeepOrder
-unfolding operations queued is_allowed after
+unfolding operations entries_queued is_allowed after
 first_in_keep_order sys lanes words a h =
     first_in_from (ring_of sys a) 0 (line (ring_of sys a)).first (operations (word.Queue a) lanes) (words.queues a h).allowed (omega arith)
 
 -- the same in any order, also where some are posted last-in
 balance_from : (ring : ℕ) (s : Line) (history : List Item) → allowed_from (line ring) s history ≡ true
-    → IsPermutation (s.entries ++ posted history) (entries_taken history ++ (after_from (line ring) s history).entries)
-unfolding allowed_from after_from posted entries_taken
+    → IsPermutation (s.entries ++ entries_posted history) (entries_taken history ++ (after_from (line ring) s history).entries)
+unfolding allowed_from after_from entries_posted entries_taken
 balance_from ring s [] h = rw append-nil (IsPermutation-refl s.entries)
 balance_from ring s (i ∷ is) h = go i.body (and_parts _ _ h).0 (λ t allowed. balance_from ring t is allowed) (and_parts _ _ h).1
   where
     go : (b : Body) → line_may ring s b ≡ true
-        → ((t : Line) → allowed_from (line ring) t is ≡ true → IsPermutation (t.entries ++ posted is) (entries_taken is ++ (after_from (line ring) t is).entries))
+        → ((t : Line) → allowed_from (line ring) t is ≡ true → IsPermutation (t.entries ++ entries_posted is) (entries_taken is ++ (after_from (line ring) t is).entries))
         → allowed_from (line ring) (line_next s b) is ≡ true
-        → IsPermutation (s.entries ++ cons_option (posted_by b) (posted is)) (cons_option (entry_taken b) (entries_taken is) ++ (after_from (line ring) (line_next s b) is).entries)
-    go (Post a f l m e) may later allowed = rw (← append_assoc s.entries (e ∷ []) (posted is)) (later (line_next s (Post a f l m e)) allowed)
+        → IsPermutation (s.entries ++ cons_option (posted_by b) (entries_posted is)) (cons_option (entry_taken b) (entries_taken is) ++ (after_from (line ring) (line_next s b) is).entries)
+    go (Post a f l m e) may later allowed = rw (← append_assoc s.entries (e ∷ []) (entries_posted is)) (later (line_next s (Post a f l m e)) allowed)
     go (Lifo f l m e) may later allowed =
-        IsPermutation-trans (s.entries ++ e ∷ posted is) (e ∷ s.entries ++ posted is) _ (moved e s.entries (posted is)) (later (line_next s (Lifo f l m e)) allowed)
+        IsPermutation-trans (s.entries ++ e ∷ entries_posted is) (e ∷ s.entries ++ entries_posted is) _ (moved e s.entries (entries_posted is)) (later (line_next s (Lifo f l m e)) allowed)
       where
         moved : (e : Entry) (xs ys : List Entry) → IsPermutation (xs ++ e ∷ ys) (e ∷ xs ++ ys)
         moved e xs ys =
@@ -310,11 +310,11 @@ balance_from ring s (i ∷ is) h = go i.body (and_parts _ _ h).0 (λ t allowed. 
             (IsPermutation-append_left ys (xs ++ e ∷ []) (e ∷ xs) (IsPermutation-append_comm xs (e ∷ [])))
     go (Took f l m e) may later allowed =
         let front : s.entries ≡ e ∷ drop 1 s.entries = front-is e s.entries (and_parts _ _ may).1 in
-        rw front (IsPermutation-cons e (drop 1 s.entries ++ posted is) (entries_taken is ++ (after_from (line ring) (line_next s (Took f l m e)) is).entries) (later (line_next s (Took f l m e)) allowed))
+        rw front (IsPermutation-cons e (drop 1 s.entries ++ entries_posted is) (entries_taken is ++ (after_from (line ring) (line_next s (Took f l m e)) is).entries) (later (line_next s (Took f l m e)) allowed))
     go _ may later allowed = cc
 
 pub queue_loses_nothing : promise.QueueLosesNothing
-unfolding operations queued is_allowed after
+unfolding operations entries_queued is_allowed after
 queue_loses_nothing sys lanes words a h =
     balance_from (ring_of sys a) (line (ring_of sys a)).first (operations (word.Queue a) lanes) (words.queues a h).allowed
 

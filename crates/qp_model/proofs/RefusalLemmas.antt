@@ -21,7 +21,7 @@ use Rattle.qp_model.specs.Sites.{ring_of, blocks_of}
 use Rattle.qp_model.specs.WordLaw.{Keeps}
 use Rattle.qp_model.specs.Promises.{operations}
 use Rattle.qp_model.specs.Refusals as refusal
-use Rattle.qp_model.specs.Refusals.{IsRecorded, HasCounts, line_at, pool_at, clock_at}
+use Rattle.qp_model.specs.Refusals.{IsRecorded, HasCounts, line_at, pool_after, clock_at}
 use Rattle.qp_model.proofs.MachineLemmas.{is_allowed-front}
 use Rattle.qp_model.proofs.LineLemmas.{IsLine, line_is, same_number}
 
@@ -128,11 +128,11 @@ nil_shows sys lanes words a h f l m stands =
         empty s.entries (omega (arith, counts.first_in, counts.last_in, counts.takes, is.counted))
 
 pub short_shows : refusal.ShortShows
-unfolding pool_at
+unfolding pool_after
 short_shows sys lanes words p h o n free reserve stands =
-    let says : ((length (pool_at sys lanes p n).free == free) && nat_le free reserve) ≡ true =
+    let says : ((length (pool_after sys lanes p n).free == free) && nat_le free reserve) ≡ true =
     says_there (free_blocks (blocks_of sys p)) (word.Pool p) lanes o (Short p n free reserve) n (words.pools p h) stands refl (same_number p) in
-    let all : (length (pool_at sys lanes p n).free == free) ≡ true = (and_parts _ _ says).0 in
+    let all : (length (pool_after sys lanes p n).free == free) ≡ true = (and_parts _ _ says).0 in
     let few : nat_le free reserve ≡ true = (and_parts _ _ says).1 in (
       stands_within (free_blocks (blocks_of sys p)) (word.Pool p) lanes o (Short p n free reserve) n (words.pools p h) stands refl (same_number p),
       grind (arith, nat_tests),
@@ -140,16 +140,16 @@ short_shows sys lanes words p h o n free reserve stands =
     )
 
 pub no_block_shows : refusal.NoBlockShows
-unfolding pool_at
+unfolding pool_after
 no_block_shows sys lanes words p h o n free stands =
-    let says : ((length (pool_at sys lanes p n).free == free) && (free == 0)) ≡ true =
+    let says : ((length (pool_after sys lanes p n).free == free) && (free == 0)) ≡ true =
     says_there (free_blocks (blocks_of sys p)) (word.Pool p) lanes o (NoBlock p n free) n (words.pools p h) stands refl (same_number p) in
-    let all : (length (pool_at sys lanes p n).free == free) ≡ true = (and_parts _ _ says).0 in
+    let all : (length (pool_after sys lanes p n).free == free) ≡ true = (and_parts _ _ says).0 in
     let few : (free == 0) ≡ true = (and_parts _ _ says).1 in
-    let stated : length (pool_at sys lanes p n).free ≡ free = grind (arith, nat_tests) in
+    let stated : length (pool_after sys lanes p n).free ≡ free = grind (arith, nat_tests) in
     let zero_free : free ≡ 0 = grind (arith, nat_tests) in (
       stands_within (free_blocks (blocks_of sys p)) (word.Pool p) lanes o (NoBlock p n free) n (words.pools p h) stands refl (same_number p),
-      none (pool_at sys lanes p n).free (stated ∙ zero_free),
+      none (pool_after sys lanes p n).free (stated ∙ zero_free),
       zero_free,
     )
   where

@@ -12,7 +12,7 @@ use Rattle.qp_model.specs.Pieces.{Piece, Point, records_in, tell}
 use Rattle.qp_model.specs.Acts.{Config, Actor, Does}
 use Rattle.qp_model.specs.Step.{Publishing, GoesOnPublishing, Remainder, DoesLeft, StepGoesOn, Closes, at_leaf, moment, tasks_left}
 use Rattle.qp_model.specs.Course.{Starts, at_start}
-use Rattle.qp_model.specs.Standing.{Advances, AgendaReaches}
+use Rattle.qp_model.specs.Standing.{StepAdvances, AgendaReaches}
 use Rattle.qp_model.specs.Able.{task_able}
 use Rattle.qp_model.proofs.ReachLemmas.{reaches-done}
 use Rattle.qp_model.proofs.Completes.{completes, release, release_drops, again_any}
@@ -20,8 +20,8 @@ use Rattle.qp_model.proofs.Completes.{completes, release, release_drops, again_a
 module _ (sys : System) (a : Actor) (ev : Event) (e : Entry) where
   -- a step advances as its agenda reaches
   pub advances-reaches : (left later : Remainder) (c d : Config) (g : List Piece) → left.leaf ≡ later.leaf
-      → AgendaReaches sys a (moment ev e) left c g later d → Advances sys a ev e left c g later d
-  unfolding Advances AgendaReaches StepGoesOn
+      → AgendaReaches sys a (moment ev e) left c g later d → StepAdvances sys a ev e left c g later d
+  unfolding StepAdvances AgendaReaches StepGoesOn
   advances-reaches left later c d g same go qs end h =
       (g ++ h.0, h.1, h.2, go h.0 h.2 h.3, h.4, ap (λ us. g ++ us) h.5 ∙ sym (append_assoc g h.0 (tell h.1)), h.6 ∙ ap (λ leaf. at_leaf leaf h.2) (sym same))
 

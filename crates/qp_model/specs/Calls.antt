@@ -37,13 +37,13 @@ pub data Answer : Type 0 where
   AtFront : Answer
 
 -- the code of an assertion
-abbrev pub code_of : Answer → Option ℕ
-code_of AtQueue = Some 1
-code_of AtPool = Some 2
-code_of AtTimer = Some 3
-code_of AtTicks = Some 4
-code_of AtFront = Some 5
-code_of _ = None
+abbrev pub assertion_code : Answer → Option ℕ
+assertion_code AtQueue = Some 1
+assertion_code AtPool = Some 2
+assertion_code AtTimer = Some 3
+assertion_code AtTicks = Some 4
+assertion_code AtFront = Some 5
+assertion_code _ = None
 
 abbrev pub is_assertion : Answer → Bool
 is_assertion Granted = false

@@ -25,15 +25,15 @@ unfolding ceiling_on floor_in under_way
 floor_after sys kernel before = floor_in sys kernel (under_way [] before) (ceiling_on 0 before)
 
 -- a `seen` of an empty queue
-abbrev pub SeesNone : Item → Type 0
-SeesNone i = (p f l m : ℕ) × (i ≡ record { of = 0; body = body.Seen p f l m }) × (f + l ≤ m)
+abbrev pub IsEmptyLook : Item → Type 0
+IsEmptyLook i = (p f l m : ℕ) × (i ≡ record { of = 0; body = body.Seen p f l m }) × (f + l ≤ m)
 
 -- these records end with a look at the floor that stands there, and its last `seen` is of the queue of o and shows an entry
 unfoldable pub EndsInLook : ℕ → List Item → ℕ → Type 0
 EndsInLook floor before o =
     (front empties : List Item) × (n f l m : ℕ)
     × (before ≡ front ++ record { of = 0; body = body.Look n floor } ∷ empties ++ record { of = 0; body = body.Seen o f l m } ∷ [])
-    × AllByRecursion SeesNone empties × (m < f + l)
+    × AllByRecursion IsEmptyLook empties × (m < f + l)
 
 -- a step begins only right after a look that showed an entry of its queue, and only where its object is above the floor
 unfoldable pub StepsBeginAbove : System → ℕ → List Item → Type 0

@@ -207,8 +207,8 @@ kinds =
     ∷ []
 
 -- the words and the sorts by number, from 0 on, which is none
-abbrev pub words : List (List ℕ)
-words = [] ∷ map (λ k. k.word) kinds
+abbrev pub kind_words : List (List ℕ)
+kind_words = [] ∷ map (λ k. k.word) kinds
 
 abbrev pub sorts : List Sort
 sorts = Head ∷ map (λ k. k.sort) kinds

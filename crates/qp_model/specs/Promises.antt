@@ -108,8 +108,8 @@ posted_by (Post a f l m e) = Some e
 posted_by (Lifo f l m e) = Some e
 posted_by _ = None
 
-unfoldable pub posted : List Item → List Entry
-posted history = filter_map (λ i. posted_by i.body) history
+unfoldable pub entries_posted : List Item → List Entry
+entries_posted history = filter_map (λ i. posted_by i.body) history
 
 -- the entries that were taken, in order
 abbrev pub entry_taken : Body → Option Entry
@@ -119,27 +119,27 @@ entry_taken _ = None
 unfoldable pub entries_taken : List Item → List Entry
 entries_taken history = filter_map (λ i. entry_taken i.body) history
 
-abbrev pub is_lifo : Body → Bool
-is_lifo (Lifo f l m e) = true
-is_lifo _ = false
+abbrev pub is_lifo_post : Body → Bool
+is_lifo_post (Lifo f l m e) = true
+is_lifo_post _ = false
 
 -- the entries that are queued in the end
-unfoldable pub queued : System → ℕ → List (List Rec) → List Entry
+unfoldable pub entries_queued : System → ℕ → List (List Rec) → List Entry
 unfolding after operations ring_of
-queued sys a lanes = (after (line (ring_of sys a)) (operations (word.Queue a) lanes)).entries
+entries_queued sys a lanes = (after (line (ring_of sys a)) (operations (word.Queue a) lanes)).entries
 
 -- without last-in posts, the entries taken and then those still queued are the entries posted, in their order
 abbrev pub QueueKeepsOrder : Type 0
 QueueKeepsOrder =
     (sys : System) (lanes : List (List Rec)) → Words sys lanes → (a : ℕ) → IsTrue (is_object sys a)
-    → list_any (λ i. is_lifo i.body) (operations (word.Queue a) lanes) ≡ false
-    → posted (operations (word.Queue a) lanes) ≡ entries_taken (operations (word.Queue a) lanes) ++ queued sys a lanes
+    → list_any (λ i. is_lifo_post i.body) (operations (word.Queue a) lanes) ≡ false
+    → entries_posted (operations (word.Queue a) lanes) ≡ entries_taken (operations (word.Queue a) lanes) ++ entries_queued sys a lanes
 
 -- the entries taken and those still queued are the entries posted: none is lost, none comes twice
 abbrev pub QueueLosesNothing : Type 0
 QueueLosesNothing =
     (sys : System) (lanes : List (List Rec)) → Words sys lanes → (a : ℕ) → IsTrue (is_object sys a)
-    → IsPermutation (posted (operations (word.Queue a) lanes)) (entries_taken (operations (word.Queue a) lanes) ++ queued sys a lanes)
+    → IsPermutation (entries_posted (operations (word.Queue a) lanes)) (entries_taken (operations (word.Queue a) lanes) ++ entries_queued sys a lanes)
 
 -- how many entries wait that were posted last-in: a take takes one of them first
 abbrev pub waiting_after : Body → ℕ → ℕ
@@ -158,8 +158,8 @@ first_in_by (Post a f l m e) = Some e
 first_in_by _ = None
 
 -- the entries that were posted first-in, in order
-unfoldable pub first_in : List Item → List Entry
-first_in history = filter_map (λ i. first_in_by i.body) history
+unfoldable pub entries_first_in : List Item → List Entry
+entries_first_in history = filter_map (λ i. first_in_by i.body) history
 
 -- the entry taken where no last-in entry waits
 abbrev pub plainly_taken_by : Body → ℕ → Option Entry
@@ -176,8 +176,8 @@ plainly_taken n (i ∷ is) = cons_option (plainly_taken_by i.body n) (plainly_ta
 abbrev pub FirstInKeepOrder : Type 0
 FirstInKeepOrder =
     (sys : System) (lanes : List (List Rec)) → Words sys lanes → (a : ℕ) → IsTrue (is_object sys a)
-    → first_in (operations (word.Queue a) lanes)
-    ≡ plainly_taken 0 (operations (word.Queue a) lanes) ++ drop (waiting 0 (operations (word.Queue a) lanes)) (queued sys a lanes)
+    → entries_first_in (operations (word.Queue a) lanes)
+    ≡ plainly_taken 0 (operations (word.Queue a) lanes) ++ drop (waiting 0 (operations (word.Queue a) lanes)) (entries_queued sys a lanes)
 
 abbrev pub may_take : Body → ℕ → Bool
 may_take (Took f l m e) n = nat_lt 0 n

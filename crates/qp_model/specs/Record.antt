@@ -49,9 +49,9 @@ seven x (a ∷ b ∷ c ∷ d ∷ e ∷ f ∷ g ∷ []) = x a b c d e f g
 seven x _ = Malformed
 
 -- five numbers, then the event's parameters, at most eight
-abbrev pub given : List ℕ → Body
-given (p ∷ n ∷ b ∷ from ∷ sig ∷ pars) = New p n b from sig pars
-given _ = Malformed
+abbrev pub new_form : List ℕ → Body
+new_form (p ∷ n ∷ b ∷ from ∷ sig ∷ pars) = New p n b from sig pars
+new_form _ = Malformed
 
 -- the code of the assertion, then its numbers
 abbrev pub asserted : List ℕ → Body
@@ -74,7 +74,7 @@ forms =
     ∷ one Init
     ∷ one Say
     ∷ plain_body Done
-    ∷ given
+    ∷ new_form
     ∷ four Short
     ∷ three Inc
     ∷ four Dec

@@ -25,9 +25,9 @@ unfolding after operations ring_of
 line_at sys lanes a n = after (line (ring_of sys a)) (take n (operations (word.Queue a) lanes))
 
 -- the pool after so many operations
-unfoldable pub pool_at : System → List (List Rec) → ℕ → ℕ → Pool
+unfoldable pub pool_after : System → List (List Rec) → ℕ → ℕ → Pool
 unfolding after operations
-pool_at sys lanes p n = after (free_blocks (blocks_of sys p)) (take n (operations (word.Pool p) lanes))
+pool_after sys lanes p n = after (free_blocks (blocks_of sys p)) (take n (operations (word.Pool p) lanes))
 
 -- the time event after so many operations
 unfoldable pub clock_at : List (List Rec) → ℕ → ℕ → Clock
@@ -71,13 +71,13 @@ NilShows =
 abbrev pub ShortShows : Type 0
 ShortShows =
     (sys : System) (lanes : List (List Rec)) → Words sys lanes → (p : ℕ) → IsTrue (is_pool sys p) → (o n free reserve : ℕ) → IsRecorded lanes o (Short p n free reserve)
-    → (n ≤ length (operations (word.Pool p) lanes)) × (length (pool_at sys lanes p n).free ≡ free) × (free ≤ reserve)
+    → (n ≤ length (operations (word.Pool p) lanes)) × (length (pool_after sys lanes p n).free ≡ free) × (free ≤ reserve)
 
 -- assertion 2 stands at a place of its pool's history where no block was free, and states that number
 abbrev pub NoBlockShows : Type 0
 NoBlockShows =
     (sys : System) (lanes : List (List Rec)) → Words sys lanes → (p : ℕ) → IsTrue (is_pool sys p) → (o n free : ℕ) → IsRecorded lanes o (NoBlock p n free)
-    → (n ≤ length (operations (word.Pool p) lanes)) × ((pool_at sys lanes p n).free ≡ []) × (free ≡ 0)
+    → (n ≤ length (operations (word.Pool p) lanes)) × ((pool_after sys lanes p n).free ≡ []) × (free ≡ 0)
 
 -- assertion 3 states the counter of a time event that was armed at a place of its history, and `idle` stands where it wasn't
 abbrev pub ArmedShows : Type 0

@@ -22,9 +22,9 @@ Leaves sys a first es ps (Within ev e left c) =
     (qs : List Piece) (end : Option Config) → StepGoesOn sys a ev e left c qs end → Course sys a first es (ps ++ qs) end
 
 -- whatever goes on from the second of the two goes on from the first, behind these pieces
-unfoldable pub Advances : System → Actor → Event → Entry → Remainder → Config → List Piece → Remainder → Config → Type 0
+unfoldable pub StepAdvances : System → Actor → Event → Entry → Remainder → Config → List Piece → Remainder → Config → Type 0
 unfolding StepGoesOn
-Advances sys a ev e left c g later d =
+StepAdvances sys a ev e left c g later d =
     (qs : List Piece) (end : Option Config) → StepGoesOn sys a ev e later d qs end → StepGoesOn sys a ev e left c (g ++ qs) end
 
 -- the same of an agenda alone, of a start or of a step: whatever does the second does the first, behind these pieces

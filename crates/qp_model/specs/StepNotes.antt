@@ -33,9 +33,9 @@ is_step_note _ = false
 unfoldable pub notes_of : List Task → List Body
 notes_of ts = filter_map note_of ts
 
-abbrev pub noted : Told → Option Body
-noted t = if is_step_note t.body then Some t.body else None
+abbrev pub step_note_in : Told → Option Body
+step_note_in t = if is_step_note t.body then Some t.body else None
 
 -- such notes among some records, in order
 unfoldable pub notes_in : List Told → List Body
-notes_in g = filter_map noted g
+notes_in g = filter_map step_note_in g

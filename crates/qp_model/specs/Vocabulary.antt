@@ -1,11 +1,11 @@
 -- The words of journal items, and how many numbers each has.
 use Rattle.std.specs.Prelude.{ℕ, ◌==◌, nat_le, Bool, false, ◌&&◌, ◌||◌, List, [], ◌∷◌, length, slice_index, slice_get, if◌then◌else◌}
 use Rattle.std.specs.Option.{unwrap_or}
-use Rattle.qp_model.specs.Kinds.{NEW, ASSERT, words}
+use Rattle.qp_model.specs.Kinds.{NEW, ASSERT, kind_words}
 
 -- the word of an id
 abbrev pub word_text : ℕ → List ℕ
-word_text id = unwrap_or (slice_get words id) []
+word_text id = unwrap_or (slice_get kind_words id) []
 
 -- how many numbers the items have, by id from 0 on; `new` and `assert` have rules of their own
 abbrev pub counts : List ℕ

@@ -13,7 +13,7 @@ use Rattle.qp_model.specs.declared.systems.System.{System}
 use Rattle.qp_model.specs.OneOrder.{Placed, Turn, acts_next, begun, stimuli_after, may_act, turned, all_empty, acted_last}
 use Rattle.qp_model.proofs.ListLemmas.{mapped}
 use Rattle.qp_model.proofs.HistoryLemmas.{total-append}
-use Rattle.qp_model_order.specs.Laws.{AreNumbered}
+use Rattle.qp_model_order.specs.Laws.{AreNumberedInOrder}
 
 -- a lane and one record more
 pub total-lane : (w : Word) (front : List (List Rec)) (lane : List Rec) (back : List (List Rec)) (r : Rec)
@@ -45,13 +45,13 @@ next-same xs ys (Draws w mark) same = ap (λ n. mark == suc n) (same w)
 next-same xs ys (Shows w mark) same = ap (λ n. mark == n) (same w)
 next-same xs ys Neither same = refl
 
-pub numbered-none : AreNumbered [] []
+pub numbered-none : AreNumberedInOrder [] []
 unfolding in_order
 numbered-none = record { numbers = refl; totals = λ w. refl }
 
 -- one record more, which draws or shows the next number of its word
-pub numbered-next : (all more order : List Item) (i : Item) → AreNumbered all order → is_next all (touch i) ≡ true → ((w : Word) → total w more ≡ total w all + total w (i ∷ []))
-    → AreNumbered more (order ++ i ∷ [])
+pub numbered-next : (all more order : List Item) (i : Item) → AreNumberedInOrder all order → is_next all (touch i) ≡ true → ((w : Word) → total w more ≡ total w all + total w (i ∷ []))
+    → AreNumberedInOrder more (order ++ i ∷ [])
 unfolding in_order
 numbered-next all more order i old next grows = record {
   numbers = in_order-append [] order (i ∷ []) old.numbers (and_from _ _ (next-same order all (touch i) old.totals ∙ next) refl);

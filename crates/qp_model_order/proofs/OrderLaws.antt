@@ -6,7 +6,7 @@ use Rattle.qp_model.specs.OneOrder.{looks_right}
 use Rattle.qp_model.specs.Record.{item_of}
 use Rattle.qp_model.specs.History.{all_items}
 use Rattle.qp_model_order.specs.RunOrder.{items_ordered, thread_of}
-use Rattle.qp_model_order.specs.Laws.{OrderBegins, ZeroComesLast, FreeLookComesLast, StimulusComesLast, OrderEndsInZero, OrderEndsInStimulus, OrderEndsInFullLane, EndsAreOneOrder, SourceGoesOn, SourceStops, NumbersGoOn, StimuliAreTheirOwn, OneLookChanges}
+use Rattle.qp_model_order.specs.Laws.{OrderBegins, ZeroComesLast, FreeLookComesLast, StimulusComesLast, OrderEndsInZero, OrderEndsInStimulus, OrderEndsInFullLane, EndsAreOneOrder, SourceGoesOn, SourceMayStop, NumbersGoOn, StimuliAreTheirOwn, OneLookChanges}
 use Rattle.qp_model_order.proofs.StimulusForm.{stimulus-form, stimulus-items, cut-items}
 use Rattle.qp_model_order.proofs.StimLemmas.{stim-own, stim-other}
 use Rattle.qp_model_order.proofs.RunLemmas.{order-new, order-zero, order-look, order-stimulus, ends-zero, ends-asserted, ends-cut, ends-full}
@@ -50,7 +50,7 @@ ends_are_one_order sys stimuli lane0 sources cuts xs h numbers = record {
 pub source_goes_on : SourceGoesOn
 source_goes_on sys kernel done g whole s look one may fits = runs-stimulus sys kernel done g whole s [] look one may fits
 
-pub source_stops : SourceStops
+pub source_stops : SourceMayStop
 source_stops sys kernel done g whole s left = (
   runs-before sys kernel done g whole s left,
   λ look one may fits. runs-asserted sys kernel done g whole s left look one may fits,

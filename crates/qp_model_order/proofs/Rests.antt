@@ -36,7 +36,7 @@ use Rattle.qp_model_order.specs.Placing.{all_placed, LooksNone}
 use Rattle.qp_model_order.specs.RunOrder.{items_ordered, placed}
 use Rattle.qp_model_order.proofs.MergeLemmas.{stimuli-append, stimuli-none}
 use Rattle.qp_model_order.proofs.StimLemmas.{items-placed}
-use Rattle.qp_model_order.specs.RestLaws.{IsIdleAtRests, RestsWhereNothingWaits, queue_after, records_of}
+use Rattle.qp_model_order.specs.RestLaws.{IsIdleAtRests, RestsWhereNothingWaits, queue_after, run_records}
 use Rattle.qp_model_order.proofs.OrderLemmas.{OfRecord, parted, spills-source, stimuli-all}
 use Rattle.qp_model_order.proofs.PrefixLemmas.{Stands, draws, first-part, first-taken, history-first, stands-all, stands-each}
 
@@ -268,7 +268,7 @@ tail-source true sources = tt
 tail-source false sources = spills-source 1 sources (omega arith)
 
 pub rests-idle : RestsWhereNothingWaits
-unfolding IsIdleAtRests records_of order one_thread source_lanes RestsWhereAllAreEmpty
+unfolding IsIdleAtRests run_records order one_thread source_lanes RestsWhereAllAreEmpty
 rests-idle sys stimuli j lawful other cuts one before behind n is d found some =
     let sources : List (List Item) = source_lanes sys j in
     let lane0 : List Item = lane_items (lane_at j 0) in

@@ -10,7 +10,7 @@ use Rattle.qp_model.specs.declared.bodies.Body.{Body}
 use Rattle.qp_model.specs.declared.bodies.Body.TheVariants as body
 use Rattle.qp_model.specs.Record.{Item}
 use Rattle.qp_model.specs.OneOrder.{stim_of, is_stim_at, look_of, look_numbers}
-use Rattle.qp_model_order.specs.RunOrder.{items_ordered, has_stim, up_to, stims_up_to}
+use Rattle.qp_model_order.specs.RunOrder.{items_ordered, has_stim, all_up_to, stims_up_to}
 use Rattle.qp_model_order.specs.Placing.{LooksNone, AreBehind, all_placed, stim_item}
 use Rattle.qp_model_order.proofs.MergeLemmas.{OtherLook, LooksOther}
 use Rattle.qp_model.proofs.FitsLemmas.{all-append}
@@ -23,23 +23,23 @@ pub any-both : {A : Type 0} (p : A → Bool) (xs ys : List A) → list_any p xs 
 any-both p xs ys a b = list_any-append p xs ys ∙ rw (a, b) refl
 
 -- more looks allow more numbers
-pub up_to-more : (m n : ℕ) (ks : List ℕ) → m ≤ n → up_to m ks ≡ true → up_to n ks ≡ true
+pub up_to-more : (m n : ℕ) (ks : List ℕ) → m ≤ n → all_up_to m ks ≡ true → all_up_to n ks ≡ true
 up_to-more m n [] le h = refl
 up_to-more m n (k ∷ ks) le h =
-    let parts = and_parts (nat_le k m) (up_to m ks) h in
+    let parts = and_parts (nat_le k m) (all_up_to m ks) h in
     let few : nat_le k m ≡ true = parts.0 in
     let one : nat_le k n ≡ true = grind (arith, nat_tests, few, le) in
     and_from _ _ one (up_to-more m n ks le parts.1)
 
 -- a later look is another than these
-pub looks-other : (n k : ℕ) (is : List Item) → n < k → up_to n (look_numbers is) ≡ true → LooksOther k is
+pub looks-other : (n k : ℕ) (is : List Item) → n < k → all_up_to n (look_numbers is) ≡ true → LooksOther k is
 looks-other n k [] lt h = tt
 looks-other n k (i ∷ is) lt h = let parts = by (look_of i.body) h in (parts.0, looks-other n k is lt parts.1)
   where
-    by : (o : Option (ℕ × ℕ)) → up_to n (cons_option (option_map (λ l. l.0) o) (look_numbers is)) ≡ true → OtherLook k o × (up_to n (look_numbers is) ≡ true)
+    by : (o : Option (ℕ × ℕ)) → all_up_to n (cons_option (option_map (λ l. l.0) o) (look_numbers is)) ≡ true → OtherLook k o × (all_up_to n (look_numbers is) ≡ true)
     by None h = (tt, h)
     by (Some x) h =
-        let parts = and_parts (nat_le x.0 n) (up_to n (look_numbers is)) h in
+        let parts = and_parts (nat_le x.0 n) (all_up_to n (look_numbers is)) h in
         let few : nat_le x.0 n ≡ true = parts.0 in
         let other : (k == x.0) ≡ false = grind (arith, nat_tests, few, lt) in
         (other, parts.1)

@@ -96,8 +96,8 @@ SourceGoesOn =
     → SourceRuns sys kernel 1 (done ++ s ∷ []) AllDone (g ++ plain (body.Stim (1 + length done) look) ∷ one)
 
 -- where it stops: before a stimulus, at its assertion, or within it
-abbrev pub SourceStops : Type 0
-SourceStops =
+abbrev pub SourceMayStop : Type 0
+SourceMayStop =
     (sys : System) (kernel : ℕ) (done : List Stim) (g : List Told) → SourceRuns sys kernel 1 done AllDone g
     → (s : Stim) (left : List Stim)
     → SourceRuns sys kernel 1 (done ++ s ∷ left) BeforeStimulus g
@@ -107,7 +107,7 @@ SourceStops =
     → SourceRuns sys kernel 1 (done ++ s ∷ left) InStimulus (g ++ plain (body.Stim (1 + length done) look) ∷ one))
 
 -- The records, in this order, have just the numbers of those of all lanes, each the next of its word when it was made.
-pub record AreNumbered (all order : List Item) : Type 0 where
+pub record AreNumberedInOrder (all order : List Item) : Type 0 where
   pub numbers : in_order [] order ≡ true
   pub totals : (w : Word) → total w order ≡ total w all
 
@@ -115,9 +115,9 @@ pub record AreNumbered (all order : List Item) : Type 0 where
 abbrev pub NumbersGoOn : Type 0
 NumbersGoOn =
     (front : List (List Rec)) (lane : List Rec) (back : List (List Rec)) (r : Rec) (order : List Item)
-    → AreNumbered (all_items (front ++ lane ∷ back)) order
+    → AreNumberedInOrder (all_items (front ++ lane ∷ back)) order
     → is_next (all_items (front ++ lane ∷ back)) (touch (item_of r)) ≡ true
-    → AreNumbered (all_items (front ++ (lane ++ r ∷ []) ∷ back)) (order ++ item_of r ∷ [])
+    → AreNumberedInOrder (all_items (front ++ (lane ++ r ∷ []) ∷ back)) (order ++ item_of r ∷ [])
 
 -- The records of a stimulus hold no look, no other `stim` and no end of a lane but an assertion at their end, and see no entry; and so
 -- does a front of them that a `spill` cut.

@@ -18,9 +18,9 @@ use Rattle.qp_model.specs.Sites.{object_at, ring_of}
 use Rattle.qp_model_order.specs.RunOrder.{items_ordered, placed}
 
 -- the records of a run with one thread in their order
-unfoldable pub records_of : OneThread → List Placed
+unfoldable pub run_records : OneThread → List Placed
 unfolding order
-records_of r = order r.cuts r.lane0 r.sources
+run_records r = order r.cuts r.lane0 r.sources
 
 -- the queue of this object after these records, by those of its operations
 unfoldable pub queue_after : System → ℕ → List Item → Line
@@ -38,4 +38,4 @@ IsIdleAtRests sys records =
 abbrev pub RestsWhereNothingWaits : Type 0
 RestsWhereNothingWaits =
     (sys : System) (stimuli : List (List Stim)) (j : Journal) → Lawful sys stimuli j → j.kernel ≢ port → (cuts : Bool)
-    → IsOneOrder (one_thread sys stimuli j cuts) → IsIdleAtRests sys (records_of (one_thread sys stimuli j cuts))
+    → IsOneOrder (one_thread sys stimuli j cuts) → IsIdleAtRests sys (run_records (one_thread sys stimuli j cuts))

@@ -33,8 +33,8 @@ all_right sys stimuli sources before (x ∷ xs) =
     is_right sys stimuli sources before (look_of x.item.body) && all_right sys stimuli sources (before ++ x ∷ []) xs
 
 -- each number is at most this one
-abbrev pub up_to : ℕ → List ℕ → Bool
-up_to n ks = list_all (λ k. nat_le k n) ks
+abbrev pub all_up_to : ℕ → List ℕ → Bool
+all_up_to n ks = list_all (λ k. nat_le k n) ks
 
 -- no `stim` stands in a look after this one
 abbrev pub stims_up_to : ℕ → List (List Item) → Bool
@@ -48,8 +48,8 @@ thread_of sys stimuli lane0 sources cuts = record { sys = sys; stimuli = stimuli
 pub record RunsInOrder (sys : System) (stimuli : List (List Stim)) (looks : ℕ) (lane0 : List Item) (sources : List (List Item)) (xs : List Placed) : Type 0 where
   pub merged : (cuts : Bool) → with_stimuli cuts sources lane0 ≡ xs
   pub turns : all_right sys stimuli sources [] xs ≡ true
-  pub counted : up_to looks (look_numbers lane0) ≡ true
-  pub seen : up_to looks (look_numbers (items_ordered xs)) ≡ true
+  pub counted : all_up_to looks (look_numbers lane0) ≡ true
+  pub seen : all_up_to looks (look_numbers (items_ordered xs)) ≡ true
   pub stims : stims_up_to looks sources ≡ true
   pub stand : stims_placed (thread_of sys stimuli lane0 sources false) ≡ true
   pub calm : list_any (λ i. is_end i.body) (items_ordered xs) ≡ false

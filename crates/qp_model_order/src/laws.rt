@@ -1,6 +1,6 @@
 //! Laws of the order of a run with one thread, and of the lanes of its sources. Each function here does nothing: its contract is the law.
 
-ghost use Rattle.qp_model_order.specs.Laws.{SourceLaneGoesOn, SourceLaneIsWhole, SourceLaneStops, OrderBegins, ZeroComesLast, FreeLookComesLast, StimulusComesLast, OrderEndsInZero, OrderEndsInStimulus, OrderEndsInFullLane, EndsAreOneOrder, SourceGoesOn, SourceStops, NumbersGoOn, StimuliAreTheirOwn, OneLookChanges};
+ghost use Rattle.qp_model_order.specs.Laws.{SourceLaneGoesOn, SourceLaneIsWhole, SourceLaneStops, OrderBegins, ZeroComesLast, FreeLookComesLast, StimulusComesLast, OrderEndsInZero, OrderEndsInStimulus, OrderEndsInFullLane, EndsAreOneOrder, SourceGoesOn, SourceMayStop, NumbersGoOn, StimuliAreTheirOwn, OneLookChanges};
 
 /// Before the first record the order is empty.
 pub fn orders_begin()
@@ -49,7 +49,7 @@ pub fn sources_go_on()
 
 /// The lane of a source stops before a stimulus, at its assertion, or within it.
 pub fn sources_stop()
-    ensures { SourceStops }
+    ensures { SourceMayStop }
 {}
 
 /// In the order in which records are made, each number drawn or shown is the number of the word's operations before it.

@@ -7,7 +7,7 @@ use Rattle.qp_model.specs.WordLaw.{is_block}
 use Rattle.qp_model.specs.Lives.{has_lives, edges_empty}
 use Rattle.qp_model.proofs.WordTestLemmas.{has_lives-is}
 use Rattle.qp_model_rows.specs.Systems.{careful}
-use Rattle.qp_model_rows.specs.Broken.{BreaksLives, LivesOf, numbers_hold, blocks_allowed}
+use Rattle.qp_model_rows.specs.Broken.{BreaksLives, LivesOf, numbers_stand, blocks_allowed}
 use Rattle.qp_model_rows.specs.Journals.{not_dropped, not_dropped_lanes}
 
 first_block : LivesOf not_dropped_lanes 1 0
@@ -23,7 +23,7 @@ unfolding edges_empty hist all_items
 no_life h = let wrong : false ≡ true = h.empty in cc
 
 pub broken : BreaksLives careful not_dropped 1 1
-unfolding numbers_hold blocks_allowed is_block
+unfolding numbers_stand blocks_allowed is_block
 broken = record {
   numbers = refl;
   blocks = refl;

@@ -24,9 +24,9 @@ abbrev pub each_block : System → (ℕ → ℕ → Bool) → Bool
 each_block sys test = each_pool sys (λ p. all_below (blocks_of sys p) (test p))
 
 -- each number drawn on a word of the system is drawn once
-unfoldable pub numbers_hold : System → List (List Rec) → Bool
+unfoldable pub numbers_stand : System → List (List Rec) → Bool
 unfolding all_below all_items is_numbered
-numbers_hold sys lanes =
+numbers_stand sys lanes =
     each_pool sys (λ p. is_numbered (word.Pool p) (all_items lanes))
     && each_block sys (λ p b. is_numbered (word.Block p b) (all_items lanes))
     && list_all (λ d. is_numbered (word.Queue d.priority) (all_items lanes)) sys.objects
@@ -48,7 +48,7 @@ IsUnlawful sys j = (stimuli : List (List Stim)) → Lawful sys stimuli j → ⊥
 
 -- numbers, free blocks and references are right, and so are the lives of the blocks before this one, but not its own
 pub record BreaksLives (sys : System) (j : Journal) (p b : ℕ) : Type 0 where
-  pub numbers : numbers_hold sys j.lanes ≡ true
+  pub numbers : numbers_stand sys j.lanes ≡ true
   pub blocks : blocks_allowed sys j.lanes ≡ true
   pub before : (c : ℕ) → IsTrue (nat_lt c b) → LivesOf j.lanes p c
   pub broken : LivesOf j.lanes p b → ⊥

@@ -5,7 +5,7 @@ use Rattle.std.proofs.lemmas.Nat.{ones_cat}
 use Rattle.std.proofs.Math.Nat.{pow-suc}
 use Rattle.std.proofs.Math.Seq.{take-length}
 use Rattle.std.specs.Int.Count.{ones, ones_in, count_leading_zeros, leading_unique}
-use Rattle.qp_packed.specs.Packing.{wide, marks, spread, spread_one, behind}
+use Rattle.qp_packed.specs.Packing.{wide, wide_marks, spread, spread_one, words_behind}
 use Rattle.qp_packed.specs.Reading.{Marked}
 use Rattle.qp_packed.proofs.NumberLemmas.{narrow, broad, wide-one}
 use Rattle.qp_packed.proofs.NumberReads.{behind-of}
@@ -36,31 +36,31 @@ spread-one-length x = go (nat_lt x 4294967296) refl
     go false e = rw ((broad x e).0, (broad x e).1) refl
 
 -- each number is a word, and each wide one another
-pub spread-ones : (xs : List ℕ) → length (spread xs) + 1 ≡ length xs + ones (marks xs)
-unfolding marks spread
+pub spread-ones : (xs : List ℕ) → length (spread xs) + 1 ≡ length xs + ones (wide_marks xs)
+unfolding wide_marks spread
 spread-ones [] = omega (arith, ones-one)
 spread-ones (x ∷ xs) =
-    omega (arith, length-append (spread_one x) (spread xs), spread-one-length x, spread-ones xs, ones-more (wide x) (marks xs) (wide-one x))
+    omega (arith, length-append (spread_one x) (spread xs), spread-one-length x, spread-ones xs, ones-more (wide x) (wide_marks xs) (wide-one x))
 
 -- the 1 behind the last stands at as many bits as there are numbers
-marks-high : (xs : List ℕ) → 2 ^ length xs ≤ marks xs
-unfolding marks
+marks-high : (xs : List ℕ) → 2 ^ length xs ≤ wide_marks xs
+unfolding wide_marks
 marks-high [] = omega arith
 marks-high (x ∷ xs) = omega (arith, marks-high xs, pow-suc 2 (length xs))
 
-marks-low : (xs : List ℕ) → marks xs < 2 * 2 ^ length xs
-unfolding marks
+marks-low : (xs : List ℕ) → wide_marks xs < 2 * 2 ^ length xs
+unfolding wide_marks
 marks-low [] = omega arith
 marks-low (x ∷ xs) = omega (arith, marks-low xs, wide-one x, pow-suc 2 (length xs))
 
-pub marks-leading : (xs : List ℕ) → length xs ≤ 13 → count_leading_zeros 32 (marks xs) ≡ 31 - length xs
+pub marks-leading : (xs : List ℕ) → length xs ≤ 13 → count_leading_zeros 32 (wide_marks xs) ≡ 31 - length xs
 marks-leading xs few =
-    sym (leading_unique 32 (marks xs) (31 - length xs) (suc (length xs)) (omega arith) (omega (arith, marks-low xs, pow-suc 2 (length xs))) (omega (arith, marks-high xs, pow-suc 2 (length xs))))
+    sym (leading_unique 32 (wide_marks xs) (31 - length xs) (suc (length xs)) (omega arith) (omega (arith, marks-low xs, pow-suc 2 (length xs))) (omega (arith, marks-high xs, pow-suc 2 (length xs))))
 
-pub words-of : (mark : ℕ) (xs : List ℕ) → length xs ≤ 13 → mark ≡ marks xs → (32 - count_leading_zeros 32 mark) + ones mark - 2 ≡ length (spread xs)
+pub words-of : (mark : ℕ) (xs : List ℕ) → length xs ≤ 13 → mark ≡ wide_marks xs → (32 - count_leading_zeros 32 mark) + ones mark - 2 ≡ length (spread xs)
 words-of mark xs few is = omega (arith, ap (count_leading_zeros 32) is, ap ones is, marks-leading xs few, spread-ones xs)
 
-pub skips : (mark : ℕ) (ws : List ℕ) (n : ℕ) → (m : Marked mark ws) → n ≡ length (spread m.xs) → drop n ws ≡ behind 13 mark ws
+pub skips : (mark : ℕ) (ws : List ℕ) (n : ℕ) → (m : Marked mark ws) → n ≡ length (spread m.xs) → drop n ws ≡ words_behind 13 mark ws
 skips mark ws n m is = ap (drop n) m.words ∙ (drop_at (spread m.xs) m.rest n (sym is) ∙ sym (behind-of mark ws m.xs m.rest m.marked m.words m.few))
 
 pub within : (mark : ℕ) (ws : List ℕ) (n : ℕ) → (m : Marked mark ws) → n ≡ length (spread m.xs) → n ≤ length ws

@@ -1,7 +1,7 @@
 -- The records of a packed lane.
 use Rattle.std.specs.Prelude.{List}
 use Rattle.qp_packed.specs.declared.packed_lane.PackedLane.{PackedLane}
-use Rattle.qp_packed.specs.Packing.{PackedRecord, records_in}
+use Rattle.qp_packed.specs.Packing.{PackedRecord, records_read}
 
-abbrev pub records_of : PackedLane → List PackedRecord
-records_of l = records_in l.count l.words.items
+abbrev pub lane_unpacked : PackedLane → List PackedRecord
+lane_unpacked l = records_read l.count l.words.items

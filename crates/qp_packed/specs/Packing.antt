@@ -14,9 +14,9 @@ abbrev pub wide : ℕ → ℕ
 wide x = if nat_lt x 4294967296 then 0 else 1
 
 -- which of the numbers are wide, the first one lowest, and a 1 behind the last
-unfoldable pub marks : List ℕ → ℕ
-marks [] = 1
-marks (x ∷ xs) = wide x + 2 * marks xs
+unfoldable pub wide_marks : List ℕ → ℕ
+wide_marks [] = 1
+wide_marks (x ∷ xs) = wide x + 2 * wide_marks xs
 
 -- a number in its words, the low one first
 abbrev pub spread_one : ℕ → List ℕ
@@ -28,7 +28,7 @@ spread (x ∷ xs) = spread_one x ++ spread xs
 
 -- the head of a record
 abbrev pub head_of : PackedRecord → ℕ
-head_of r = r.kind + 256 * r.of + 65536 * marks r.numbers
+head_of r = r.kind + 256 * r.of + 65536 * wide_marks r.numbers
 
 -- a record in its words
 abbrev pub packed_one : PackedRecord → List ℕ
@@ -39,13 +39,13 @@ packed [] = []
 packed (r ∷ rs) = packed_one r ++ packed rs
 
 -- where the record begins that so many stand before
-abbrev pub place_of : ℕ → List PackedRecord → ℕ
-place_of k rs = length (packed (take k rs))
+abbrev pub record_begin : ℕ → List PackedRecord → ℕ
+record_begin k rs = length (packed (take k rs))
 
 -- the first of some words, and the others
-abbrev pub first : List ℕ → ℕ
-first [] = 0
-first (w ∷ ws) = w
+abbrev pub first_packed : List ℕ → ℕ
+first_packed [] = 0
+first_packed (w ∷ ws) = w
 
 abbrev pub others : List ℕ → List ℕ
 others [] = []
@@ -55,38 +55,38 @@ others (w ∷ ws) = ws
 unfoldable pub numbers_in : ℕ → ℕ → List ℕ → List ℕ
 numbers_in zero mark ws = []
 numbers_in (suc k) mark ws =
-    if nat_lt mark 2 then [] else (if mark % 2 == 0 then first ws ∷ numbers_in k (mark / 2) (others ws) else (first ws + 4294967296 * first (others ws)) ∷ numbers_in k (mark / 2) (others (others ws)))
+    if nat_lt mark 2 then [] else (if mark % 2 == 0 then first_packed ws ∷ numbers_in k (mark / 2) (others ws) else (first_packed ws + 4294967296 * first_packed (others ws)) ∷ numbers_in k (mark / 2) (others (others ws)))
 
 -- the words behind them
-unfoldable pub behind : ℕ → ℕ → List ℕ → List ℕ
-behind zero mark ws = ws
-behind (suc k) mark ws =
-    if nat_lt mark 2 then ws else (if mark % 2 == 0 then behind k (mark / 2) (others ws) else behind k (mark / 2) (others (others ws)))
+unfoldable pub words_behind : ℕ → ℕ → List ℕ → List ℕ
+words_behind zero mark ws = ws
+words_behind (suc k) mark ws =
+    if nat_lt mark 2 then ws else (if mark % 2 == 0 then words_behind k (mark / 2) (others ws) else words_behind k (mark / 2) (others (others ws)))
 
 -- so many records that words begin with
-unfoldable pub records_in : ℕ → List ℕ → List PackedRecord
-records_in zero ws = []
-records_in (suc n) [] = []
-records_in (suc n) (h ∷ ws) =
-    record { kind = h % 256; of = h / 256 % 256; numbers = numbers_in 13 (h / 65536) ws } ∷ records_in n (behind 13 (h / 65536) ws)
+unfoldable pub records_read : ℕ → List ℕ → List PackedRecord
+records_read zero ws = []
+records_read (suc n) [] = []
+records_read (suc n) (h ∷ ws) =
+    record { kind = h % 256; of = h / 256 % 256; numbers = numbers_in 13 (h / 65536) ws } ∷ records_read n (words_behind 13 (h / 65536) ws)
 
 -- a record that the words hold
-pub record Fits (r : PackedRecord) : Type 0 where
+pub record FitsInWords (r : PackedRecord) : Type 0 where
   pub kind : r.kind < 256
   pub of : r.of < 256
   pub few : length r.numbers ≤ 13
 
 -- these words are just so many records
 pub record ArePacked (n : ℕ) (ws : List ℕ) : Type 0 where
-  pub words : ws ≡ packed (records_in n ws)
-  pub count : length (records_in n ws) ≡ n
-  pub fit : AllByRecursion Fits (records_in n ws)
+  pub words : ws ≡ packed (records_read n ws)
+  pub count : length (records_read n ws) ≡ n
+  pub fit : AllByRecursion FitsInWords (records_read n ws)
 
-Fits-prop : (r : PackedRecord) → IsProp (Fits r)
+Fits-prop : (r : PackedRecord) → IsProp (FitsInWords r)
 Fits-prop r = hlevel props
 
-all_fit-prop : (rs : List PackedRecord) → IsProp (AllByRecursion Fits rs)
-all_fit-prop rs = AllByRecursion-prop Fits Fits-prop rs
+all_fit-prop : (rs : List PackedRecord) → IsProp (AllByRecursion FitsInWords rs)
+all_fit-prop rs = AllByRecursion-prop FitsInWords Fits-prop rs
 
 pub ArePacked-prop : (n : ℕ) (ws : List ℕ) → IsProp (ArePacked n ws)
 ArePacked-prop n ws = hlevel (props, all_fit-prop)

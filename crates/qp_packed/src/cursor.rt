@@ -2,8 +2,8 @@
 
 ghost use Rattle.std.specs.Prelude.{◌≡◌, ℕ, ◌+◌, ◌<◌, ◌≤◌, ◌/◌, ◌==◌, List, [], ◌∷◌, ◌++◌, length, drop, slice_get, true, false};
 ghost use Rattle.std.specs.Option.{option_map};
-ghost use Rattle.qp_packed.specs.Packing.{ArePacked, behind, marks, numbers_in, records_in, spread};
-ghost use Rattle.qp_packed.specs.Reading.{Marked, Reads, Waits};
+ghost use Rattle.qp_packed.specs.Packing.{ArePacked, words_behind, wide_marks, numbers_in, records_read, spread};
+ghost use Rattle.qp_packed.specs.Reading.{Marked, Reads, HasUnread};
 
 use arrayvec::ArrayVec;
 use std::marker::Model;
@@ -17,11 +17,11 @@ pub struct Cursor<'a> {
 
 impl<'a> Model for Cursor<'a> {
     ghost use Rattle.std.specs.Prelude.{List};
-    ghost use Rattle.qp_packed.specs.Packing.{ArePacked, PackedRecord, records_in};
+    ghost use Rattle.qp_packed.specs.Packing.{ArePacked, PackedRecord, records_read};
 
     ghost Value = { List PackedRecord };
 
-    ghost view = { λ b. records_in b.left b.words.now };
+    ghost view = { λ b. records_read b.left b.words.now };
 
     ghost invariant = { λ b. ArePacked b.left b.words.now };
 }
@@ -41,7 +41,7 @@ fn cut(words: &[u32]) -> (u32, &[u32])
 /// The first number of these words, and the words behind it.
 #[inline(always)]
 fn number_of(words: &[u32], mark: u32) -> (u64, &[u32])
-    requires { Waits mark words.now }
+    requires { HasUnread mark words.now }
     ensures { Reads mark words.now result.0 result.1.now }
 {
     let (low, rest) = cut(words);
@@ -58,7 +58,7 @@ fn numbers_into<'a>(words: &'a [u32], mark: u32, nums: &mut ArrayVec<u64, 13>) -
     requires marked { Marked mark words.now }
     requires none { nums.old.items ≡ [] }
     ensures numbers { nums.new.items ≡ numbers_in 13 mark words.now }
-    ensures behind { result.now ≡ behind 13 mark words.now }
+    ensures behind { result.now ≡ words_behind 13 mark words.now }
 {
     let mut rest = words;
     let mut mark = mark;
@@ -74,7 +74,7 @@ fn numbers_into<'a>(words: &'a [u32], mark: u32, nums: &mut ArrayVec<u64, 13>) -
 /// How many words numbers so marked take: one for each bit below the 1 behind the last, and one for each other 1.
 #[inline(always)]
 fn words_of(mark: u32) -> usize
-    ensures { (xs : List ℕ) → length xs ≤ 13 → mark ≡ marks xs → result ≡ length (spread xs) }
+    ensures { (xs : List ℕ) → length xs ≤ 13 → mark ≡ wide_marks xs → result ≡ length (spread xs) }
 {
     let bits = 32 - mark.leading_zeros();
     let ones = mark.count_ones();
@@ -94,7 +94,7 @@ pub(crate) fn words_from(words: &[u32], at: usize) -> &[u32]
 #[inline(always)]
 fn behind_numbers(words: &[u32], mark: u32) -> &[u32]
     requires { Marked mark words.now }
-    ensures { result.now ≡ behind 13 mark words.now }
+    ensures { result.now ≡ words_behind 13 mark words.now }
 {
     words_from(words, words_of(mark))
 }
@@ -103,7 +103,7 @@ impl<'a> Cursor<'a> {
     /// The records that these words are.
     pub(crate) fn over(words: &'a [u32], left: usize) -> Cursor<'a>
         requires { ArePacked left words.now }
-        ensures { result ≡ records_in left words.now }
+        ensures { result ≡ records_read left words.now }
     {
         Cursor { words, left }
     }

@@ -1,7 +1,7 @@
 //! The records of a lane, packed.
 
 ghost use Rattle.std.specs.Prelude.{◌≡◌, ◌-◌};
-ghost use Rattle.qp_packed.specs.Packing.{ArePacked, ArePacked-prop, place_of, records_in};
+ghost use Rattle.qp_packed.specs.Packing.{ArePacked, ArePacked-prop, record_begin, records_read};
 
 /// How many words a record takes at most: a head, and two for each of 13 numbers.
 pub const MOST_WORDS: usize = 27;
@@ -18,6 +18,6 @@ pub struct PackedLane {
     pub last: usize,
     pub last_but_one: usize,
     ghost packed: { ArePacked count words.items } by { ArePacked-prop count words.items },
-    ghost last_is: { last ≡ place_of (count - 1) (records_in count words.items) },
-    ghost last_but_one_is: { last_but_one ≡ place_of (count - 2) (records_in count words.items) },
+    ghost last_is: { last ≡ record_begin (count - 1) (records_read count words.items) },
+    ghost last_but_one_is: { last_but_one ≡ record_begin (count - 2) (records_read count words.items) },
 }

@@ -2,8 +2,8 @@
 
 ghost use Rattle.std.specs.Prelude.{◌≡◌, ◌+◌, ◌<◌, ◌≤◌, ◌==◌, [], ◌∷◌, ◌++◌, ◌*◌, length, IfOk, OnOk, OnErr};
 ghost use Rattle.std.specs.Vec.{vec_capacity, vec_len};
-ghost use Rattle.qp_packed.specs.Packing.{marks, spread, spread_one, wide};
-ghost use Rattle.qp_packed.specs.Lanes.{records_of};
+ghost use Rattle.qp_packed.specs.Packing.{wide_marks, spread, spread_one, wide};
+ghost use Rattle.qp_packed.specs.Lanes.{lane_unpacked};
 
 use crate::packed_lane::{MOST_WORDS, PackedLane};
 use std::alloc::{AllocError, Global};
@@ -11,7 +11,7 @@ use std::alloc::{AllocError, Global};
 impl PackedLane {
     /// No record, and no memory.
     pub fn new(alloc: Global) -> PackedLane
-        ensures { records_of result ≡ [] }
+        ensures { lane_unpacked result ≡ [] }
     {
         PackedLane {
             words: Vec::new(alloc),
@@ -24,7 +24,7 @@ impl PackedLane {
     /// No record, and room for so many.
     pub fn with_room(alloc: Global, more: usize) -> Result<PackedLane, AllocError>
         requires { more < 4294967296 }
-        ensures none { IfOk result (λ l. records_of l ≡ []) }
+        ensures none { IfOk result (λ l. lane_unpacked l ≡ []) }
         ensures room { IfOk result (λ l. vec_len l.words + 27 * more ≤ vec_capacity l.words) }
     {
         Ok(PackedLane {
@@ -38,7 +38,7 @@ impl PackedLane {
     /// Makes room for so many more records. A refusal changes no record and no room.
     pub fn make_room(&mut self, more: usize) -> Result<(), AllocError>
         requires { more < 4294967296 }
-        ensures records { records_of self.new ≡ records_of self.old }
+        ensures records { lane_unpacked self.new ≡ lane_unpacked self.old }
         ensures len { vec_len self.new.words ≡ vec_len self.old.words }
         ensures ok { OnOk result (vec_len self.new.words + 27 * more ≤ vec_capacity self.new.words) }
         ensures refused { OnErr result (vec_capacity self.new.words ≡ vec_capacity self.old.words) }
@@ -49,8 +49,8 @@ impl PackedLane {
     /// Adds a record. A refusal changes nothing.
     pub fn push(&mut self, kind: u8, of: u8, numbers: &[u64]) -> Result<(), AllocError>
         requires { length numbers.now ≤ 13 }
-        ensures ok { OnOk result (records_of self.new ≡ records_of self.old ++ record { kind = kind; of = of; numbers = numbers.now } ∷ []) }
-        ensures refused { OnErr result (records_of self.new ≡ records_of self.old) }
+        ensures ok { OnOk result (lane_unpacked self.new ≡ lane_unpacked self.old ++ record { kind = kind; of = of; numbers = numbers.now } ∷ []) }
+        ensures refused { OnErr result (lane_unpacked self.new ≡ lane_unpacked self.old) }
     {
         self.make_room(1)?;
         self.push_reserved(kind, of, numbers);
@@ -61,7 +61,7 @@ impl PackedLane {
     pub fn push_reserved(&mut self, kind: u8, of: u8, numbers: &[u64])
         requires few { length numbers.now ≤ 13 }
         requires room { vec_len self.old.words + 27 ≤ vec_capacity self.old.words }
-        ensures records { records_of self.new ≡ records_of self.old ++ record { kind = kind; of = of; numbers = numbers.now } ∷ [] }
+        ensures records { lane_unpacked self.new ≡ lane_unpacked self.old ++ record { kind = kind; of = of; numbers = numbers.now } ∷ [] }
         ensures len { vec_len self.new.words ≤ vec_len self.old.words + 27 }
         ensures capacity { vec_capacity self.new.words ≡ vec_capacity self.old.words }
     {
@@ -76,14 +76,14 @@ impl PackedLane {
 
     /// How many records there are.
     pub fn len(&self) -> usize
-        ensures { result ≡ length (records_of self.now) }
+        ensures { result ≡ length (lane_unpacked self.now) }
     {
         self.count
     }
 
     /// Whether there is none.
     pub fn is_empty(&self) -> bool
-        ensures { result ≡ (length (records_of self.now) == 0) }
+        ensures { result ≡ (length (lane_unpacked self.now) == 0) }
     {
         self.count == 0
     }
@@ -101,7 +101,7 @@ fn wide_of(x: u64) -> u32
 #[inline(always)]
 fn marks_of(xs: &[u64]) -> u32
     requires { length xs.now ≤ 13 }
-    ensures { result ≡ marks xs.now }
+    ensures { result ≡ wide_marks xs.now }
 {
     let mut marked = 1;
     let mut left = xs.len();

@@ -27,8 +27,8 @@ use Rattle.qp_plain_sound.proofs.Standing.{block-pool, out-not_free}
 use Rattle.qp_plain_sound.proofs.Times.{stands-times}
 use Rattle.qp_plain.specs.declared.book.Book.{Book}
 use Rattle.qp_plain.specs.declared.world.PlainWorld.{PlainWorld}
-use Rattle.qp_plain.specs.Book.{Gains, lists_of}
-use Rattle.qp_plain.specs.Tables.{place}
+use Rattle.qp_plain.specs.Book.{BookGains, lists_of}
+use Rattle.qp_plain.specs.Tables.{block_place}
 use Rattle.qp_plain.specs.World.{WorldHolds}
 use Rattle.qp_plain.specs.WorldView.{world_view}
 use Rattle.qp_plain.proofs.Calling.{step_at, view_with, extends, BlockIs}
@@ -37,7 +37,7 @@ use Rattle.qp_plain.proofs.Turns.{now-seen, quiet, block-moves, pool-moves, cell
 use Rattle.qp_plain_sound.proofs.Standing as standing
 
 -- References.
-module _ (w : PlainWorld) (b : Book) (r : Rec) (gains : Gains r w.book b) (p c n : ℕ) (q : BlockWord) (h : IsTrue (is_block w.sys.now p c)) (q_is : BlockIs w p c q) (n_is : n ≡ q.ops) where
+module _ (w : PlainWorld) (b : Book) (r : Rec) (gains : BookGains r w.book b) (p c n : ℕ) (q : BlockWord) (h : IsTrue (is_block w.sys.now p c)) (q_is : BlockIs w p c q) (n_is : n ≡ q.ops) where
   abbrev With : List BlockWord → Type 0
   With blocks = WorldHolds w.sys.now (lists_of b) b.order.items w.pools.items blocks w.cells.items w.queues.items w.signals.items w.timers.items
 
@@ -46,7 +46,7 @@ module _ (w : PlainWorld) (b : Book) (r : Rec) (gains : Gains r w.book b) (p c n
 
   made : (next : BlockWord) → item_of r ≡ record { of = w.by; body = Inc p c n } → (IsTrue (stands (Loose p c false) (hands_in w.sys.now (lists_of w.book) w.book.order.items))
       ⊎ ((k : ℕ) × IsTrue (stands (Held p c k) (hands_in w.sys.now (lists_of w.book) w.book.order.items))))
-      → next ≡ record { ops = q.ops + 1; refs = q.refs + 1 } → With (slice_set w.blocks.items (place p c) next)
+      → next ≡ record { ops = q.ops + 1; refs = q.refs + 1 } → With (slice_set w.blocks.items (block_place p c) next)
   unfolding May
   made next says token is =
       let more : next.refs ≡ suc (length (refs_in (lists_of w.book) p c).names) = ap (λ x. x.refs) is ∙ up q.refs ∙ ap suc q_is.refs in
@@ -57,7 +57,7 @@ module _ (w : PlainWorld) (b : Book) (r : Rec) (gains : Gains r w.book b) (p c n
       up x = omega arith
 
   pub first-holds : (f : Fresh) (next : BlockWord) → p ≡ f.pool → c ≡ f.block → StandsFresh f (world_view w) → IsFalse f.used → item_of r ≡ record { of = w.by; body = Inc p c n }
-      → next ≡ record { ops = q.ops + 1; refs = q.refs + 1 } → With (slice_set w.blocks.items (place p c) next)
+      → next ≡ record { ops = q.ops + 1; refs = q.refs + 1 } → With (slice_set w.blocks.items (block_place p c) next)
   first-holds f next p_is c_is stand unused says is =
       let loose = fresh-stands w f stand in
       made next says (inl (subst (λ x. IsTrue (stands (Loose x c false) (hands_in w.sys.now (lists_of w.book) w.book.order.items))) (sym p_is)
@@ -65,11 +65,11 @@ module _ (w : PlainWorld) (b : Book) (r : Rec) (gains : Gains r w.book b) (p c n
       (subst (λ u. IsTrue (stands (Loose f.pool f.block u) (hands_in w.sys.now (lists_of w.book) w.book.order.items))) unused loose)))) is
 
   pub inc-holds : (k : ℕ) (next : BlockWord) → IsTrue (stands (Held p c k) (hands_in w.sys.now (lists_of w.book) w.book.order.items)) → item_of r ≡ record { of = w.by; body = Inc p c n }
-      → next ≡ record { ops = q.ops + 1; refs = q.refs + 1 } → With (slice_set w.blocks.items (place p c) next)
+      → next ≡ record { ops = q.ops + 1; refs = q.refs + 1 } → With (slice_set w.blocks.items (block_place p c) next)
   inc-holds k next held says is = made next says (inr (k, held)) is
 
   pub dec-holds : (k : ℕ) (next : BlockWord) → IsTrue (stands (Held p c k) (hands_in w.sys.now (lists_of w.book) w.book.order.items)) → item_of r ≡ record { of = w.by; body = Dec p c n k }
-      → next.ops ≡ q.ops + 1 → next.refs + 1 ≡ q.refs → With (slice_set w.blocks.items (place p c) next)
+      → next.ops ≡ q.ops + 1 → next.refs + 1 ≡ q.refs → With (slice_set w.blocks.items (block_place p c) next)
   unfolding May
   dec-holds k next held says ops refs =
       let there = standing.held-stands w.sys.now (lists_of w.book) (hands_in w.sys.now (lists_of w.book) w.book.order.items) w.holds.world.sound p c h k held in
@@ -78,7 +78,7 @@ module _ (w : PlainWorld) (b : Book) (r : Rec) (gains : Gains r w.book b) (p c n
       (ops ∙ ap (λ x. x + 1) q_is.ops) (omega (arith, refs, less, q_is.refs))
 
 -- What the calls on references answer.
-module _ (w : PlainWorld) (b : Book) (r : Rec) (gains : Gains r w.book b) (less : b.here.spare + 1 ≡ w.book.here.spare) where
+module _ (w : PlainWorld) (b : Book) (r : Rec) (gains : BookGains r w.book b) (less : b.here.spare + 1 ≡ w.book.here.spare) where
   pub first-it : (f : Fresh) (q : BlockWord) (n : ℕ) → BlockIs w f.pool f.block q → n ≡ q.ops → item_of r ≡ record { of = w.by; body = Inc f.pool f.block n } → StandsFresh f (world_view w) → IsFalse f.used
       → Makes f.pool f.block 1 (world_view w) (view_with w b) (record { pool = f.pool; block = f.block; name = n })
   first-it f q n q_is n_is says stand unused =
@@ -108,7 +108,7 @@ module _ (w : PlainWorld) (b : Book) (r : Rec) (gains : Gains r w.book b) (less 
           (dec-keeps (step_at w b r) h n k (extends w b r w.by (Dec h.pool h.block n h.name) gains less says) stand (n_is ∙ q_is.ops) (omega (arith, e, q_is.refs)))
 
 -- A block comes back.
-module _ (w : PlainWorld) (b : Book) (r : Rec) (gains : Gains r w.book b) (f : Fresh) (n to : ℕ) (q : Pool) (q_is : q ≡ pool_in w.sys.now (lists_of w.book) f.pool) (n_is : n ≡ q.count)
+module _ (w : PlainWorld) (b : Book) (r : Rec) (gains : BookGains r w.book b) (f : Fresh) (n to : ℕ) (q : Pool) (q_is : q ≡ pool_in w.sys.now (lists_of w.book) f.pool) (n_is : n ≡ q.count)
     (to_is : to ≡ (refs_in (lists_of w.book) f.pool f.block).count) (stand : StandsFresh f (world_view w)) (used : IsTrue f.used) (says : item_of r ≡ record { of = w.by; body = Back f.pool n f.block to }) where
   its_block : IsTrue (is_block w.sys.now f.pool f.block)
   its_block = fresh-block w f stand
@@ -142,7 +142,7 @@ not-free w f stand used =
     out-not_free w.sys.now (lists_of w.book) (hands_in w.sys.now (lists_of w.book) w.book.order.items) w.holds.world.sound f.pool f.block block out
 
 -- A block is given out.
-module _ (w : PlainWorld) (b : Book) (r : Rec) (gains : Gains r w.book b) (p n : ℕ) (q : Pool) (h : IsTrue (is_pool w.sys.now p)) (q_is : q ≡ pool_in w.sys.now (lists_of w.book) p) (n_is : n ≡ q.count) where
+module _ (w : PlainWorld) (b : Book) (r : Rec) (gains : BookGains r w.book b) (p n : ℕ) (q : Pool) (h : IsTrue (is_pool w.sys.now p)) (q_is : q ≡ pool_in w.sys.now (lists_of w.book) p) (n_is : n ≡ q.count) where
   number_is : n ≡ (pool_in w.sys.now (lists_of w.book) p).count
   number_is = n_is ∙ ap (λ x. x.count) q_is
 
@@ -159,11 +159,11 @@ module _ (w : PlainWorld) (b : Book) (r : Rec) (gains : Gains r w.book b) (p n :
   pub give-holds : (k from sig : ℕ) (pars : List ℕ) (e : Ev) (next : Pool) → IsTrue (is_block w.sys.now p k) → is_first k q.free ≡ true → from ≡ (refs_in (lists_of w.book) p k).count
       → IsTrue (is_event w.sys.now (record { sig = sig; pars = pars })) → event_of e ≡ record { sig = sig; pars = pars } → item_of r ≡ record { of = w.by; body = New p n k from sig pars }
       → next ≡ record { count = q.count + 1; free = without_all k q.free }
-      → WorldHolds w.sys.now (lists_of b) b.order.items (slice_set w.pools.items (p - 1) next) w.blocks.items (slice_set w.cells.items (place p k) e) w.queues.items w.signals.items w.timers.items
+      → WorldHolds w.sys.now (lists_of b) b.order.items (slice_set w.pools.items (p - 1) next) w.blocks.items (slice_set w.cells.items (block_place p k) e) w.queues.items w.signals.items w.timers.items
   unfolding May
   give-holds k from sig pars e next block first since event stored says is =
       pool-moves w b r gains w.by (New p n k from sig pars) says
-      (record { block = block; number = number_is; lowest = subst (λ x. is_first k x.free ≡ true) q_is first; since = since; event = event }) p n next (slice_set w.cells.items (place p k) e) h refl number_is
+      (record { block = block; number = number_is; lowest = subst (λ x. is_first k x.free ≡ true) q_is first; since = since; event = event }) p n next (slice_set w.cells.items (block_place p k) e) h refl number_is
       (is ∙ ap (λ (x : Pool). record { count = x.count + 1; free = without_all k x.free }) q_is) (cells-give w b r gains w.by p n k from sig pars e says h block number_is stored)
 
   module _ (less : b.here.spare + 1 ≡ w.book.here.spare) where

@@ -5,13 +5,13 @@ use Rattle.qp_model.specs.WordLaw.{is_block}
 use Rattle.qp_plain.specs.declared.book.Book.{Book}
 use Rattle.qp_plain.specs.declared.world.PlainWorld.{PlainWorld}
 use Rattle.qp_plain.specs.Book.{lists_of}
-use Rattle.qp_plain.specs.Tables.{place}
+use Rattle.qp_plain.specs.Tables.{block_place}
 use Rattle.qp_plain.specs.World.{WorldHolds}
 use Rattle.qp_plain.proofs.Calling.{BlockIs}
 use Rattle.qp_plain.proofs.Few.{refs-few, names-counted}
 use Rattle.qp_calls.specs.Tokens.{Hold}
 
-pub put : (w : PlainWorld) (b : Book) (p k at : ℕ) (x : BlockWord) → at ≡ place p k → WorldHolds w.sys.now (lists_of b) b.order.items w.pools.items (slice_set w.blocks.items (place p k) x) w.cells.items w.queues.items w.signals.items w.timers.items
+pub put : (w : PlainWorld) (b : Book) (p k at : ℕ) (x : BlockWord) → at ≡ block_place p k → WorldHolds w.sys.now (lists_of b) b.order.items w.pools.items (slice_set w.blocks.items (block_place p k) x) w.cells.items w.queues.items w.signals.items w.timers.items
     → WorldHolds w.sys.now (lists_of b) b.order.items w.pools.items (slice_set w.blocks.items at x) w.cells.items w.queues.items w.signals.items w.timers.items
 put w b p k at x e h = subst (λ z. WorldHolds w.sys.now (lists_of b) b.order.items w.pools.items (slice_set w.blocks.items z x) w.cells.items w.queues.items w.signals.items w.timers.items) (sym e) h
 

@@ -14,7 +14,7 @@ use Rattle.qp_calls.specs.LaneView.{LaneView}
 use Rattle.qp_plain_words.specs.declared.block.BlockWord.{BlockWord}
 use Rattle.qp_plain_words.specs.declared.signal.SignalWord.{SignalWord}
 use Rattle.qp_plain_words.specs.Queue.{Queue}
-use Rattle.qp_plain_sound.specs.Step.{Step, Extends, MayCome, behind}
+use Rattle.qp_plain_sound.specs.Step.{WorldStep, Extends, MayCome, behind}
 use Rattle.qp_plain_sound.specs.Sound.{SoundWorld}
 use Rattle.qp_plain_sound.specs.View.{view_of}
 use Rattle.qp_plain_sound.specs.WordStates.{pool_in, refs_in, line_in, set_in, clock_in}
@@ -22,14 +22,14 @@ use Rattle.qp_plain_sound.proofs.CallParts.{world-after}
 use Rattle.qp_calls_log.specs.declared.log.Log.{Log}
 use Rattle.qp_plain.specs.declared.book.Book.{Book}
 use Rattle.qp_plain.specs.declared.world.PlainWorld.{PlainWorld}
-use Rattle.qp_plain.specs.Book.{Gains, Stays, lists_of, logs_of, purse_of, no_purse, purses_of}
+use Rattle.qp_plain.specs.Book.{BookGains, BookStays, lists_of, logs_of, purse_of, no_purse, purses_of}
 use Rattle.qp_plain.specs.Books.{all_logs}
-use Rattle.qp_plain.specs.Tables.{SignalIs, place, no_pool, no_block, no_queue, no_signal, no_clock}
+use Rattle.qp_plain.specs.Tables.{SignalIs, block_place, no_pool, free_block, no_queue, no_signal, no_clock}
 use Rattle.qp_plain.specs.World.{StopIs, fits_stop, was_handed}
 use Rattle.qp_plain.proofs.Holding.{any-default, timer-in, pool-in, signal-in, block-in}
 
 -- the call that adds a record, after which the book is this
-abbrev pub step_at : PlainWorld → Book → Rec → Step
+abbrev pub step_at : PlainWorld → Book → Rec → WorldStep
 step_at w b r = record {
   sys = w.sys.now;
   lanes = lists_of w.book;
@@ -50,11 +50,11 @@ step_at w b r = record {
 abbrev pub view_with : PlainWorld → Book → LaneView
 view_with w b = view_of w.sys.now (lists_of b) b.order.items b.at b.here.spare w.by b.here.stops.list b.here.answered.list (purses_of b)
 
-pub extends : (w : PlainWorld) (b : Book) (r : Rec) (o : ℕ) (body : Body) → Gains r w.book b → b.here.spare + 1 ≡ w.book.here.spare → item_of r ≡ record { of = o; body = body }
+pub extends : (w : PlainWorld) (b : Book) (r : Rec) (o : ℕ) (body : Body) → BookGains r w.book b → b.here.spare + 1 ≡ w.book.here.spare → item_of r ≡ record { of = o; body = body }
     → Extends (step_at w b r) o body
 extends w b r o body gains less says = record { world = w.holds.world; grown = gains.grown; says = says; less = less }
 
-pub sound-now : (w : PlainWorld) (b : Book) (r : Rec) (o : ℕ) (body : Body) → Gains r w.book b → item_of r ≡ record { of = o; body = body } → MayCome (step_at w b r) o body
+pub sound-now : (w : PlainWorld) (b : Book) (r : Rec) (o : ℕ) (body : Body) → BookGains r w.book b → item_of r ≡ record { of = o; body = body } → MayCome (step_at w b r) o body
     → SoundWorld w.sys.now (lists_of b) b.order.items
 sound-now w b r o body gains says may = world-after (step_at w b r) o body w.holds.world gains.grown says may
 
@@ -71,7 +71,7 @@ purses-same old new others at =
     ∙ ap (λ k. slice_set (map purse_of old.others.items) k no_purse) at
     ∙ sym (bare-purses old)
 
-pub view-now : (w : PlainWorld) (b : Book) (r : Rec) → Stays w.book b → behind (step_at w b r) ≡ view_with w b
+pub view-now : (w : PlainWorld) (b : Book) (r : Rec) → BookStays w.book b → behind (step_at w b r) ≡ view_with w b
 view-now w b r stays =
     ap (λ x. view_of w.sys.now (lists_of b) b.order.items x b.here.spare w.by w.book.here.stops.list w.book.here.answered.list (purses_of w.book)) (sym stays.at)
     ∙ ap (λ x. view_of w.sys.now (lists_of b) b.order.items b.at b.here.spare w.by x w.book.here.answered.list (purses_of w.book)) (sym stays.stops)
@@ -95,7 +95,7 @@ fits-same code g h s a = rw (s, a) refl
 handed-same : (code : ℕ) (g h : Log) → h.stops.list ≡ g.stops.list → was_handed code h ≡ was_handed code g
 handed-same code g h s = rw s refl
 
-pub stop-stays : (code : ℕ) (old new : Book) → Stays old new → StopIs code (logs_of old) → StopIs code (logs_of new)
+pub stop-stays : (code : ℕ) (old new : Book) → BookStays old new → StopIs code (logs_of old) → StopIs code (logs_of new)
 stop-stays code old new stays is =
     let same : logs_of new ≡ all_logs old.others.items old.at new.here =
     ap (λ xs. all_logs xs new.at new.here) stays.others ∙ ap (λ k. all_logs old.others.items k new.here) stays.at in
@@ -141,11 +141,11 @@ pub record BlockIs (w : PlainWorld) (p b : ℕ) (q : BlockWord) : Type 0 where
   pub ops : q.ops ≡ (refs_in (lists_of w.book) p b).count
   pub refs : q.refs ≡ length (refs_in (lists_of w.book) p b).names
 
-pub block-at : (w : PlainWorld) (p b k : ℕ) (q : BlockWord) → IsTrue (is_block w.sys.now p b) → k ≡ place p b → q ≡ get_or w.blocks.items k q → BlockIs w p b q
+pub block-at : (w : PlainWorld) (p b k : ℕ) (q : BlockWord) → IsTrue (is_block w.sys.now p b) → k ≡ block_place p b → q ≡ get_or w.blocks.items k q → BlockIs w p b q
 block-at w p b k q h at e =
     let there = block-in w.sys.now w.holds.limits p b h in
     let lt : k < length w.blocks.items = omega (arith, there.table, at, w.holds.blocks_hold.long) in
-    let is = any-default w.blocks.items k q no_block lt e ∙ ap (λ x. get_or w.blocks.items x no_block) at in
+    let is = any-default w.blocks.items k q free_block lt e ∙ ap (λ x. get_or w.blocks.items x free_block) at in
     record { ops = ap (λ x. x.ops) is ∙ w.holds.blocks_hold.ops p b h; refs = ap (λ x. x.refs) is ∙ w.holds.blocks_hold.refs p b h }
 
 -- an element that is lent and not changed

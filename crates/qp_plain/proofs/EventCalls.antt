@@ -25,7 +25,7 @@ use Rattle.qp_plain_sound.specs.WordStates.{pool_in}
 use Rattle.qp_plain_sound.proofs.CallEvents.{held-event, event-read, event-to}
 use Rattle.qp_plain.specs.declared.world.PlainWorld.{PlainWorld}
 use Rattle.qp_plain.specs.Book.{lists_of, purses_of}
-use Rattle.qp_plain.specs.Tables.{event_at, place}
+use Rattle.qp_plain.specs.Tables.{event_at, block_place}
 use Rattle.qp_plain.specs.WorldView.{world_view}
 use Rattle.qp_plain.proofs.Holding.{block-in}
 use Rattle.qp_plain.proofs.Mays.{held-block}
@@ -36,7 +36,7 @@ read-at (x ∷ xs) zero e lt is = ap (λ y. Some (event_of y)) (sym is)
 read-at (x ∷ xs) (suc k) e lt is = read-at xs k e (omega (arith, lt)) is
 
 -- the event of a reference in the hands stands in its block's place
-pub event-here : (w : PlainWorld) (h : Hold) (k : ℕ) (e : Ev) → StandsHold h (world_view w) → k ≡ place h.pool h.block → e ≡ get_or w.cells.items k e
+pub event-here : (w : PlainWorld) (h : Hold) (k : ℕ) (e : Ev) → StandsHold h (world_view w) → k ≡ block_place h.pool h.block → e ≡ get_or w.cells.items k e
     → ((world_view w).event (entry h.pool h.block h.name) ≡ event_of e) × IsEvent w.sys.now (event_of e)
 event-here w h k e stand at is =
     let block = held-block w h stand in

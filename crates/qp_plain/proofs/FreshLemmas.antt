@@ -34,21 +34,21 @@ use Rattle.qp_calls_log.specs.declared.log.Log.{Log}
 use Rattle.qp_plain.specs.declared.book.Book.{Book}
 use Rattle.qp_plain.specs.Books.{places_of, log_recs, all_places}
 use Rattle.qp_plain.specs.Book.{lists_of, logs_of, purses_of}
-use Rattle.qp_plain.specs.Fresh.{made, first_pool, first_queue, is_new, no_recs, IsNewBook}
-use Rattle.qp_plain.specs.Tables.{PoolsHold, BlocksHold, CellsHold, QueuesHold, SignalsHold, TimersHold, Limits, place, no_pool, no_block, no_queue, no_signal, no_clock}
+use Rattle.qp_plain.specs.Fresh.{tabulated, free_pool, first_queue, is_fresh_log, no_recs, IsNewBook}
+use Rattle.qp_plain.specs.Tables.{PoolsHold, BlocksHold, CellsHold, QueuesHold, SignalsHold, TimersHold, Limits, block_place, no_pool, free_block, no_queue, no_signal, no_clock}
 use Rattle.qp_plain.specs.World.{WorldHolds, StopIs, fits_stop, no_codes}
 use Rattle.qp_plain.proofs.Holding.{pool-in, signal-in, timer-in}
 use Rattle.qp_model.proofs.ListLemmas.{each-at}
 
 -- Lists made by a function.
-pub length-made : {X : Type 0} (f : ℕ → X) (n : ℕ) → length (made f n) ≡ n
-unfolding made
+pub length-made : {X : Type 0} (f : ℕ → X) (n : ℕ) → length (tabulated f n) ≡ n
+unfolding tabulated
 length-made f zero = refl
-length-made f (suc n) = let later = length-made f n in let both = length-append (made f n) (f n ∷ []) in omega (arith, later, both)
+length-made f (suc n) = let later = length-made f n in let both = length-append (tabulated f n) (f n ∷ []) in omega (arith, later, both)
 
-pub made-more : {X : Type 0} (f : ℕ → X) (n : ℕ) (x : X) → x ≡ f n → made f n ++ x ∷ [] ≡ made f (n + 1)
-unfolding made
-made-more f n x is = let up : n + 1 ≡ suc n = omega arith in ap (λ y. made f n ++ y ∷ []) is ∙ ap (made f) (sym up)
+pub made-more : {X : Type 0} (f : ℕ → X) (n : ℕ) (x : X) → x ≡ f n → tabulated f n ++ x ∷ [] ≡ tabulated f (n + 1)
+unfolding tabulated
+made-more f n x is = let up : n + 1 ≡ suc n = omega arith in ap (λ y. tabulated f n ++ y ∷ []) is ∙ ap (tabulated f) (sym up)
 
 get-front : {X : Type 0} (xs ys : List X) (k : ℕ) (d : X) → k < length xs → get_or (xs ++ ys) k d ≡ get_or xs k d
 get-front [] ys k d lt = absurd (omega (arith, lt))
@@ -61,21 +61,21 @@ get-end [] x (suc k) d e = absurd (omega (arith, e))
 get-end (y ∷ ys) x zero d e = absurd (omega (arith, e))
 get-end (y ∷ ys) x (suc k) d e = get-end ys x k d (omega (arith, e))
 
-pub get-made : {X : Type 0} (f : ℕ → X) (n k : ℕ) (d : X) → k < n → get_or (made f n) k d ≡ f k
-unfolding made
+pub get-made : {X : Type 0} (f : ℕ → X) (n k : ℕ) (d : X) → k < n → get_or (tabulated f n) k d ≡ f k
+unfolding tabulated
 get-made f zero k d lt = absurd (omega (arith, lt))
 get-made f (suc n) k d lt = go (nat_lt k n) refl (get-made f n k d)
   where
-    go : (b : Bool) → nat_lt k n ≡ b → (k < n → get_or (made f n) k d ≡ f k) → get_or (made f n ++ f n ∷ []) k d ≡ f k
+    go : (b : Bool) → nat_lt k n ≡ b → (k < n → get_or (tabulated f n) k d ≡ f k) → get_or (tabulated f n ++ f n ∷ []) k d ≡ f k
     go true e earlier =
         let less : k < n = grind (arith, nat_tests) in
         let long = length-made f n in
-        get-front (made f n) (f n ∷ []) k d (omega (arith, less, long)) ∙ earlier less
+        get-front (tabulated f n) (f n ∷ []) k d (omega (arith, less, long)) ∙ earlier less
     go false e earlier =
         let most : n ≤ k = grind (arith, nat_tests) in
         let long = length-made f n in
         let same : n ≡ k = omega (arith, most, lt) in
-        get-end (made f n) (f n) k d (omega (arith, same, long)) ∙ ap f same
+        get-end (tabulated f n) (f n) k d (omega (arith, same, long)) ∙ ap f same
 
 pub get-copies : {X : Type 0} (n k : ℕ) (x : X) → get_or (replicate n x) k x ≡ x
 get-copies zero k x = refl
@@ -83,11 +83,11 @@ get-copies (suc n) zero x = refl
 get-copies (suc n) (suc k) x = get-copies n k x
 
 -- Lanes without a record.
-pub all-more : (logs : List Log) (g : Log) → list_all is_new logs ≡ true → is_new g ≡ true → list_all is_new (logs ++ g ∷ []) ≡ true
+pub all-more : (logs : List Log) (g : Log) → list_all is_fresh_log logs ≡ true → is_fresh_log g ≡ true → list_all is_fresh_log (logs ++ g ∷ []) ≡ true
 all-more [] g h here = and_from _ _ here refl
 all-more (x ∷ xs) g h here = and_from _ _ (and_parts _ _ h).0 (all-more xs g (and_parts _ _ h).1 here)
 
-pub all-put : (logs : List Log) (k : ℕ) (g : Log) → list_all is_new logs ≡ true → is_new g ≡ true → list_all is_new (slice_set logs k g) ≡ true
+pub all-put : (logs : List Log) (k : ℕ) (g : Log) → list_all is_fresh_log logs ≡ true → is_fresh_log g ≡ true → list_all is_fresh_log (slice_set logs k g) ≡ true
 all-put [] k g h here = refl
 all-put (x ∷ xs) zero g h here = and_from _ _ here (and_parts _ _ h).1
 all-put (x ∷ xs) (suc k) g h here = and_from _ _ (and_parts _ _ h).0 (all-put xs k g (and_parts _ _ h).1 here)
@@ -100,7 +100,7 @@ pub record NewLog (g : Log) : Type 0 where
   pub stops : no_codes g.stops.list ≡ true
   pub answered : no_codes g.answered.list ≡ true
 
-pub new-parts : (g : Log) → is_new g ≡ true → NewLog g
+pub new-parts : (g : Log) → is_fresh_log g ≡ true → NewLog g
 new-parts g h =
     let a = and_parts _ _ h in
     let b = and_parts _ _ a.0 in
@@ -113,16 +113,16 @@ new-parts g h =
     nothing [] e = refl
     nothing (r ∷ rs) e = absurd (cc)
 
-pub is-new : (g : Log) → g.recs.items ≡ [] → g.spare ≡ 0 → g.spilled ≡ false → g.stops.list ≡ [] → g.answered.list ≡ [] → is_new g ≡ true
+pub is-new : (g : Log) → g.recs.items ≡ [] → g.spare ≡ 0 → g.spilled ≡ false → g.stops.list ≡ [] → g.answered.list ≡ [] → is_fresh_log g ≡ true
 is-new g recs spare spilled stops answered = rw (recs, spare, spilled, stops, answered) refl
 
-lists-none : (logs : List Log) → list_all is_new logs ≡ true → map log_recs logs ≡ empty_lanes (length logs)
+lists-none : (logs : List Log) → list_all is_fresh_log logs ≡ true → map log_recs logs ≡ empty_lanes (length logs)
 lists-none [] h = refl
 lists-none (g ∷ gs) h =
     let new = new-parts g (and_parts _ _ h).0 in
     ap (λ x. x ∷ map log_recs gs) new.recs ∙ ap (λ xs. [] ∷ xs) (lists-none gs (and_parts _ _ h).1)
 
-pub places-new : (logs : List Log) → list_all is_new logs ≡ true → all_places logs ≡ length logs
+pub places-new : (logs : List Log) → list_all is_fresh_log logs ≡ true → all_places logs ≡ length logs
 places-new [] h = refl
 places-new (g ∷ gs) h =
     let new = new-parts g (and_parts _ _ h).0 in
@@ -131,7 +131,7 @@ places-new (g ∷ gs) h =
     let sum = sum_by-cons places_of g gs in
     omega (arith, one, later, sum)
 
-stops-new : (logs : List Log) → list_all is_new logs ≡ true → list_all (fits_stop 0) logs ≡ true
+stops-new : (logs : List Log) → list_all is_fresh_log logs ≡ true → list_all (fits_stop 0) logs ≡ true
 stops-new [] h = refl
 stops-new (g ∷ gs) h =
     let new = new-parts g (and_parts _ _ h).0 in
@@ -147,23 +147,23 @@ book-lists n b new = lists-none (logs_of b) new.all ∙ ap empty_lanes (length-s
 pub stop-new : (n : ℕ) (b : Book) → IsNewBook n b → StopIs 0 (logs_of b)
 stop-new n b new = record { few = omega arith; fits = stops-new (logs_of b) new.all; handed = refl }
 
-pools-new : (sys : System) (n : ℕ) → PoolsHold sys (empty_lanes n) (made (first_pool sys) (length sys.pools))
+pools-new : (sys : System) (n : ℕ) → PoolsHold sys (empty_lanes n) (tabulated (free_pool sys) (length sys.pools))
 unfolding pool_in after after_from
 pools-new sys n = record {
-  long = length-made (first_pool sys) (length sys.pools);
+  long = length-made (free_pool sys) (length sys.pools);
   pool = λ p h.
       let at = pool-in sys p h in
       let up : suc (p - 1) ≡ p = omega (arith, at.0) in
-      get-made (first_pool sys) (length sys.pools) (p - 1) no_pool (omega (arith, at.0, at.1))
+      get-made (free_pool sys) (length sys.pools) (p - 1) no_pool (omega (arith, at.0, at.1))
       ∙ ap (λ x. record { count = 0; free = count_up 0 (blocks_of sys x) }) up ∙ sym (ap (after (free_blocks (blocks_of sys p))) (hist-none (word.Pool p) n));
 }
 
-blocks-new : (sys : System) (n : ℕ) (table : List BlockWord) → table ≡ replicate 480 no_block → BlocksHold sys (empty_lanes n) table
+blocks-new : (sys : System) (n : ℕ) (table : List BlockWord) → table ≡ replicate 480 free_block → BlocksHold sys (empty_lanes n) table
 unfolding refs_in after after_from
 blocks-new sys n table is = record {
-  long = ap length is ∙ length-replicate 480 no_block;
-  ops = λ p b h. ap (λ xs. (get_or xs (place p b) no_block).ops) is ∙ ap (λ w. w.ops) (get-copies 480 (place p b) no_block) ∙ sym (ap (λ x. (after references x).count) (hist-none (word.Block p b) n));
-  refs = λ p b h. ap (λ xs. (get_or xs (place p b) no_block).refs) is ∙ ap (λ w. w.refs) (get-copies 480 (place p b) no_block) ∙ sym (ap (λ x. length (after references x).names) (hist-none (word.Block p b) n));
+  long = ap length is ∙ length-replicate 480 free_block;
+  ops = λ p b h. ap (λ xs. (get_or xs (block_place p b) free_block).ops) is ∙ ap (λ w. w.ops) (get-copies 480 (block_place p b) free_block) ∙ sym (ap (λ x. (after references x).count) (hist-none (word.Block p b) n));
+  refs = λ p b h. ap (λ xs. (get_or xs (block_place p b) free_block).refs) is ∙ ap (λ w. w.refs) (get-copies 480 (block_place p b) free_block) ∙ sym (ap (λ x. length (after references x).names) (hist-none (word.Block p b) n));
 }
 
 cells-new : (sys : System) (n : ℕ) (table : List Ev) → length table ≡ 480 → CellsHold sys (empty_lanes n) table
@@ -175,7 +175,7 @@ cells-new sys n table long = record {
       let wrong : None ≡ Some ev = sym none ∙ is in absurd (cc);
 }
 
-queues-new : (sys : System) (n : ℕ) → Limits sys → QueuesHold sys (empty_lanes n) (made (first_queue sys) 33)
+queues-new : (sys : System) (n : ℕ) → Limits sys → QueuesHold sys (empty_lanes n) (tabulated (first_queue sys) 33)
 unfolding line_in after after_from
 queues-new sys n limits = record {
   long = length-made (first_queue sys) 33;
@@ -185,7 +185,7 @@ queues-new sys n limits = record {
       ∙ sym (ap (λ x. record { line = after (line (ring_of sys a)) x; ring = ring_of sys a }) (hist-none (word.Queue a) n));
 }
 
-signals-new : (sys : System) (n : ℕ) → SignalsHold sys (empty_lanes n) (made (λ k. no_signal) (length sys.signals))
+signals-new : (sys : System) (n : ℕ) → SignalsHold sys (empty_lanes n) (tabulated (λ k. no_signal) (length sys.signals))
 unfolding set_in after after_from are_members
 signals-new sys n = record {
   long = length-made (λ k. no_signal) (length sys.signals);
@@ -200,7 +200,7 @@ signals-new sys n = record {
       };
 }
 
-timers-new : (sys : System) (n : ℕ) → TimersHold sys (empty_lanes n) (made (λ k. no_clock) (length sys.timers))
+timers-new : (sys : System) (n : ℕ) → TimersHold sys (empty_lanes n) (tabulated (λ k. no_clock) (length sys.timers))
 unfolding clock_in after after_from
 timers-new sys n = record {
   long = length-made (λ k. no_clock) (length sys.timers);
@@ -239,13 +239,13 @@ limits-of sys sound = record {
 }
 
 -- All of it.
-pub world-new : (sys : System) (n : ℕ) (b : Book) (blocks : List BlockWord) (cells : List Ev) → IsSound sys → IsNewBook n b → blocks ≡ replicate 480 no_block → length cells ≡ 480
-    → WorldHolds sys (lists_of b) b.order.items (made (first_pool sys) (length sys.pools)) blocks cells (made (first_queue sys) 33) (made (λ k. no_signal) (length sys.signals)) (made (λ k. no_clock) (length sys.timers))
+pub world-new : (sys : System) (n : ℕ) (b : Book) (blocks : List BlockWord) (cells : List Ev) → IsSound sys → IsNewBook n b → blocks ≡ replicate 480 free_block → length cells ≡ 480
+    → WorldHolds sys (lists_of b) b.order.items (tabulated (free_pool sys) (length sys.pools)) blocks cells (tabulated (first_queue sys) 33) (tabulated (λ k. no_signal) (length sys.signals)) (tabulated (λ k. no_clock) (length sys.timers))
 world-new sys n b blocks cells sound new blocks_are long =
     let lists = book-lists n b new in
     let limits = limits-of sys sound in
-    subst (λ ls. WorldHolds sys ls b.order.items (made (first_pool sys) (length sys.pools)) blocks cells (made (first_queue sys) 33) (made (λ k. no_signal) (length sys.signals)) (made (λ k. no_clock) (length sys.timers))) (sym lists)
-    (subst (λ xs. WorldHolds sys (empty_lanes n) xs (made (first_pool sys) (length sys.pools)) blocks cells (made (first_queue sys) 33) (made (λ k. no_signal) (length sys.signals)) (made (λ k. no_clock) (length sys.timers))) (sym new.order)
+    subst (λ ls. WorldHolds sys ls b.order.items (tabulated (free_pool sys) (length sys.pools)) blocks cells (tabulated (first_queue sys) 33) (tabulated (λ k. no_signal) (length sys.signals)) (tabulated (λ k. no_clock) (length sys.timers))) (sym lists)
+    (subst (λ xs. WorldHolds sys (empty_lanes n) xs (tabulated (free_pool sys) (length sys.pools)) blocks cells (tabulated (first_queue sys) 33) (tabulated (λ k. no_signal) (length sys.signals)) (tabulated (λ k. no_clock) (length sys.timers))) (sym new.order)
     (record {
       world = new-sound sys n sound;
       limits = limits;

@@ -18,8 +18,8 @@ use Rattle.qp_model.proofs.MachineLemmas.{Counts, after-append}
 use Rattle.qp_model.proofs.LineLemmas.{line-counts, same_number}
 use Rattle.qp_model.proofs.WordLemmas.{all_items-split, all_items-grown, hist-stays}
 use Rattle.qp_model.proofs.WordLawLemmas.{references-counts, free_blocks-counts, subscribers-counts, time_event-counts}
-use Rattle.qp_plain_sound.specs.Log.{lane_of}
-use Rattle.qp_plain_sound.specs.Step.{Step, Grown}
+use Rattle.qp_plain_sound.specs.Log.{lane_recs}
+use Rattle.qp_plain_sound.specs.Step.{WorldStep, Grown}
 use Rattle.qp_plain_sound.specs.WordStates.{pool_in, refs_in, line_in, set_in, clock_in, cell_in, cell_after, cell_next}
 use Rattle.qp_plain_sound.proofs.Logs.{lanes-split, lanes-grown}
 use Rattle.qp_plain_sound.proofs.Standing.{count-total}
@@ -28,34 +28,34 @@ use Rattle.qp_plain_sound.proofs.Events.{cell-append}
 drawn-as : (w : Word) (n : ℕ) (t : Touch) → t ≡ Draws w (suc n) → drawn_as w n t ≡ true
 drawn-as w n t is = rw (is, same_word-refl w, same_number (suc n)) refl
 
-module _ (s : Step) (o : ℕ) (b : Body) (grown : Grown s.lanes s.order s.at s.rec s.more s.longer) (says : item_of s.rec ≡ record { of = o; body = b }) where
+module _ (s : WorldStep) (o : ℕ) (b : Body) (grown : Grown s.lanes s.order s.at s.rec s.more s.longer) (says : item_of s.rec ≡ record { of = o; body = b }) where
   abbrev this : Item
   this = record { of = o; body = b }
 
-  old-is : s.lanes ≡ take s.at s.lanes ++ lane_of s.lanes s.at ∷ drop (suc s.at) s.lanes
+  old-is : s.lanes ≡ take s.at s.lanes ++ lane_recs s.lanes s.at ∷ drop (suc s.at) s.lanes
   old-is = lanes-split s.lanes s.at grown.within
 
-  new-is : s.more ≡ take s.at s.lanes ++ (lane_of s.lanes s.at ++ s.rec ∷ []) ∷ drop (suc s.at) s.lanes
-  new-is = grown.lanes_are ∙ lanes-grown s.lanes s.at (lane_of s.lanes s.at ++ s.rec ∷ []) grown.within
+  new-is : s.more ≡ take s.at s.lanes ++ (lane_recs s.lanes s.at ++ s.rec ∷ []) ∷ drop (suc s.at) s.lanes
+  new-is = grown.lanes_are ∙ lanes-grown s.lanes s.at (lane_recs s.lanes s.at ++ s.rec ∷ []) grown.within
 
   -- the history of another word
   pub hist-kept : (w : Word) → drawn_on w (touch_of o b) ≡ false → hist w (all_items s.more) ≡ hist w (all_items s.lanes)
   hist-kept w off =
       ap (λ ls. hist w (all_items ls)) new-is
-      ∙ hist-stays (take s.at s.lanes) (lane_of s.lanes s.at) (drop (suc s.at) s.lanes) s.rec this says w off
+      ∙ hist-stays (take s.at s.lanes) (lane_recs s.lanes s.at) (drop (suc s.at) s.lanes) s.rec this says w off
       ∙ sym (ap (λ ls. hist w (all_items ls)) old-is)
 
   abbrev xs : List Item
-  xs = all_items (take s.at s.lanes) ++ lane_items (lane_of s.lanes s.at)
+  xs = all_items (take s.at s.lanes) ++ lane_items (lane_recs s.lanes s.at)
 
   abbrev ys : List Item
   ys = all_items (drop (suc s.at) s.lanes)
 
   items-old : all_items s.lanes ≡ xs ++ ys
-  items-old = ap all_items old-is ∙ all_items-split (take s.at s.lanes) (lane_of s.lanes s.at) (drop (suc s.at) s.lanes)
+  items-old = ap all_items old-is ∙ all_items-split (take s.at s.lanes) (lane_recs s.lanes s.at) (drop (suc s.at) s.lanes)
 
   items-new : all_items s.more ≡ xs ++ this ∷ ys
-  items-new = ap all_items new-is ∙ all_items-grown (take s.at s.lanes) (lane_of s.lanes s.at) (drop (suc s.at) s.lanes) s.rec this says
+  items-new = ap all_items new-is ∙ all_items-grown (take s.at s.lanes) (lane_recs s.lanes s.at) (drop (suc s.at) s.lanes) s.rec this says
 
   -- and of the word of which it draws the next number
   hist-gains : (w : Word) → is_numbered w (all_items s.lanes) ≡ true → touch_of o b ≡ Draws w (suc (total w (all_items s.lanes)))

@@ -18,11 +18,11 @@ use Rattle.qp_calls.specs.Clauses.{event_of}
 use Rattle.qp_plain_words.specs.declared.block.BlockWord.{BlockWord}
 use Rattle.qp_plain_words.specs.declared.signal.SignalWord.{SignalWord}
 use Rattle.qp_plain_words.specs.Queue.{Queue}
-use Rattle.qp_plain_sound.specs.Step.{Step, Grown}
+use Rattle.qp_plain_sound.specs.Step.{WorldStep, Grown}
 use Rattle.qp_plain_sound.specs.Sound.{SoundWorld}
 use Rattle.qp_plain_sound.specs.WordStates.{pool_in, refs_in, line_in, set_in, clock_in}
 use Rattle.qp_plain_sound.proofs.Standing.{block-pool}
-use Rattle.qp_plain.specs.Tables.{PoolsHold, BlocksHold, CellsHold, QueuesHold, SignalsHold, SignalIs, TimersHold, Limits, place, event_at, no_pool, no_block, no_queue, no_signal, no_clock}
+use Rattle.qp_plain.specs.Tables.{PoolsHold, BlocksHold, CellsHold, QueuesHold, SignalsHold, SignalIs, TimersHold, Limits, block_place, event_at, no_pool, free_block, no_queue, no_signal, no_clock}
 use Rattle.qp_plain.specs.World.{WorldHolds}
 use Rattle.qp_plain.proofs.Growth.{pool-kept, cell-kept, refs-kept, line-kept, set-kept, clock-kept}
 
@@ -59,7 +59,7 @@ pub record Within (p b : ℕ) : Type 0 where
   pub some : 0 < p
   pub pools : p ≤ 15
   pub blocks : b < 32
-  pub table : place p b < 480
+  pub table : block_place p b < 480
 
 pub block-in : (sys : System) → Limits sys → (p b : ℕ) → IsTrue (is_block sys p b) → Within p b
 block-in sys limits p b h =
@@ -88,7 +88,7 @@ event-set_other (x ∷ xs) (suc k) zero e differ = refl
 event-set_other (x ∷ xs) (suc k) (suc j) e differ = event-set_other xs k j e (λ h. differ (ap suc h))
 
 -- two blocks have two places
-pub places-differ : (p b q c : ℕ) → Within p b → Within q c → ((p == q) && (b == c)) ≡ false → place q c ≢ place p b
+pub places-differ : (p b q c : ℕ) → Within p b → Within q c → ((p == q) && (b == c)) ≡ false → block_place q c ≢ block_place p b
 places-differ p b q c at to other e = go (p == q) (b == c) refl refl other
   where
     go : (u v : Bool) → (p == q) ≡ u → (b == c) ≡ v → (u && v) ≡ false → ⊥
@@ -101,7 +101,7 @@ places-differ p b q c at to other e = go (p == q) (b == c) refl refl other
         let differ : p ≢ q = grind (arith, nat_tests) in
         differ (omega (arith, e, at.some, at.blocks, to.some, to.blocks))
 
-module _ (s : Step) (o : ℕ) (b : Body) (grown : Grown s.lanes s.order s.at s.rec s.more s.longer) (says : item_of s.rec ≡ record { of = o; body = b }) where
+module _ (s : WorldStep) (o : ℕ) (b : Body) (grown : Grown s.lanes s.order s.at s.rec s.more s.longer) (says : item_of s.rec ≡ record { of = o; body = b }) where
   -- Tables of which no word changes.
   pools-stay : (table : List Pool) → ((p : ℕ) → drawn_on (word.Pool p) (touch_of o b) ≡ false) → PoolsHold s.sys s.lanes table → PoolsHold s.sys s.more table
   pools-stay table off old = record { long = old.long; pool = λ p h. old.pool p h ∙ sym (pool-kept s o b grown says p (off p)) }
@@ -151,9 +151,9 @@ module _ (s : Step) (o : ℕ) (b : Body) (grown : Grown s.lanes s.order s.at s.r
 
   blocks-change : (table : List BlockWord) (p c k : ℕ) (next : BlockWord) → Limits s.sys → IsTrue (is_block s.sys p c) → touch_of o b ≡ Draws (word.Block p c) k
       → next.ops ≡ (refs_in s.more p c).count → next.refs ≡ length (refs_in s.more p c).names
-      → BlocksHold s.sys s.lanes table → BlocksHold s.sys s.more (slice_set table (place p c) next)
+      → BlocksHold s.sys s.lanes table → BlocksHold s.sys s.more (slice_set table (block_place p c) next)
   blocks-change table p c k next limits h draws ops_are refs_are old = record {
-    long = length-set table (place p c) next ∙ old.long;
+    long = length-set table (block_place p c) next ∙ old.long;
     ops = λ q d g. go (λ (w : BlockWord). w.ops) (λ q d. (refs_in s.more q d).count) ops_are (λ q d g other. old.ops q d g ∙ sym (ap (λ x. x.count) (kept q d other))) q d g (p == q) (c == d) refl refl;
     refs = λ q d g. go (λ (w : BlockWord). w.refs) (λ q d. length (refs_in s.more q d).names) refs_are (λ q d g other. old.refs q d g ∙ sym (ap (λ x. length x.names) (kept q d other))) q d g (p == q) (c == d) refl refl;
   }
@@ -162,21 +162,21 @@ module _ (s : Step) (o : ℕ) (b : Body) (grown : Grown s.lanes s.order s.at s.r
       kept q d other = refs-kept s o b grown says q d (rw draws other)
 
       there : (f : BlockWord → ℕ) (want : ℕ → ℕ → ℕ)
-          → ((q d : ℕ) → IsTrue (is_block s.sys q d) → ((p == q) && (c == d)) ≡ false → f (get_or table (place q d) no_block) ≡ want q d)
-          → (q d : ℕ) → IsTrue (is_block s.sys q d) → ((p == q) && (c == d)) ≡ false → f (get_or (slice_set table (place p c) next) (place q d) no_block) ≡ want q d
+          → ((q d : ℕ) → IsTrue (is_block s.sys q d) → ((p == q) && (c == d)) ≡ false → f (get_or table (block_place q d) free_block) ≡ want q d)
+          → (q d : ℕ) → IsTrue (is_block s.sys q d) → ((p == q) && (c == d)) ≡ false → f (get_or (slice_set table (block_place p c) next) (block_place q d) free_block) ≡ want q d
       there f want others q d g other =
           let apart = places-differ p c q d (block-in s.sys limits p c h) (block-in s.sys limits q d g) other in
-          ap f (get_or-set_other table (place p c) (place q d) next no_block apart) ∙ others q d g other
+          ap f (get_or-set_other table (block_place p c) (block_place q d) next free_block apart) ∙ others q d g other
 
       go : (f : BlockWord → ℕ) (want : ℕ → ℕ → ℕ) → f next ≡ want p c
-          → ((q d : ℕ) → IsTrue (is_block s.sys q d) → ((p == q) && (c == d)) ≡ false → f (get_or table (place q d) no_block) ≡ want q d)
-          → (q d : ℕ) → IsTrue (is_block s.sys q d) → (u v : Bool) → (p == q) ≡ u → (c == d) ≡ v → f (get_or (slice_set table (place p c) next) (place q d) no_block) ≡ want q d
+          → ((q d : ℕ) → IsTrue (is_block s.sys q d) → ((p == q) && (c == d)) ≡ false → f (get_or table (block_place q d) free_block) ≡ want q d)
+          → (q d : ℕ) → IsTrue (is_block s.sys q d) → (u v : Bool) → (p == q) ≡ u → (c == d) ≡ v → f (get_or (slice_set table (block_place p c) next) (block_place q d) free_block) ≡ want q d
       go f want here others q d g true true e i =
           let p_is : p ≡ q = grind (arith, nat_tests) in
           let c_is : c ≡ d = grind (arith, nat_tests) in
-          let lt : place p c < length table = rw old.long (block-in s.sys limits p c h).table in
-          ap (λ x. f (get_or (slice_set table (place p c) next) x no_block)) (ap (λ x. place x d) (sym p_is) ∙ ap (place p) (sym c_is))
-          ∙ ap f (get_or-set_same table (place p c) next no_block lt) ∙ here ∙ ap (λ x. want x c) p_is ∙ ap (want q) c_is
+          let lt : block_place p c < length table = rw old.long (block-in s.sys limits p c h).table in
+          ap (λ x. f (get_or (slice_set table (block_place p c) next) x free_block)) (ap (λ x. block_place x d) (sym p_is) ∙ ap (block_place p) (sym c_is))
+          ∙ ap f (get_or-set_same table (block_place p c) next free_block lt) ∙ here ∙ ap (λ x. want x c) p_is ∙ ap (want q) c_is
       go f want here others q d g true false e i = there f want others q d g (rw (e, i) refl)
       go f want here others q d g false v e i = there f want others q d g (rw e refl)
 
@@ -263,7 +263,7 @@ module _ (s : Step) (o : ℕ) (b : Body) (grown : Grown s.lanes s.order s.at s.r
 
     pub holds-block : (p c k : ℕ) (next : BlockWord) → IsTrue (is_block s.sys p c) → touch_of o b ≡ Draws (word.Block p c) k
         → next.ops ≡ (refs_in s.more p c).count → next.refs ≡ length (refs_in s.more p c).names
-        → WorldHolds s.sys s.more s.longer pools (slice_set blocks (place p c) next) cells queues signals timers
+        → WorldHolds s.sys s.more s.longer pools (slice_set blocks (block_place p c) next) cells queues signals timers
     holds-block p c k next h draws ops_are refs_are = record {
       world = world;
       limits = old.limits;

@@ -11,7 +11,7 @@ use Rattle.qp_calls_log.specs.LaneLaws.{TellsLog}
 use Rattle.qp_calls_log.proofs.NoteLemmas.{note-off}
 use Rattle.qp_plain.specs.declared.book.Book.{Book}
 use Rattle.qp_plain.specs.declared.world.PlainWorld.{PlainWorld}
-use Rattle.qp_plain.specs.Book.{Gains, lists_of, purses_of}
+use Rattle.qp_plain.specs.Book.{BookGains, lists_of, purses_of}
 use Rattle.qp_plain.specs.LaneLaws.{tells-log}
 use Rattle.qp_plain.specs.World.{WorldHolds}
 use Rattle.qp_plain.specs.WorldView.{world_view}
@@ -23,7 +23,7 @@ use Rattle.qp_plain.proofs.Turns.{now-seen}
 pub here-tells : (w : PlainWorld) → TellsLog w.book.here (world_view w)
 here-tells w = tells-log w.sys.now w.book.others.items w.book.order.items w.book.at w.book.here w.by (purses_of w.book) w.book.within
 
-module _ (w : PlainWorld) (b : Book) (r : Rec) (gains : Gains r w.book b) (may : MayNote r (world_view w)) where
+module _ (w : PlainWorld) (b : Book) (r : Rec) (gains : BookGains r w.book b) (may : MayNote r (world_view w)) where
   both : SoundWorld w.sys.now (lists_of b) b.order.items × GrowsOf r.of (told_note r (world_view w)) (world_view w) (view_with w b)
   both = let x = note-added (step_at w b r) w.holds.world gains.grown may in (x.0, now-seen w b r gains (λ v. GrowsOf r.of (told_note r (world_view w)) (world_view w) v) x.1)
 

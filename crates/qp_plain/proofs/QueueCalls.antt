@@ -26,14 +26,14 @@ use Rattle.qp_plain_sound.proofs.CallQueues.{claim-done, claim-refused, lifo-don
 use Rattle.qp_plain_sound.proofs.CallEvents.{take-done}
 use Rattle.qp_plain.specs.declared.book.Book.{Book}
 use Rattle.qp_plain.specs.declared.world.PlainWorld.{PlainWorld}
-use Rattle.qp_plain.specs.Book.{Gains, lists_of}
+use Rattle.qp_plain.specs.Book.{BookGains, lists_of}
 use Rattle.qp_plain.specs.World.{WorldHolds}
 use Rattle.qp_plain.specs.WorldView.{world_view}
 use Rattle.qp_plain.proofs.Calling.{step_at, view_with, extends}
 use Rattle.qp_plain.proofs.Mays.{owned, refusal-may, room-is, named-good, front-good}
 use Rattle.qp_plain.proofs.Turns.{now-seen, quiet, queue-moves}
 
-module _ (w : PlainWorld) (b : Book) (r : Rec) (gains : Gains r w.book b) (a f l m : ℕ) (q : Queue) (h : IsTrue (is_object w.sys.now a))
+module _ (w : PlainWorld) (b : Book) (r : Rec) (gains : BookGains r w.book b) (a f l m : ℕ) (q : Queue) (h : IsTrue (is_object w.sys.now a))
     (q_is : q ≡ record { line = line_in w.sys.now (lists_of w.book) a; ring = ring_of w.sys.now a }) (f_is : f ≡ q.line.f) (l_is : l ≡ q.line.l) (m_is : m ≡ q.line.m) where
   abbrev With : List Queue → Type 0
   With queues = WorldHolds w.sys.now (lists_of b) b.order.items w.pools.items w.blocks.items w.cells.items queues w.signals.items w.timers.items

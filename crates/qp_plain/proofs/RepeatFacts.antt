@@ -33,7 +33,7 @@ use Rattle.qp_plain_words.specs.declared.signal.SignalWord.{SignalWord}
 use Rattle.qp_plain_words.specs.Queue.{Queue}
 use Rattle.qp_plain_words.specs.Ticked.{TicksTo, counted_down}
 use Rattle.qp_plain_words.proofs.SetLemmas.{has-bit}
-use Rattle.qp_plain_sound.specs.May.{May, MayGive, MayMake, MayDrop, MayGiveBack, BeforePost, MayPost, MayTake, IsQueue, IsSignal, IsTimer}
+use Rattle.qp_plain_sound.specs.May.{May, MayGive, MayMake, MayDrop, MayGiveBack, BeforePost, MayPost, MayTake, IsQueue, HasSignalOps, HasTimerOps}
 use Rattle.qp_plain_sound.specs.Sound.{hands_in, is_event, is_good}
 use Rattle.qp_plain_sound.specs.WordStates.{pool_in, line_in, set_in, clock_in}
 use Rattle.qp_plain_sound.proofs.Standing.{out-not_free}
@@ -86,15 +86,15 @@ module _ (w : PlainWorld) (r : Rec) (next : MayRepeat r w) where
   take-may f l m e says = may-of (Took f l m e) says
 
   pub sub-may : (g n : ℕ) → (item_of r).body ≡ Sub g n
-      → IsSignal w.sys.now (lists_of w.book) g n × IsFalse (has (set_in (lists_of w.book) g).members (item_of r).of) × IsTrue (is_object w.sys.now (item_of r).of)
+      → HasSignalOps w.sys.now (lists_of w.book) g n × IsFalse (has (set_in (lists_of w.book) g).members (item_of r).of) × IsTrue (is_object w.sys.now (item_of r).of)
   unfolding May
   sub-may g n says = may-of (Sub g n) says
 
-  pub unsub-may : (g n : ℕ) → (item_of r).body ≡ Unsub g n → IsSignal w.sys.now (lists_of w.book) g n × IsTrue (has (set_in (lists_of w.book) g).members (item_of r).of)
+  pub unsub-may : (g n : ℕ) → (item_of r).body ≡ Unsub g n → HasSignalOps w.sys.now (lists_of w.book) g n × IsTrue (has (set_in (lists_of w.book) g).members (item_of r).of)
   unfolding May
   unsub-may g n says = may-of (Unsub g n) says
 
-  pub arm-may : (t n ticks interval : ℕ) → (item_of r).body ≡ Arm t n ticks interval → IsTimer w.sys.now (lists_of w.book) t n 0
+  pub arm-may : (t n ticks interval : ℕ) → (item_of r).body ≡ Arm t n ticks interval → HasTimerOps w.sys.now (lists_of w.book) t n 0
   unfolding May
   arm-may t n ticks interval says = may-of (Arm t n ticks interval) says
 

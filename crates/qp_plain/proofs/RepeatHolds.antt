@@ -27,9 +27,9 @@ use Rattle.qp_plain_sound.proofs.Standing.{block-pool, out-not_free}
 use Rattle.qp_plain_sound.proofs.Standing as standing
 use Rattle.qp_plain.specs.declared.book.Book.{Book}
 use Rattle.qp_plain.specs.declared.world.PlainWorld.{PlainWorld}
-use Rattle.qp_plain.specs.Book.{Gains, lists_of}
+use Rattle.qp_plain.specs.Book.{BookGains, lists_of}
 use Rattle.qp_plain.specs.Repeat.{MayAt, MayRepeat}
-use Rattle.qp_plain.specs.Tables.{SignalIs, place}
+use Rattle.qp_plain.specs.Tables.{SignalIs, block_place}
 use Rattle.qp_plain.specs.World.{WorldHolds}
 use Rattle.qp_plain.proofs.Calling.{BlockIs}
 use Rattle.qp_plain.proofs.QueueCalls.{moved-holds}
@@ -41,7 +41,7 @@ use Rattle.qp_plain.proofs.TimerTable as timer_table
 use Rattle.qp_plain.proofs.RepeatFacts.{may-of, new-may, back-may, inc-may, dec-may, post-may, lifo-may, take-may, sub-may, unsub-may, OnTimer}
 
 -- The world behind the record.
-module _ (w : PlainWorld) (b : Book) (r : Rec) (gains : Gains r w.book b) (next : MayRepeat r w) where
+module _ (w : PlainWorld) (b : Book) (r : Rec) (gains : BookGains r w.book b) (next : MayRepeat r w) where
   says-of : (body : Body) → (item_of r).body ≡ body → item_of r ≡ record { of = (item_of r).of; body = body }
   says-of body says = ap (λ x. record { of = (item_of r).of; body = x }) says
 
@@ -132,7 +132,7 @@ module _ (w : PlainWorld) (b : Book) (r : Rec) (gains : Gains r w.book b) (next 
       (taken q.line after.line e may.2.others x (ap (λ z. z.entries) its ∙ may.2.front) takes))
 
   -- a reference is made, and dropped
-  pub inc-again : (p c n at : ℕ) (q after : BlockWord) → (item_of r).body ≡ Inc p c n → at ≡ place p c → BlockIs w p c q → after ≡ record { ops = q.ops + 1; refs = q.refs + 1 }
+  pub inc-again : (p c n at : ℕ) (q after : BlockWord) → (item_of r).body ≡ Inc p c n → at ≡ block_place p c → BlockIs w p c q → after ≡ record { ops = q.ops + 1; refs = q.refs + 1 }
       → WorldHolds w.sys.now (lists_of b) b.order.items w.pools.items (slice_set w.blocks.items at after) w.cells.items w.queues.items w.signals.items w.timers.items
   inc-again p c n at q after says there q_is is =
       let may = inc-may w r next p c n says in
@@ -143,7 +143,7 @@ module _ (w : PlainWorld) (b : Book) (r : Rec) (gains : Gains r w.book b) (next 
       up : (x : ℕ) → x + 1 ≡ suc x
       up x = omega arith
 
-  pub dec-again : (p c n k at : ℕ) (q after : BlockWord) → (item_of r).body ≡ Dec p c n k → at ≡ place p c → BlockIs w p c q → after.ops ≡ q.ops + 1 → after.refs + 1 ≡ q.refs
+  pub dec-again : (p c n k at : ℕ) (q after : BlockWord) → (item_of r).body ≡ Dec p c n k → at ≡ block_place p c → BlockIs w p c q → after.ops ≡ q.ops + 1 → after.refs + 1 ≡ q.refs
       → WorldHolds w.sys.now (lists_of b) b.order.items w.pools.items (slice_set w.blocks.items at after) w.cells.items w.queues.items w.signals.items w.timers.items
   dec-again p c n k at q after says there q_is ops refs =
       let may = dec-may w r next p c n k says in
@@ -174,7 +174,7 @@ module _ (w : PlainWorld) (b : Book) (r : Rec) (gains : Gains r w.book b) (next 
       number : (x y : ℕ) → (x == y) ≡ true → x ≡ y
       number x y e = grind (arith, nat_tests)
 
-  pub new-again : (p n c from sig : ℕ) (pars : List ℕ) (k at first : ℕ) (e : Ev) (q after : Pool) → (item_of r).body ≡ New p n c from sig pars → k ≡ p → at ≡ place p c
+  pub new-again : (p n c from sig : ℕ) (pars : List ℕ) (k at first : ℕ) (e : Ev) (q after : Pool) → (item_of r).body ≡ New p n c from sig pars → k ≡ p → at ≡ block_place p c
       → q ≡ pool_in w.sys.now (lists_of w.book) p → is_first first q.free ≡ true → after ≡ record { count = q.count + 1; free = without_all first q.free }
       → event_of e ≡ record { sig = sig; pars = pars }
       → WorldHolds w.sys.now (lists_of b) b.order.items (slice_set w.pools.items (k - 1) after) w.blocks.items (slice_set w.cells.items at e) w.queues.items w.signals.items w.timers.items
@@ -184,6 +184,6 @@ module _ (w : PlainWorld) (b : Book) (r : Rec) (gains : Gains r w.book b) (next 
       let same : first ≡ c = same-first first c (pool_in w.sys.now (lists_of w.book) p).free (subst (λ (x : Pool). is_first first x.free ≡ true) q_is lowest) may.lowest in
       put-pool p k after (slice_set w.cells.items at e) k_is
       (subst (λ z. WorldHolds w.sys.now (lists_of b) b.order.items (slice_set w.pools.items (p - 1) after) w.blocks.items (slice_set w.cells.items z e) w.queues.items w.signals.items w.timers.items) (sym at_is)
-      (pool-moves w b r gains (item_of r).of (New p n c from sig pars) (says-of (New p n c from sig pars) says) (of-may (New p n c from sig pars) says) p n after (slice_set w.cells.items (place p c) e) pool refl may.number
+      (pool-moves w b r gains (item_of r).of (New p n c from sig pars) (says-of (New p n c from sig pars) says) (of-may (New p n c from sig pars) says) p n after (slice_set w.cells.items (block_place p c) e) pool refl may.number
       (is ∙ ap (λ x. record { count = q.count + 1; free = without_all x q.free }) same ∙ ap (λ (x : Pool). record { count = x.count + 1; free = without_all c x.free }) q_is)
       (cells-give w b r gains (item_of r).of p n c from sig pars e (says-of (New p n c from sig pars) says) pool may.block may.number stored)))

@@ -9,26 +9,26 @@ use Rattle.qp_model.specs.WordLaw.{is_object, is_signal}
 use Rattle.qp_calls.specs.Clauses.{Subscribing, Unsubscribing, ReadsSubscribers}
 use Rattle.qp_plain_words.specs.declared.signal.SignalWord.{SignalWord}
 use Rattle.qp_plain_words.proofs.SetLemmas.{has-bit, set-put, members-put, set-take}
-use Rattle.qp_plain_sound.specs.May.{May, IsSignal}
+use Rattle.qp_plain_sound.specs.May.{May, HasSignalOps}
 use Rattle.qp_plain_sound.specs.WordStates.{set_in}
 use Rattle.qp_plain_sound.proofs.CallSides.{subscribe-changes, subscribe-keeps, unsubscribe-changes, unsubscribe-keeps, subscribers-read}
 use Rattle.qp_plain.specs.declared.book.Book.{Book}
 use Rattle.qp_plain.specs.declared.world.PlainWorld.{PlainWorld}
-use Rattle.qp_plain.specs.Book.{Gains, lists_of}
+use Rattle.qp_plain.specs.Book.{BookGains, lists_of}
 use Rattle.qp_plain.specs.Tables.{SignalIs}
 use Rattle.qp_plain.specs.World.{WorldHolds}
 use Rattle.qp_plain.specs.WorldView.{world_view}
 use Rattle.qp_plain.proofs.Calling.{step_at, view_with, extends}
 use Rattle.qp_plain.proofs.Turns.{now-seen, quiet, signal-moves}
 
-module _ (w : PlainWorld) (b : Book) (r : Rec) (gains : Gains r w.book b) (g n : ℕ) (q : SignalWord) (h : IsTrue (is_signal w.sys.now g)) (q_is : SignalIs q (set_in (lists_of w.book) g)) (n_is : n ≡ q.ops) where
+module _ (w : PlainWorld) (b : Book) (r : Rec) (gains : BookGains r w.book b) (g n : ℕ) (q : SignalWord) (h : IsTrue (is_signal w.sys.now g)) (q_is : SignalIs q (set_in (lists_of w.book) g)) (n_is : n ≡ q.ops) where
   abbrev With : List SignalWord → Type 0
   With signals = WorldHolds w.sys.now (lists_of b) b.order.items w.pools.items w.blocks.items w.cells.items w.queues.items signals w.timers.items
 
   abbrev members : List ℕ
   members = (set_in (lists_of w.book) g).members
 
-  now : IsSignal w.sys.now (lists_of w.book) g n
+  now : HasSignalOps w.sys.now (lists_of w.book) g n
   now = record { signal = h; number = n_is ∙ q_is.ops }
 
   module _ (mine : IsTrue (is_object w.sys.now w.by)) where

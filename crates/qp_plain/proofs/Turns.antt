@@ -19,7 +19,7 @@ use Rattle.qp_model.specs.TimeEvents.{Clock, clock_next}
 use Rattle.qp_model.specs.Sites.{ring_of}
 use Rattle.qp_model.specs.WordLaw.{Words, is_pool, is_block, is_object, is_signal, is_timer}
 use Rattle.qp_calls.specs.LaneView.{LaneView}
-use Rattle.qp_calls.specs.Clauses.{Tries, event_of}
+use Rattle.qp_calls.specs.Clauses.{FewTries, event_of}
 use Rattle.qp_plain_words.specs.declared.block.BlockWord.{BlockWord}
 use Rattle.qp_plain_words.specs.declared.signal.SignalWord.{SignalWord}
 use Rattle.qp_plain_words.specs.Queue.{Queue}
@@ -28,21 +28,21 @@ use Rattle.qp_plain_sound.specs.Sound.{SoundWorld}
 use Rattle.qp_plain_sound.specs.WordStates.{pool_in, refs_in, line_in, set_in, clock_in, cell_in, cell_next}
 use Rattle.qp_plain.specs.declared.book.Book.{Book}
 use Rattle.qp_plain.specs.declared.world.PlainWorld.{PlainWorld}
-use Rattle.qp_plain.specs.Book.{Gains, lists_of}
-use Rattle.qp_plain.specs.Tables.{CellsHold, SignalIs, place, event_at}
+use Rattle.qp_plain.specs.Book.{BookGains, lists_of}
+use Rattle.qp_plain.specs.Tables.{CellsHold, SignalIs, block_place, event_at}
 use Rattle.qp_plain.specs.World.{WorldHolds}
 use Rattle.qp_plain.proofs.Growth.{pool-next, cell-now, cell-kept, refs-next, line-next, set-next, clock-next}
 use Rattle.qp_plain.proofs.Holding.{holds-quiet, holds-pool, holds-block, holds-queue, holds-signal, holds-timer, block-in, event-set_same, event-set_other, places-differ}
 use Rattle.qp_plain.proofs.Calling.{step_at, view_with, sound-now, view-now}
 
 -- Tries.
-pub tries-drawn : (v : Word) (steps after : ℕ) (old new : LaneView) → after ≡ steps + 1 → old.mark v < new.mark v → Tries v 1 steps after old new
+pub tries-drawn : (v : Word) (steps after : ℕ) (old new : LaneView) → after ≡ steps + 1 → old.mark v < new.mark v → FewTries v 1 steps after old new
 tries-drawn v steps after old new one up = record { up = omega (arith, one); few = omega (arith, one, up) }
 
-pub tries-shown : (v : Word) (steps after : ℕ) (old new : LaneView) → after ≡ steps + 1 → old.mark v ≤ new.mark v → Tries v 0 steps after old new
+pub tries-shown : (v : Word) (steps after : ℕ) (old new : LaneView) → after ≡ steps + 1 → old.mark v ≤ new.mark v → FewTries v 0 steps after old new
 tries-shown v steps after old new one up = record { up = omega (arith, one); few = omega (arith, one, up) }
 
-module _ (w : PlainWorld) (b : Book) (r : Rec) (gains : Gains r w.book b) where
+module _ (w : PlainWorld) (b : Book) (r : Rec) (gains : BookGains r w.book b) where
   -- what a clause says of the view behind the call, it says of the world's
   pub now-seen : (P : LaneView → Type 0) → P (behind (step_at w b r)) → P (view_with w b)
   now-seen P h = subst P (view-now w b r gains.stays) h
@@ -85,7 +85,7 @@ module _ (w : PlainWorld) (b : Book) (r : Rec) (gains : Gains r w.book b) where
 
     pub block-moves : (p c n : ℕ) (next : BlockWord) → IsTrue (is_block w.sys.now p c) → touch_of o body ≡ Draws (word.Block p c) (suc n) → n ≡ (refs_in (lists_of w.book) p c).count
         → next.ops ≡ (refs_next (refs_in (lists_of w.book) p c) body).count → next.refs ≡ length (refs_next (refs_in (lists_of w.book) p c) body).names
-        → Holds w.pools.items (slice_set w.blocks.items (place p c) next) w.cells.items w.queues.items w.signals.items w.timers.items
+        → Holds w.pools.items (slice_set w.blocks.items (block_place p c) next) w.cells.items w.queues.items w.signals.items w.timers.items
     block-moves p c n next h draws count ops refs =
         let is = refs-next (step_at w b r) o body gains.grown says words p c h (draws ∙ ap (λ x. Draws (word.Block p c) (suc x)) count) in
         holds-block (step_at w b r) o body gains.grown says w.pools.items w.blocks.items w.cells.items w.queues.items w.signals.items w.timers.items w.holds world p c (suc n) next h draws
@@ -101,9 +101,9 @@ module _ (w : PlainWorld) (b : Book) (r : Rec) (gains : Gains r w.book b) where
   -- The events in the blocks, where one is given out.
   pub cells-give : (o p n k from sig : ℕ) (pars : List ℕ) (e : Ev) → item_of r ≡ record { of = o; body = New p n k from sig pars } → IsTrue (is_pool w.sys.now p) → IsTrue (is_block w.sys.now p k)
       → n ≡ (pool_in w.sys.now (lists_of w.book) p).count → event_of e ≡ record { sig = sig; pars = pars }
-      → CellsHold w.sys.now (lists_of b) (slice_set w.cells.items (place p k) e)
+      → CellsHold w.sys.now (lists_of b) (slice_set w.cells.items (block_place p k) e)
   cells-give o p n k from sig pars e says h at count is = record {
-    long = length-set w.cells.items (place p k) e ∙ w.holds.cells_hold.long;
+    long = length-set w.cells.items (block_place p k) e ∙ w.holds.cells_hold.long;
     event = λ q d g ev there. go q d g ev there (p == q) (k == d) refl refl;
   }
     where
@@ -114,9 +114,9 @@ module _ (w : PlainWorld) (b : Book) (r : Rec) (gains : Gains r w.book b) where
       now d = cell-now (step_at w b r) o (New p n k from sig pars) gains.grown says words p d h (ap (λ x. Draws (word.Pool p) (suc x)) count)
 
       other : (q d : ℕ) → IsTrue (is_block w.sys.now q d) → ((p == q) && (k == d)) ≡ false → (ev : Event) → cell_in (lists_of w.book) q d ≡ Some ev
-          → event_at (slice_set w.cells.items (place p k) e) (place q d) ≡ Some ev
+          → event_at (slice_set w.cells.items (block_place p k) e) (block_place q d) ≡ Some ev
       other q d g apart ev was =
-          event-set_other w.cells.items (place p k) (place q d) e
+          event-set_other w.cells.items (block_place p k) (block_place q d) e
           (places-differ p k q d (block-in w.sys.now w.holds.limits p k at) (block-in w.sys.now w.holds.limits q d g) apart)
           ∙ w.holds.cells_hold.event q d g ev was
 
@@ -124,15 +124,15 @@ module _ (w : PlainWorld) (b : Book) (r : Rec) (gains : Gains r w.book b) where
       self = grind (arith, nat_tests)
 
       go : (q d : ℕ) → IsTrue (is_block w.sys.now q d) → (ev : Event) → cell_in (lists_of b) q d ≡ Some ev → (u v : Bool) → (p == q) ≡ u → (k == d) ≡ v
-          → event_at (slice_set w.cells.items (place p k) e) (place q d) ≡ Some ev
+          → event_at (slice_set w.cells.items (block_place p k) e) (block_place q d) ≡ Some ev
       go q d g ev there true true f i =
           let p_is : p ≡ q = grind (arith, nat_tests) in
           let k_is : k ≡ d = grind (arith, nat_tests) in
-          let lt : place p k < length w.cells.items = rw w.holds.cells_hold.long (block-in w.sys.now w.holds.limits p k at).table in
+          let lt : block_place p k < length w.cells.items = rw w.holds.cells_hold.long (block-in w.sys.now w.holds.limits p k at).table in
           let new : cell_in (lists_of b) p k ≡ Some (event_of e) = now k ∙ rw (self, is) refl in
           let same : cell_in (lists_of b) p k ≡ Some ev = ap (λ x. cell_in (lists_of b) x k) p_is ∙ ap (cell_in (lists_of b) q) k_is ∙ there in
-          ap (λ x. event_at (slice_set w.cells.items (place p k) e) x) (ap (λ x. place x d) (sym p_is) ∙ ap (place p) (sym k_is))
-          ∙ event-set_same w.cells.items (place p k) e lt ∙ sym new ∙ same
+          ap (λ x. event_at (slice_set w.cells.items (block_place p k) e) x) (ap (λ x. block_place x d) (sym p_is) ∙ ap (block_place p) (sym k_is))
+          ∙ event-set_same w.cells.items (block_place p k) e lt ∙ sym new ∙ same
       go q d g ev there true false f i =
           let p_is : p ≡ q = grind (arith, nat_tests) in
           let still : cell_in (lists_of b) p d ≡ cell_in (lists_of w.book) p d = now d ∙ rw i refl in
@@ -152,7 +152,7 @@ module _ (w : PlainWorld) (b : Book) (r : Rec) (gains : Gains r w.book b) where
       now d = cell-now (step_at w b r) o (Back p n k to) gains.grown says words p d h (ap (λ x. Draws (word.Pool p) (suc x)) count)
 
       go : (q d : ℕ) → IsTrue (is_block w.sys.now q d) → (ev : Event) → cell_in (lists_of b) q d ≡ Some ev → (u v : Bool) → (p == q) ≡ u → (k == d) ≡ v
-          → event_at w.cells.items (place q d) ≡ Some ev
+          → event_at w.cells.items (block_place q d) ≡ Some ev
       go q d g ev there true true f i =
           let p_is : p ≡ q = grind (arith, nat_tests) in
           let none : cell_in (lists_of b) p d ≡ None = now d ∙ rw i refl in

@@ -26,22 +26,22 @@ abbrev pub purses_of : Book → List Purse
 purses_of b = slice_set (map purse_of (logs_of b)) b.at no_purse
 
 -- the lane chosen stays chosen, and nothing changes of the codes and of the other lanes
-pub record Stays (old new : Book) : Type 0 where
+pub record BookStays (old new : Book) : Type 0 where
   pub others : new.others.items ≡ old.others.items
   pub at : new.at ≡ old.at
   pub stops : new.here.stops.list ≡ old.here.stops.list
   pub answered : new.here.answered.list ≡ old.here.answered.list
 
 -- the record comes to the end of the lane chosen
-pub record Gains (r : Rec) (old new : Book) : Type 0 where
+pub record BookGains (r : Rec) (old new : Book) : Type 0 where
   pub grown : Grown (lists_of old) old.order.items old.at r (lists_of new) new.order.items
-  pub stays : Stays old new
+  pub stays : BookStays old new
 
 -- no record comes
-pub record Keeps (old new : Book) : Type 0 where
+pub record BookKeeps (old new : Book) : Type 0 where
   pub lists : lists_of new ≡ lists_of old
   pub order : new.order.items ≡ old.order.items
-  pub stays : Stays old new
+  pub stays : BookStays old new
 
 -- why there is no room: the lane is full, or else memory was refused
 abbrev pub IsRoomFault : Book → RoomFault → Type 0

@@ -13,13 +13,13 @@ use Rattle.qp_plain.specs.Book.{logs_of}
 use Rattle.qp_plain.specs.World.{no_codes}
 
 -- what the function gives of 0, 1 and so on below n
-unfoldable pub made : {X : Type 0} → (ℕ → X) → ℕ → List X
-made f zero = []
-made f (suc n) = made f n ++ f n ∷ []
+unfoldable pub tabulated : {X : Type 0} → (ℕ → X) → ℕ → List X
+tabulated f zero = []
+tabulated f (suc n) = tabulated f n ++ f n ∷ []
 
 -- the pool in this place, all of whose blocks are free
-abbrev pub first_pool : System → ℕ → Pool
-first_pool sys k = record { count = 0; free = count_up 0 (blocks_of sys (suc k)) }
+abbrev pub free_pool : System → ℕ → Pool
+free_pool sys k = record { count = 0; free = count_up 0 (blocks_of sys (suc k)) }
 
 -- the queue of this priority, which is empty
 abbrev pub first_queue : System → ℕ → Queue
@@ -30,12 +30,12 @@ abbrev pub no_recs : List Rec → Bool
 no_recs [] = true
 no_recs (r ∷ rs) = false
 
-abbrev pub is_new : Log → Bool
-is_new g = (no_recs g.recs.items && (g.spare == 0)) && (not g.spilled && (no_codes g.stops.list && no_codes g.answered.list))
+abbrev pub is_fresh_log : Log → Bool
+is_fresh_log g = (no_recs g.recs.items && (g.spare == 0)) && (not g.spilled && (no_codes g.stops.list && no_codes g.answered.list))
 
 pub record IsNewBook (n : ℕ) (b : Book) : Type 0 where
-  pub all : list_all is_new (logs_of b) ≡ true
-  pub here : is_new b.here ≡ true
+  pub all : list_all is_fresh_log (logs_of b) ≡ true
+  pub here : is_fresh_log b.here ≡ true
   pub long : length b.others.items ≡ n
   pub order : b.order.items ≡ []
   pub at : b.at ≡ 0

@@ -9,7 +9,7 @@ use Rattle.qp_model.specs.History.{lane_items}
 use Rattle.qp_model.specs.Knowing.{Facts, told, told_lane, ceiling_after}
 use Rattle.qp_calls.specs.LaneView.{LaneView, Purse}
 use Rattle.qp_calls.specs.LaneLaws.{IsWithinLimit, HasCauses}
-use Rattle.qp_plain_sound.specs.Log.{lane_of}
+use Rattle.qp_plain_sound.specs.Log.{lane_recs}
 use Rattle.qp_plain_sound.specs.Sound.{facts_in}
 use Rattle.qp_plain_sound.specs.View.{view_of}
 use Rattle.qp_calls_log.specs.declared.log.Log.{Log}
@@ -22,18 +22,18 @@ pub lists-are : (others : List Log) (at : ℕ) (here : Log) → map log_recs (al
 lists-are others at here = map-set log_recs others at here
 
 -- the records of the lane chosen
-pub lane-here : (others : List Log) (at : ℕ) (here : Log) → at < length others → lane_of (map log_recs (all_logs others at here)) at ≡ log_recs here
+pub lane-here : (others : List Log) (at : ℕ) (here : Log) → at < length others → lane_recs (map log_recs (all_logs others at here)) at ≡ log_recs here
 lane-here others at here lt =
     ap (λ xs. get_or xs at []) (lists-are others at here) ∙ get_or-set_same (map log_recs others) at (log_recs here) [] (let long = length-map others log_recs in omega (arith, lt, long))
 
 -- what is told has the records in their order
-pub told-items : (w : Facts) (c : ℕ) (is : List Item) → map item_told (told_lane w c is) ≡ is
+pub told-lane-items : (w : Facts) (c : ℕ) (is : List Item) → map item_told (told_lane w c is) ≡ is
 unfolding told_lane told
-told-items w c [] = refl
-told-items w c (i ∷ is) = ap (λ js. i ∷ js) (told-items w (ceiling_after c i.body) is)
+told-lane-items w c [] = refl
+told-lane-items w c (i ∷ is) = ap (λ js. i ∷ js) (told-lane-items w (ceiling_after c i.body) is)
 
 pub told-length : (w : Facts) (c : ℕ) (is : List Item) → length (told_lane w c is) ≡ length is
-told-length w c is = sym (length-map (told_lane w c is) item_told) ∙ ap length (told-items w c is)
+told-length w c is = sym (length-map (told_lane w c is) item_told) ∙ ap length (told-lane-items w c is)
 
 module _ (sys : System) (others : List Log) (order : List ℕ) (at : ℕ) (here : Log) (by : ℕ) (purses : List Purse) (lt : at < length others) where
   abbrev seen : LaneView
@@ -43,7 +43,7 @@ module _ (sys : System) (others : List Log) (order : List ℕ) (at : ℕ) (here 
   pub tells-log : TellsLog here seen
   unfolding view_of
   tells-log = record {
-    told = told-items (facts_in sys (map log_recs (all_logs others at here))) 0 (lane_items (lane_of (map log_recs (all_logs others at here)) at)) ∙ ap (λ (l : List Rec). lane_items l) (lane-here others at here lt);
+    told = told-lane-items (facts_in sys (map log_recs (all_logs others at here))) 0 (lane_items (lane_recs (map log_recs (all_logs others at here)) at)) ∙ ap (λ (l : List Rec). lane_items l) (lane-here others at here lt);
     spare = refl;
     stops = refl;
   }

@@ -7,11 +7,11 @@ use Rattle.qp_model.specs.declared.bodies.Body.TheVariants.{Took, Nil, New, Inc,
 use Rattle.qp_model.specs.Record.{item_of}
 use Rattle.qp_model.specs.Ends.{is_spill, spills_in}
 use Rattle.qp_model.specs.History.{lane_items}
-use Rattle.qp_plain_sound.specs.Log.{lane_of}
+use Rattle.qp_plain_sound.specs.Log.{lane_recs}
 use Rattle.qp_plain_sound.specs.May.{May}
 use Rattle.qp_plain_sound.specs.Sound.{hands_in}
 use Rattle.qp_plain.specs.declared.world.PlainWorld.{PlainWorld}
-use Rattle.qp_plain.specs.Book.{Gains, Keeps, lists_of}
+use Rattle.qp_plain.specs.Book.{BookGains, BookKeeps, lists_of}
 
 -- the word of a time event has room for these ticks, and for the interval
 abbrev pub FitsTimer : Body → Type 0
@@ -21,7 +21,7 @@ FitsTimer b = ⊤
 
 -- the records of the lane chosen
 abbrev pub lane_in : PlainWorld → List Rec
-lane_in w = lane_of (lists_of w.book) w.book.at
+lane_in w = lane_recs (lists_of w.book) w.book.at
 
 -- what object o tells may come next
 abbrev pub MayAt : PlainWorld → ℕ → Body → Type 0
@@ -39,22 +39,22 @@ abbrev pub LaneIsWithin : Rec → PlainWorld → Type 0
 LaneIsWithin r w = is_spill (item_of r).body ≡ false → length (lane_in w) < 1000000
 
 -- the lane chosen has a place for the record; that of a `spill` is always kept
-abbrev pub HasPlace : Rec → PlainWorld → Type 0
-HasPlace r w = is_spill (item_of r).body ≡ false → 0 < w.book.here.spare
+abbrev pub HasSpare : Rec → PlainWorld → Type 0
+HasSpare r w = is_spill (item_of r).body ≡ false → 0 < w.book.here.spare
 
 -- the record comes to the end of the lane chosen, and nothing else changes of any lane
 pub record Repeats (r : Rec) (old new : PlainWorld) : Type 0 where
   pub sys_is : new.sys.now ≡ old.sys.now
   pub by_is : new.by ≡ old.by
   pub stop_is : new.stop ≡ old.stop
-  pub gains : Gains r old.book new.book
+  pub gains : BookGains r old.book new.book
 
 -- no record comes
 pub record Remains (old new : PlainWorld) : Type 0 where
   pub sys_is : new.sys.now ≡ old.sys.now
   pub by_is : new.by ≡ old.by
   pub stop_is : new.stop ≡ old.stop
-  pub keeps : Keeps old.book new.book
+  pub keeps : BookKeeps old.book new.book
 
 -- the record changes no word, and is neither a `nil` nor a `spill`
 abbrev pub is_still : Body → Bool

@@ -22,8 +22,8 @@ use Rattle.qp_plain_sound.specs.WordStates.{pool_in, refs_in, line_in, set_in, c
 abbrev pub no_pool : Pool
 no_pool = record { count = 0; free = [] }
 
-abbrev pub no_block : BlockWord
-no_block = record { ops = 0; refs = 0 }
+abbrev pub free_block : BlockWord
+free_block = record { ops = 0; refs = 0 }
 
 abbrev pub no_queue : Queue
 no_queue = record { line = empty_line; ring = 0 }
@@ -35,8 +35,8 @@ abbrev pub no_clock : Clock
 no_clock = record { count = 0; counter = 0; interval = 0 }
 
 -- the place of a block in the tables of blocks and events
-abbrev pub place : ℕ → ℕ → ℕ
-place p b = (p - 1) * 32 + b
+abbrev pub block_place : ℕ → ℕ → ℕ
+block_place p b = (p - 1) * 32 + b
 
 -- a pool in the place of its number less 1
 pub record PoolsHold (sys : System) (lanes : List (List Rec)) (table : List Pool) : Type 0 where
@@ -45,8 +45,8 @@ pub record PoolsHold (sys : System) (lanes : List (List Rec)) (table : List Pool
 
 pub record BlocksHold (sys : System) (lanes : List (List Rec)) (table : List BlockWord) : Type 0 where
   pub long : length table ≡ 480
-  pub ops : (p b : ℕ) → IsTrue (is_block sys p b) → (get_or table (place p b) no_block).ops ≡ (refs_in lanes p b).count
-  pub refs : (p b : ℕ) → IsTrue (is_block sys p b) → (get_or table (place p b) no_block).refs ≡ length (refs_in lanes p b).names
+  pub ops : (p b : ℕ) → IsTrue (is_block sys p b) → (get_or table (block_place p b) free_block).ops ≡ (refs_in lanes p b).count
+  pub refs : (p b : ℕ) → IsTrue (is_block sys p b) → (get_or table (block_place p b) free_block).refs ≡ length (refs_in lanes p b).names
 
 -- the event of each block that is given out
 abbrev pub event_at : List Ev → ℕ → Option Event
@@ -54,7 +54,7 @@ event_at table k = option_map event_of (slice_get table k)
 
 pub record CellsHold (sys : System) (lanes : List (List Rec)) (table : List Ev) : Type 0 where
   pub long : length table ≡ 480
-  pub event : (p b : ℕ) → IsTrue (is_block sys p b) → (ev : Event) → cell_in lanes p b ≡ Some ev → event_at table (place p b) ≡ Some ev
+  pub event : (p b : ℕ) → IsTrue (is_block sys p b) → (ev : Event) → cell_in lanes p b ≡ Some ev → event_at table (block_place p b) ≡ Some ev
 
 -- a queue in the place of its object's priority
 pub record QueuesHold (sys : System) (lanes : List (List Rec)) (table : List Queue) : Type 0 where

@@ -38,8 +38,8 @@ abbrev pub was_handed : ℕ → Log → Bool
 was_handed code g = list_any (λ c. c == code) g.stops.list
 
 -- what a question finds, by the word
-abbrev pub found_in : ℕ → Option ℕ
-found_in n = if n == 0 then None else Some n
+abbrev pub code_found : ℕ → Option ℕ
+code_found n = if n == 0 then None else Some n
 
 -- the word after a code is handed in: a code once set stays
 abbrev pub word_after : ℕ → ℕ → ℕ

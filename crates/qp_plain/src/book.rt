@@ -37,14 +37,14 @@ pub struct Book {
 }
 
 impl Book {
-    ghost use Rattle.qp_plain.specs.Book.{BookAnswers, Gains, Hands, IsRoomFault, Keeps, lists_of, logs_of};
+    ghost use Rattle.qp_plain.specs.Book.{BookAnswers, BookGains, Hands, IsRoomFault, BookKeeps, lists_of, logs_of};
     ghost use Rattle.qp_plain.specs.Fresh.{IsNewBook};
 
     /// Adds a record that is neither a `nil` nor a `spill` to the lane chosen.
     pub fn add(&mut self, rec: Rec)
         requires room { 0 < self.old.here.spare }
         requires plain { is_plain (item_of rec).body ≡ true }
-        ensures gains { Gains rec self.old self.new }
+        ensures gains { BookGains rec self.old self.new }
         ensures spare { self.new.here.spare + 1 ≡ self.old.here.spare }
     {
         self.here.add(rec);
@@ -57,7 +57,7 @@ impl Book {
         requires room { 0 < self.old.here.spare }
         requires nil { item_of rec ≡ record { of = me; body = Nil now.f now.l now.m } }
         requires queue { me < 33 }
-        ensures gains { Gains rec self.old self.new }
+        ensures gains { BookGains rec self.old self.new }
         ensures spare { self.new.here.spare + 1 ≡ self.old.here.spare }
     {
         self.here.add_nil(rec, me, now);
@@ -69,7 +69,7 @@ impl Book {
     pub fn add_spill(&mut self, rec: Rec)
         requires spill { is_spill (item_of rec).body ≡ true }
         requires first { self.old.here.spilled ≡ false }
-        ensures gains { Gains rec self.old self.new }
+        ensures gains { BookGains rec self.old self.new }
         ensures spare { self.new.here.spare ≡ self.old.here.spare }
     {
         self.here.add_spill(rec);
@@ -84,7 +84,7 @@ impl Book {
         ensures err { IfErr result (IsRoomFault self.old) }
         ensures refused { OnErr result (self.new.here.spare ≡ self.old.here.spare) }
         ensures more { self.old.here.spare ≤ self.new.here.spare }
-        ensures keeps { Keeps self.old self.new }
+        ensures keeps { BookKeeps self.old self.new }
     {
         let len = self.here.recs.len();
         if len + 8 > 1_000_000 {
@@ -107,7 +107,7 @@ impl Book {
     pub fn place(&mut self) -> Result<(), Memory>
         requires { count_by (λ i. not (is_spill i.body)) (lane_items self.old.here.recs.items) < 1000000 }
         ensures ok { OnOk result (0 < self.new.here.spare) }
-        ensures keeps { Keeps self.old self.new }
+        ensures keeps { BookKeeps self.old self.new }
     {
         if self.here.spare > 0 {
             return Ok(());

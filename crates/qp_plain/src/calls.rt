@@ -1,7 +1,7 @@
 //! The calls of the lane chosen.
 
 ghost use Rattle.std.specs.Prelude.{◌≡◌};
-ghost use Rattle.qp_plain.specs.World.{found_in};
+ghost use Rattle.qp_plain.specs.World.{code_found};
 
 use crate::records::{copy_of, place, refusal, shortage, stated};
 use crate::world::PlainWorld;
@@ -14,7 +14,7 @@ use std::sync::ledger::Ledger;
 
 /// The code that the stop word holds; None where it is 0.
 fn code_of(word: u8) -> Option<u8>
-    ensures { result ≡ found_in word }
+    ensures { result ≡ code_found word }
 {
     if word == 0 { None } else { Some(word) }
 }

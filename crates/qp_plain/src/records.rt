@@ -5,7 +5,7 @@ ghost use Rattle.std.specs.Option.{unwrap_or};
 ghost use Rattle.qp_model.specs.Record.{item_of};
 ghost use Rattle.qp_calls.specs.Clauses.{entry_of, event_of, refusal_of, shortage_of};
 ghost use Rattle.qp_plain.specs.Repeat.{FitsToken};
-ghost use Rattle.qp_plain.specs.Tables.{place};
+ghost use Rattle.qp_plain.specs.Tables.{block_place};
 ghost use Rattle.qp_plain_words.specs.Queue.{is_token};
 
 use arrayvec::ArrayVec;
@@ -18,7 +18,7 @@ pub(crate) fn place(pool: u8, block: u8) -> usize
     requires some { 0 < pool }
     requires pools { pool ≤ 15 }
     requires blocks { block < 32 }
-    ensures value { result ≡ place pool block }
+    ensures value { result ≡ block_place pool block }
     ensures within { result < 480 }
 {
     (usize::from(pool) - 1) * 32 + usize::from(block)

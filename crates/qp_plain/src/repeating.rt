@@ -5,7 +5,7 @@ ghost use Rattle.qp_model.specs.declared.bodies.Entry as model;
 ghost use Rattle.qp_model.specs.Record.{item_of};
 ghost use Rattle.qp_model.specs.Sound.{IsSound};
 ghost use Rattle.qp_model.specs.declared.bodies.Body.TheVariants.{Arm, Back, Dec, Inc, Lifo, New, Nil, Post, Spill, Sub, Took, Unsub};
-ghost use Rattle.qp_plain.specs.Repeat.{CountsDown, HasPlace, LaneIsWithin, MayRepeat, Remains, Repeats, SetsTo, is_still};
+ghost use Rattle.qp_plain.specs.Repeat.{CountsDown, HasSpare, LaneIsWithin, MayRepeat, Remains, Repeats, SetsTo, is_still};
 
 use crate::records::{place, token_of};
 use crate::world::PlainWorld;
@@ -17,7 +17,7 @@ impl PlainWorld<'_> {
     /// Makes a place for the record in the lane chosen, where there is none.
     pub fn place_for(&mut self, rec: &Rec) -> Result<(), Memory>
         requires few { LaneIsWithin rec.now self.old }
-        ensures ok { OnOk result (HasPlace rec.now self.new) }
+        ensures ok { OnOk result (HasSpare rec.now self.new) }
         ensures keeps { Remains self.old self.new }
     {
         if is_spill(rec) {
@@ -30,7 +30,7 @@ impl PlainWorld<'_> {
     pub fn repeat(&mut self, rec: Rec)
         requires sound { IsSound self.old.sys.now }
         requires next { MayRepeat rec self.old }
-        requires room { HasPlace rec self.old }
+        requires room { HasSpare rec self.old }
         ensures { Repeats rec self.old self.new }
     {
         match rec.body() {

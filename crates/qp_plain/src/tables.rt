@@ -3,7 +3,7 @@
 ghost use Rattle.std.specs.Prelude.{◌≡◌, ◌≤◌, ℕ, IfOk, length, true};
 ghost use Rattle.std.specs.List.{list_all};
 ghost use Rattle.qp_model.specs.Sites.{blocks_of};
-ghost use Rattle.qp_plain.specs.Fresh.{first_pool, first_queue, is_new, made};
+ghost use Rattle.qp_plain.specs.Fresh.{free_pool, first_queue, is_fresh_log, tabulated};
 ghost use Rattle.qp_plain.specs.Tables.{no_clock, no_signal};
 
 use arrayvec::ArrayVec;
@@ -15,7 +15,7 @@ use std::alloc::Global;
 
 /// So many lanes without a record.
 pub(crate) fn lanes(alloc: Global, n: u32) -> Result<Vec<Log>, Memory>
-    ensures all { IfOk result (λ v. list_all is_new v.items ≡ true) }
+    ensures all { IfOk result (λ v. list_all is_fresh_log v.items ≡ true) }
     ensures long { IfOk result (λ v. length v.items ≡ n) }
 {
     let mut logs = Vec::new(alloc);
@@ -31,7 +31,7 @@ pub(crate) fn lanes(alloc: Global, n: u32) -> Result<Vec<Log>, Memory>
 /// The pools, with all blocks free.
 pub(crate) fn pools(alloc: Global, sys: &System) -> Result<Vec<PoolWord>, Memory>
     requires { (p : ℕ) → blocks_of sys.now p ≤ 32 }
-    ensures { IfOk result (λ v. v.items ≡ made (first_pool sys.now) (length sys.now.pools)) }
+    ensures { IfOk result (λ v. v.items ≡ tabulated (free_pool sys.now) (length sys.now.pools)) }
 {
     let mut words = Vec::new(alloc);
     for k in 0..sys.pools.items.len() {
@@ -62,7 +62,7 @@ pub(crate) fn cells(alloc: Global) -> Result<Vec<Ev>, Memory>
 
 /// The queues by priority, all empty.
 pub(crate) fn queues(alloc: Global, sys: &System) -> Result<Vec<QueueWord>, Memory>
-    ensures { IfOk result (λ v. v.items ≡ made (first_queue sys.now) 33) }
+    ensures { IfOk result (λ v. v.items ≡ tabulated (first_queue sys.now) 33) }
 {
     let mut words = Vec::new(alloc);
     for a in 0..33u64 {
@@ -76,7 +76,7 @@ pub(crate) fn queues(alloc: Global, sys: &System) -> Result<Vec<QueueWord>, Memo
 
 /// The signals, without subscribers.
 pub(crate) fn signals(alloc: Global, sys: &System) -> Result<Vec<SignalWord>, Memory>
-    ensures { IfOk result (λ v. v.items ≡ made (λ k. no_signal) (length sys.now.signals)) }
+    ensures { IfOk result (λ v. v.items ≡ tabulated (λ k. no_signal) (length sys.now.signals)) }
 {
     let mut words = Vec::new(alloc);
     for _ in 0..sys.signals.items.len() {
@@ -89,7 +89,7 @@ pub(crate) fn signals(alloc: Global, sys: &System) -> Result<Vec<SignalWord>, Me
 
 /// The time events, all disarmed.
 pub(crate) fn timers(alloc: Global, sys: &System) -> Result<Vec<TimerWord>, Memory>
-    ensures { IfOk result (λ v. v.items ≡ made (λ k. no_clock) (length sys.now.timers)) }
+    ensures { IfOk result (λ v. v.items ≡ tabulated (λ k. no_clock) (length sys.now.timers)) }
 {
     let mut words = Vec::new(alloc);
     for _ in 0..sys.timers.items.len() {

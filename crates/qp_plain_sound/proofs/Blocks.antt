@@ -4,7 +4,7 @@ use Rattle.qp_chart.specs.StateTree.{has}
 use Rattle.qp_model.specs.Lists.{without_one}
 use Rattle.qp_model.specs.References.{Refs}
 use Rattle.qp_model.specs.Lives.{Life}
-use Rattle.qp_calls.specs.Counting.{one, times}
+use Rattle.qp_calls.specs.Counting.{one_if, times}
 use Rattle.qp_plain_sound.specs.Sound.{BlockOk}
 use Rattle.qp_plain_sound.proofs.Times.{times-without_one}
 
@@ -51,7 +51,7 @@ none refs (suc n) k stands h = let e = h (omega arith) in let wrong = rw e at st
 
 -- a reference is made: the first one, or another one
 pub ok-inc : (life : Life) (refs : Refs) (held heldʹ queued : ℕ → ℕ) (fresh freshʹ used usedʹ : ℕ) → life.out ≡ true
-    → ((r : ℕ) → heldʹ r ≡ held r + one (refs.count == r)) → freshʹ ≡ 0 → usedʹ ≡ 0
+    → ((r : ℕ) → heldʹ r ≡ held r + one_if (refs.count == r)) → freshʹ ≡ 0 → usedʹ ≡ 0
     → BlockOk life refs held queued fresh used → BlockOk life (refs_of (refs.count + 1) (refs.count ∷ refs.names)) heldʹ queued freshʹ usedʹ
 unfolding times
 ok-inc life refs held heldʹ queued fresh freshʹ used usedʹ out more no_fresh no_used old = record {
@@ -65,7 +65,7 @@ ok-inc life refs held heldʹ queued fresh freshʹ used usedʹ out more no_fresh 
 
 -- a reference is dropped; where none is left, the block is loose and used
 pub ok-dec : (life : Life) (refs : Refs) (held heldʹ queued : ℕ → ℕ) (k fresh used : ℕ) → life.out ≡ true → has refs.names k ≡ true
-    → ((r : ℕ) → heldʹ r + one (k == r) ≡ held r) → life.edge ≤ refs.count
+    → ((r : ℕ) → heldʹ r + one_if (k == r) ≡ held r) → life.edge ≤ refs.count
     → BlockOk life refs held queued fresh used → (left : List ℕ) → without_one k refs.names ≡ left → (more : ℕ) → (0 < more → left ≡ []) → (left ≡ [] → more ≡ 1) → more ≤ 1
     → BlockOk life (refs_of (refs.count + 1) left) heldʹ queued fresh (used + more)
 ok-dec life refs held heldʹ queued k fresh used out stands less within old left left_is more last whole few =

@@ -25,7 +25,7 @@ use Rattle.qp_plain_sound.specs.WordStates.{pool_in, refs_in}
 use Rattle.qp_plain_sound.specs.Sound.{SoundWorld, facts_in, hands_in, names_block}
 use Rattle.qp_plain_sound.specs.May.{May, MayGive, MayMake, IsPool}
 use Rattle.qp_plain_sound.specs.View.{view_of, shown_in}
-use Rattle.qp_plain_sound.specs.Step.{Step, Extends, MayCome, before, behind, hands_before}
+use Rattle.qp_plain_sound.specs.Step.{WorldStep, Extends, MayCome, before, behind, hands_before}
 use Rattle.qp_plain_sound.specs.Calls.{GiveIsDone, GiveIsRefused, FirstIsDone, IncIsDone, DecKeeps, DecIsLast, BackIsDone}
 use Rattle.qp_plain_sound.proofs.Times.{all-stands, take_out-absent, stands-times}
 use Rattle.qp_plain_sound.proofs.Standing.{block-pool, pool-count, refs-count, free-life, out-not_free, held-stands}
@@ -35,7 +35,7 @@ use Rattle.qp_model.proofs.LineLemmas.{same_number}
 use Rattle.qp_model.proofs.PromiseLemmas.{first-has}
 
 -- A block is given out.
-module _ (s : Step) (p n b from : ℕ) (ev : Event) (ext : Extends s s.by (New p n b from ev.sig ev.pars)) (m : MayGive s.sys s.lanes p n b from ev) where
+module _ (s : WorldStep) (p n b from : ℕ) (ev : Event) (ext : Extends s s.by (New p n b from ev.sig ev.pars)) (m : MayGive s.sys s.lanes p n b from ev) where
   abbrev body : Body
   body = New p n b from ev.sig ev.pars
 
@@ -101,12 +101,12 @@ pub give-done : GiveIsDone
 give-done s p n b from ev reserve ext m enough = given-done s p n b from ev ext m reserve enough
 
 -- None is given out.
-short_may : (s : Step) (p n free : ℕ) (reserve : Option ℕ) → IsPool s.sys s.lanes p n free → free ≤ unwrap_or reserve 0 → MayCome s s.by (shortage_of reserve p n free)
+short_may : (s : WorldStep) (p n free : ℕ) (reserve : Option ℕ) → IsPool s.sys s.lanes p n free → free ≤ unwrap_or reserve 0 → MayCome s s.by (shortage_of reserve p n free)
 unfolding May
 short_may s p n free (Some k) is few = (is, few)
 short_may s p n free None is few = (is, omega (arith, few))
 
-short_told : (s : Step) (p n free c : ℕ) (reserve : Option ℕ) → told (facts_in s.sys s.more) s.by c (shortage_of reserve p n free) ≡ plain (shortage_of reserve p n free)
+short_told : (s : WorldStep) (p n free c : ℕ) (reserve : Option ℕ) → told (facts_in s.sys s.more) s.by c (shortage_of reserve p n free) ≡ plain (shortage_of reserve p n free)
 unfolding told known_of
 short_told s p n free c (Some k) = refl
 short_told s p n free c None = refl
@@ -126,7 +126,7 @@ give-refused s p n free ev reserve ext is few =
     }
 
 -- A reference is made.
-module _ (s : Step) (p b r : ℕ) (ext : Extends s s.by (Inc p b r)) (m : MayMake s.sys s.lanes (hands_before s) p b r) where
+module _ (s : WorldStep) (p b r : ℕ) (ext : Extends s s.by (Inc p b r)) (m : MayMake s.sys s.lanes (hands_before s) p b r) where
   inc_may : MayCome s s.by (Inc p b r)
   unfolding May
   inc_may = m
@@ -155,11 +155,11 @@ module _ (s : Step) (p b r : ℕ) (ext : Extends s s.by (Inc p b r)) (m : MayMak
   inc_hands = hands-after s s.by (Inc p b r) ext.world ext.grown ext.says inc_may
 
 -- what stands in the hands is on a block of the system
-hold_block : (s : Step) (h : Hold) → SoundWorld s.sys s.lanes s.order → StandsHold h (before s) → IsTrue (is_block s.sys h.pool h.block) × IsTrue (stands (Held h.pool h.block h.name) (hands_before s))
+hold_block : (s : WorldStep) (h : Hold) → SoundWorld s.sys s.lanes s.order → StandsHold h (before s) → IsTrue (is_block s.sys h.pool h.block) × IsTrue (stands (Held h.pool h.block h.name) (hands_before s))
 unfolding view_of
 hold_block s h world stand = (all-stands (names_block s.sys) (Held h.pool h.block h.name) (hands_before s) world.sound.tokens stand.1, stand.1)
 
-fresh_block : (s : Step) (f : Fresh) → SoundWorld s.sys s.lanes s.order → StandsFresh f (before s) → IsTrue (is_block s.sys f.pool f.block) × IsTrue (stands (Loose f.pool f.block f.used) (hands_before s))
+fresh_block : (s : WorldStep) (f : Fresh) → SoundWorld s.sys s.lanes s.order → StandsFresh f (before s) → IsTrue (is_block s.sys f.pool f.block) × IsTrue (stands (Loose f.pool f.block f.used) (hands_before s))
 unfolding view_of
 fresh_block s f world stand = (all-stands (names_block s.sys) (Loose f.pool f.block f.used) (hands_before s) world.sound.tokens stand.1, stand.1)
 
@@ -172,7 +172,7 @@ first-done s f r ext stand unused number =
     makes s f.pool f.block r ext (record { block = at.0; number = number; token = inl loose }) 1 (ap (λ x. suc (length x)) (sym empty))
 
 -- no block is loose of which a reference is in the hands
-not_loose : (s : Step) (p b k : ℕ) → SoundWorld s.sys s.lanes s.order → IsTrue (is_block s.sys p b) → IsTrue (stands (Held p b k) (hands_before s)) → stands (Loose p b false) (hands_before s) ≡ false
+not_loose : (s : WorldStep) (p b k : ℕ) → SoundWorld s.sys s.lanes s.order → IsTrue (is_block s.sys p b) → IsTrue (stands (Held p b k) (hands_before s)) → stands (Loose p b false) (hands_before s) ≡ false
 not_loose s p b k world h held = go (stands (Loose p b false) (hands_before s)) refl
   where
     standing : has (refs_in s.lanes p b).names k ≡ true
@@ -198,7 +198,7 @@ inc-done s h r ext stand number =
     }
 
 -- A reference is dropped.
-module _ (s : Step) (h : Hold) (d : ℕ) (ext : Extends s s.by (Dec h.pool h.block d h.name)) (stand : StandsHold h (before s)) (number : d ≡ (refs_in s.lanes h.pool h.block).count) where
+module _ (s : WorldStep) (h : Hold) (d : ℕ) (ext : Extends s s.by (Dec h.pool h.block d h.name)) (stand : StandsHold h (before s)) (number : d ≡ (refs_in s.lanes h.pool h.block).count) where
   abbrev dec_body : Body
   dec_body = Dec h.pool h.block d h.name
 

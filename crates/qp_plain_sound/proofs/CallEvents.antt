@@ -29,7 +29,7 @@ use Rattle.qp_plain_sound.specs.WordStates.{line_in, refs_in, cell_in}
 use Rattle.qp_plain_sound.specs.Sound.{SoundWorld, facts_in, hands_in, is_event, names_block}
 use Rattle.qp_plain_sound.specs.May.{May, IsQueue}
 use Rattle.qp_plain_sound.specs.View.{view_of, event_in}
-use Rattle.qp_plain_sound.specs.Step.{Step, Extends, MayCome, behind, hands_before}
+use Rattle.qp_plain_sound.specs.Step.{WorldStep, Extends, MayCome, behind, hands_before}
 use Rattle.qp_plain_sound.specs.Calls.{TakeIsDone, EventIsRead, HeldHasEvent}
 use Rattle.qp_plain_sound.proofs.Times.{all-stands}
 use Rattle.qp_plain_sound.proofs.Standing.{held-stands, referred-out}
@@ -125,7 +125,7 @@ event-read sys lanes order at spare by stops answered purses h ev world stand ce
     (event-its sys lanes (entry h.pool h.block h.name) ev (held-same sys lanes order world h stand.1 ∙ cell), subst (IsEvent sys) same (event-from sys e.0 e.2))
 
 -- The front entry is taken.
-module _ (s : Step) (me f l m : ℕ) (e : HeldEntry) (others : List model.Entry) (ext : Extends s me (Took f l (m + 1) (entry_of e))) (named : IsTrue (is_named s.sys e))
+module _ (s : WorldStep) (me f l m : ℕ) (e : HeldEntry) (others : List model.Entry) (ext : Extends s me (Took f l (m + 1) (entry_of e))) (named : IsTrue (is_named s.sys e))
     (q : IsQueue s.sys s.lanes me f l m) (front : (line_in s.sys s.lanes me).entries ≡ entry_of e ∷ others) where
   abbrev took : Body
   took = Took f l (m + 1) (entry_of e)
@@ -167,14 +167,14 @@ module _ (s : Step) (me f l m : ℕ) (e : HeldEntry) (others : List model.Entry)
   unfolding known_of
   hands_now = hands-after s me took ext.world ext.grown ext.says may
 
-took-stands : (s : Step) (e : HeldEntry) → IsTrue (is_named s.sys e) → hands_in s.sys s.more s.longer ≡ with_entry (entry_of e) (hands_before s) → EntryStands e (behind s)
+took-stands : (s : WorldStep) (e : HeldEntry) → IsTrue (is_named s.sys e) → hands_in s.sys s.more s.longer ≡ with_entry (entry_of e) (hands_before s) → EntryStands e (behind s)
 unfolding view_of entry_of
 took-stands s (token.Static sig) named hands = named
 took-stands s (token.Pool h) named hands =
     let some : 0 < h.pool = grind (arith, nat_tests) in
     (some, subst (λ ts. IsTrue (stands (Held h.pool h.block h.name) ts)) (sym (hands ∙ with-pool h.pool h.block h.name (hands_before s) some)) (held-first h.pool h.block h.name (hands_before s)))
 
-took-fixed : (s : Step) (e : HeldEntry) → EventIs e (behind s)
+took-fixed : (s : WorldStep) (e : HeldEntry) → EventIs e (behind s)
 unfolding view_of event_in event_of_entry
 took-fixed s (token.Static sig) = refl
 took-fixed s (token.Pool h) = tt

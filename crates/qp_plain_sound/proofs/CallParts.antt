@@ -19,11 +19,11 @@ use Rattle.qp_plain_sound.specs.Log.{with_record}
 use Rattle.qp_plain_sound.specs.WordStates.{pool_in, refs_in, line_in}
 use Rattle.qp_plain_sound.specs.Sound.{SoundWorld, facts_in, hands_in, is_made}
 use Rattle.qp_plain_sound.specs.View.{view_of}
-use Rattle.qp_plain_sound.specs.Step.{Step, Grown, MayCome, before, behind, hands_before}
+use Rattle.qp_plain_sound.specs.Step.{WorldStep, Grown, MayCome, before, behind, hands_before}
 use Rattle.qp_plain_sound.proofs.WorldLemmas.{world-more, hands_now}
 use Rattle.qp_plain_sound.proofs.ViewLemmas.{view-gains, marks-now, hist-now, line-now, pool-now, refs-now, line-still, pool-still, refs-still, set-still, event_of-still}
 
-module _ (s : Step) (o : ℕ) (b : Body) (world : SoundWorld s.sys s.lanes s.order) (grown : Grown s.lanes s.order s.at s.rec s.more s.longer)
+module _ (s : WorldStep) (o : ℕ) (b : Body) (world : SoundWorld s.sys s.lanes s.order) (grown : Grown s.lanes s.order s.at s.rec s.more s.longer)
     (says : item_of s.rec ≡ record { of = o; body = b }) (may : MayCome s o b) where
   -- what holds of the lanes with the record holds of those after the call
   after_lanes : (P : List (List Rec) → Type 0) → P (with_record s.lanes s.at s.rec) → P s.more

@@ -22,7 +22,7 @@ use Rattle.qp_plain_sound.specs.WordStates.{line_in}
 use Rattle.qp_plain_sound.specs.Sound.{SoundWorld, facts_in, hands_in, names_block}
 use Rattle.qp_plain_sound.specs.May.{May, IsQueue, IsOwned}
 use Rattle.qp_plain_sound.specs.View.{view_of, shown_in, counts_of}
-use Rattle.qp_plain_sound.specs.Step.{Step, Extends, MayCome, before, hands_before}
+use Rattle.qp_plain_sound.specs.Step.{WorldStep, Extends, MayCome, before, hands_before}
 use Rattle.qp_plain_sound.specs.Calls.{ClaimIsDone, ClaimIsRefused, LifoIsDone, LifoIsRefused, TakeTellsNone, TakeFindsNone, SeenIsDone, CountsAreRead}
 use Rattle.qp_plain_sound.proofs.Times.{all-stands}
 use Rattle.qp_plain_sound.proofs.Standing.{line-in}
@@ -32,7 +32,7 @@ use Rattle.qp_model.proofs.LineLemmas.{same_number}
 use Rattle.qp_model.proofs.NumberLemmas.{not-zero}
 
 -- an entry that may be handed in may be posted
-owned : (s : Step) (e : HeldEntry) → SoundWorld s.sys s.lanes s.order → EntryStands e (before s) → IsOwned s.sys (hands_before s) (entry_of e)
+owned : (s : WorldStep) (e : HeldEntry) → SoundWorld s.sys s.lanes s.order → EntryStands e (before s) → IsOwned s.sys (hands_before s) (entry_of e)
 unfolding entry_of view_of
 owned s (token.Static sig) world h = record { good = rw h refl; token = inl refl }
 owned s (token.Pool k) world h =
@@ -40,14 +40,14 @@ owned s (token.Pool k) world h =
     record { good = rw (not-zero k.pool h.0) block; token = inr h.1 }
 
 -- the free entries of a queue are those of its counts
-pub room-is : (s : Step) (a f l m : ℕ) → SoundWorld s.sys s.lanes s.order → IsQueue s.sys s.lanes a f l m
+pub room-is : (s : WorldStep) (a f l m : ℕ) → SoundWorld s.sys s.lanes s.order → IsQueue s.sys s.lanes a f l m
     → (length (line_in s.sys s.lanes a).entries + m ≡ f + l) × (length (line_in s.sys s.lanes a).entries ≤ ring_of s.sys a + 1)
 room-is s a f l m world q =
     let line = line-in s.sys s.lanes world.sound.words a q.object in
     (rw (q.firsts, q.lasts, q.takes) line.counted, line.fits)
 
 -- what a queue shows at its counts
-pub shows : (s : Step) (a f l m : ℕ) (sys : System) (lanes : List (List Rec)) (order : List ℕ) (spare : ℕ) → line_in sys lanes a ≡ record { entries = (line_in sys lanes a).entries; f = f; l = l; m = m }
+pub shows : (s : WorldStep) (a f l m : ℕ) (sys : System) (lanes : List (List Rec)) (order : List ℕ) (spare : ℕ) → line_in sys lanes a ≡ record { entries = (line_in sys lanes a).entries; f = f; l = l; m = m }
     → ShowsQueue a f l m (view_of sys lanes order s.at spare s.by s.stops s.answered s.purses)
 unfolding view_of shown_in
 shows s a f l m sys lanes order spare is = record {
@@ -56,7 +56,7 @@ shows s a f l m sys lanes order spare is = record {
 }
 
 -- An entry is posted.
-module _ (s : Step) (to f l m : ℕ) (e : HeldEntry) (ext : Extends s s.by (Post to (f + 1) l m (entry_of e))) (stand : EntryStands e (before s)) (q : IsQueue s.sys s.lanes to f l m)
+module _ (s : WorldStep) (to f l m : ℕ) (e : HeldEntry) (ext : Extends s s.by (Post to (f + 1) l m (entry_of e))) (stand : EntryStands e (before s)) (q : IsQueue s.sys s.lanes to f l m)
     (room : length (line_in s.sys s.lanes to).entries ≤ ring_of s.sys to) where
   abbrev post : Body
   post = Post to (f + 1) l m (entry_of e)
@@ -97,18 +97,18 @@ claim-done s to f l m e margin ext stand q enough =
     }
 
 -- A queue is shown as it stands: the record draws nothing.
-module _ (s : Step) (a f l m : ℕ) (o : ℕ) (b : Body) (world : SoundWorld s.sys s.lanes s.order) (q : IsQueue s.sys s.lanes a f l m) where
+module _ (s : WorldStep) (a f l m : ℕ) (o : ℕ) (b : Body) (world : SoundWorld s.sys s.lanes s.order) (q : IsQueue s.sys s.lanes a f l m) where
   still_line : (now : Line) → now ≡ line_in s.sys s.lanes a → now ≡ record { entries = now.entries; f = f; l = l; m = m }
   still_line now is = is ∙ rw (is, q.firsts, q.lasts, q.takes) refl
 
 -- No entry is posted.
-refusal_may : (s : Step) (to f l m : ℕ) (margin : Option ℕ) → SoundWorld s.sys s.lanes s.order → IsQueue s.sys s.lanes to f l m
+refusal_may : (s : WorldStep) (to f l m : ℕ) (margin : Option ℕ) → SoundWorld s.sys s.lanes s.order → IsQueue s.sys s.lanes to f l m
     → ring_of s.sys to + 1 - length (line_in s.sys s.lanes to).entries ≤ unwrap_or margin 0 → MayCome s s.by (refusal_of margin to f l m)
 unfolding May
 refusal_may s to f l m (Some k) world q few = let is = room-is s to f l m world q in (q, omega (arith, few, is.0))
 refusal_may s to f l m None world q few = let is = room-is s to f l m world q in (q, omega (arith, few, is.0, is.1))
 
-refusal_told : (s : Step) (to f l m c : ℕ) (margin : Option ℕ) → told (facts_in s.sys s.more) s.by c (refusal_of margin to f l m) ≡ plain (refusal_of margin to f l m)
+refusal_told : (s : WorldStep) (to f l m c : ℕ) (margin : Option ℕ) → told (facts_in s.sys s.more) s.by c (refusal_of margin to f l m) ≡ plain (refusal_of margin to f l m)
 unfolding told known_of
 refusal_told s to f l m c (Some k) = refl
 refusal_told s to f l m c None = refl
@@ -132,7 +132,7 @@ claim-refused s to f l m e margin ext q few =
     }
 
 -- An entry is posted last-in.
-module _ (s : Step) (f l m : ℕ) (e : HeldEntry) (ext : Extends s s.by (Lifo f (l + 1) m (entry_of e))) (stand : EntryStands e (before s)) (q : IsQueue s.sys s.lanes s.by f l m)
+module _ (s : WorldStep) (f l m : ℕ) (e : HeldEntry) (ext : Extends s s.by (Lifo f (l + 1) m (entry_of e))) (stand : EntryStands e (before s)) (q : IsQueue s.sys s.lanes s.by f l m)
     (room : length (line_in s.sys s.lanes s.by).entries ≤ ring_of s.sys s.by) where
   abbrev front : Body
   front = Lifo f (l + 1) m (entry_of e)
@@ -172,7 +172,7 @@ lifo-done s f l m e ext stand q room =
       shows = shows s s.by f (l + 1) m s.sys s.more s.longer s.left (lifo_line s f l m e ext stand q room);
     }
 
-no_lifo_told : (s : Step) (a f l m c : ℕ) → told (facts_in s.sys s.more) s.by c (NoLifo a f l m) ≡ plain (NoLifo a f l m)
+no_lifo_told : (s : WorldStep) (a f l m c : ℕ) → told (facts_in s.sys s.more) s.by c (NoLifo a f l m) ≡ plain (NoLifo a f l m)
 unfolding told known_of
 no_lifo_told s a f l m c = refl
 
@@ -191,7 +191,7 @@ lifo-refused s f l m e ext q full =
     }
 
 -- The queue is seen.
-seen_told : (s : Step) (o p f l m c : ℕ) → told (facts_in s.sys s.more) o c (Seen p f l m) ≡ plain (Seen p f l m)
+seen_told : (s : WorldStep) (o p f l m c : ℕ) → told (facts_in s.sys s.more) o c (Seen p f l m) ≡ plain (Seen p f l m)
 unfolding told known_of
 seen_told s o p f l m c = refl
 
@@ -272,11 +272,11 @@ take-finds_none sys lanes order at spare by stops answered purses me f l m world
   shows = shows_now sys lanes order at spare by stops answered purses world me f l m q;
 }
 
-nil_told : (s : Step) (o f l m c : ℕ) → told (facts_in s.sys s.more) o c (Nil f l m) ≡ plain (Nil f l m)
+nil_told : (s : WorldStep) (o f l m c : ℕ) → told (facts_in s.sys s.more) o c (Nil f l m) ≡ plain (Nil f l m)
 unfolding told known_of
 nil_told s o f l m c = refl
 
-nil_may : (s : Step) (me f l m : ℕ) → SoundWorld s.sys s.lanes s.order → IsQueue s.sys s.lanes me f l m → (line_in s.sys s.lanes me).entries ≡ [] → MayCome s me (Nil f l m)
+nil_may : (s : WorldStep) (me f l m : ℕ) → SoundWorld s.sys s.lanes s.order → IsQueue s.sys s.lanes me f l m → (line_in s.sys s.lanes me).entries ≡ [] → MayCome s me (Nil f l m)
 unfolding May
 nil_may s me f l m world q empty = (q, empty-counts s.sys s.lanes s.order me f l m world q empty)
 

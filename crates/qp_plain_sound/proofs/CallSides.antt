@@ -16,9 +16,9 @@ use Rattle.qp_model.proofs.HistoryLemmas.{length-hist}
 use Rattle.qp_calls.specs.LaneView.{AddsOf}
 use Rattle.qp_plain_sound.specs.WordStates.{set_in}
 use Rattle.qp_plain_sound.specs.Sound.{SoundWorld, facts_in}
-use Rattle.qp_plain_sound.specs.May.{May, IsSignal, IsTimer}
+use Rattle.qp_plain_sound.specs.May.{May, HasSignalOps, HasTimerOps}
 use Rattle.qp_plain_sound.specs.View.{view_of}
-use Rattle.qp_plain_sound.specs.Step.{Step, Extends, MayCome, before, behind}
+use Rattle.qp_plain_sound.specs.Step.{WorldStep, Extends, MayCome, before, behind}
 use Rattle.qp_plain_sound.specs.Calls.{SubscribeChanges, SubscribeKeeps, UnsubscribeChanges, UnsubscribeKeeps, SubscribersAreRead, ArmIsDone, ArmIsRefused, DisarmFindsIdle, DisarmIsDone, RearmIsDone, TickFindsIdle, TickGoesDown, TickFires}
 use Rattle.qp_plain_sound.proofs.Standing.{set-count, clock-count}
 use Rattle.qp_plain_sound.proofs.CallParts.{adds, draws-up, set-same}
@@ -40,7 +40,7 @@ tells_all (Fire t n reload) = true
 tells_all (Armed t n counter) = true
 tells_all _ = false
 
-plain_told : (s : Step) (o c : ℕ) (b : Body) → tells_all b ≡ true → told (facts_in s.sys s.more) o c b ≡ plain b
+plain_told : (s : WorldStep) (o c : ℕ) (b : Body) → tells_all b ≡ true → told (facts_in s.sys s.more) o c b ≡ plain b
 unfolding told known_of
 plain_told s o c (Pub sig n set) h = refl
 plain_told s o c (Sub sig n) h = refl
@@ -55,12 +55,12 @@ plain_told s o c (Armed t n counter) h = refl
 plain_told s o c _ h = absurd (cc)
 
 -- it is added
-adds_plain : (s : Step) (o : ℕ) (b : Body) → Extends s o b → MayCome s o b → tells_all b ≡ true → AddsOf o (plain b ∷ []) (before s) (behind s)
+adds_plain : (s : WorldStep) (o : ℕ) (b : Body) → Extends s o b → MayCome s o b → tells_all b ≡ true → AddsOf o (plain b ∷ []) (before s) (behind s)
 adds_plain s o b ext may all = adds s o b ext.world ext.grown ext.says may ext.less _ (λ c. plain_told s o c b all)
 
 -- Signals.
 
-set_draws : (s : Step) (sig n : ℕ) → SoundWorld s.sys s.lanes s.order → IsSignal s.sys s.lanes sig n → Draws (word.Signal sig) (suc n) ≡ Draws (word.Signal sig) (suc (total (word.Signal sig) (all_items s.lanes)))
+set_draws : (s : WorldStep) (sig n : ℕ) → SoundWorld s.sys s.lanes s.order → HasSignalOps s.sys s.lanes sig n → Draws (word.Signal sig) (suc n) ≡ Draws (word.Signal sig) (suc (total (word.Signal sig) (all_items s.lanes)))
 set_draws s sig n world is = ap (λ x. Draws (word.Signal sig) (suc x)) (is.number ∙ set-count s.sys s.lanes world.sound.words sig is.signal)
 
 pub subscribe-changes : SubscribeChanges
@@ -76,7 +76,7 @@ unsubscribe-changes s sig n ext is there =
     (n, adds_plain s s.by (Unsub sig n) ext may refl, draws-up s s.by (Unsub sig n) ext.world ext.grown ext.says may (word.Signal sig) (same_number sig) (set_draws s sig n ext.world is))
 
 -- The set stays: whether the object is in it is known.
-module _ (s : Step) (sig n : ℕ) (ext : Extends s s.by (Same sig n)) (is : IsSignal s.sys s.lanes sig n) where
+module _ (s : WorldStep) (sig n : ℕ) (ext : Extends s s.by (Same sig n)) (is : HasSignalOps s.sys s.lanes sig n) where
   same_may : MayCome s s.by (Same sig n)
   unfolding May
   same_may = is
@@ -113,7 +113,7 @@ subscribers-read s sig n set ext is bits =
 
 -- Time events.
 
-clock_draws : (s : Step) (t n c : ℕ) → SoundWorld s.sys s.lanes s.order → IsTimer s.sys s.lanes t n c → Draws (word.Timer t) (suc n) ≡ Draws (word.Timer t) (suc (total (word.Timer t) (all_items s.lanes)))
+clock_draws : (s : WorldStep) (t n c : ℕ) → SoundWorld s.sys s.lanes s.order → HasTimerOps s.sys s.lanes t n c → Draws (word.Timer t) (suc n) ≡ Draws (word.Timer t) (suc (total (word.Timer t) (all_items s.lanes)))
 clock_draws s t n c world is = ap (λ x. Draws (word.Timer t) (suc x)) (is.number ∙ clock-count s.sys s.lanes world.sound.words t is.timer)
 
 pub arm-done : ArmIsDone

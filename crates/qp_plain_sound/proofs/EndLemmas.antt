@@ -16,11 +16,11 @@ use Rattle.qp_model.specs.End.{lines_empty, names_on, same_numbers, block_rests,
 use Rattle.qp_model.specs.WordLaw.{is_block, is_object}
 use Rattle.qp_model.proofs.ListLemmas.{all_below_from}
 use Rattle.qp_calls.specs.Tokens.{Token, Held, Loose}
-use Rattle.qp_calls.specs.Counting.{one, times, count_of}
+use Rattle.qp_calls.specs.Counting.{one_if, times, count_of}
 use Rattle.qp_calls.specs.Deferring.{tokens_in}
 use Rattle.qp_calls.proofs.CountLemmas.{count-with}
 use Rattle.qp_plain_sound.specs.WordStates.{pool_in, life_in, refs_in, line_in}
-use Rattle.qp_plain_sound.specs.Sound.{Sound, BlockIn, sum_below, queued, queues, entries_in, is_ref, hands_in}
+use Rattle.qp_plain_sound.specs.Sound.{Sound, BlockIn, sum_below, queued, queues, entries_in, is_token_of, hands_in}
 use Rattle.qp_plain_sound.specs.Ending.{BlockStands, IsFree, IsLoose, IsReferred, OnlyDeferred, stands_in}
 use Rattle.qp_plain_sound.specs.Laws.{EveryBlockStands, QuietEndRests}
 use Rattle.qp_plain_sound.proofs.Times.{has-times, times-without_one}
@@ -94,7 +94,7 @@ unfolding times
 times-has [] r h = absurd (cc)
 times-has (x ∷ xs) r h = go (x == r) h (times-has xs r)
   where
-    go : (u : Bool) → (u || has xs r) ≡ true → (has xs r ≡ true → 0 < times (λ y. y == r) xs) → 0 < one u + times (λ y. y == r) xs
+    go : (u : Bool) → (u || has xs r) ≡ true → (has xs r ≡ true → 0 < times (λ y. y == r) xs) → 0 < one_if u + times (λ y. y == r) xs
     go true k later = omega arith
     go false k later = let n = later k in omega (arith, n)
 
@@ -137,7 +137,7 @@ names-tokens p b r some (e ∷ es) =
     count-with (Held p b r) e (tokens_in es) ∙ go (e.pool == p) (e.block == b) (e.pool == 0) refl refl refl (names-tokens p b r some es)
   where
     go : (u v z : Bool) → (e.pool == p) ≡ u → (e.block == b) ≡ v → (e.pool == 0) ≡ z → count_of (Held p b r) (tokens_in es) ≡ times (λ x. x == r) (names_on p b es)
-        → cond z 0 (one (((p == e.pool) && (b == e.block)) && (r == e.name))) + count_of (Held p b r) (tokens_in es)
+        → cond z 0 (one_if (((p == e.pool) && (b == e.block)) && (r == e.name))) + count_of (Held p b r) (tokens_in es)
         ≡ times (λ x. x == r) (cond (u && v) (e.name ∷ names_on p b es) (names_on p b es))
     go true v true eu ev ez later = let wrong : p ≡ 0 = grind (arith, nat_tests) in absurd (omega (arith, wrong, some))
     go true true false eu ev ez later = rw (eqb-sym p e.pool, eqb-sym b e.block, eu, ev, eqb-sym r e.name) (omega (arith, later))
@@ -163,10 +163,10 @@ sum-none (suc n) f h = let k = sum-none n f h in let z = h n in omega (arith, k,
 module _ (sys : System) (lanes : List (List Rec)) (hands : List Token) (deferred : List Entry) (sound : Sound sys lanes hands) (only : OnlyDeferred sys lanes hands deferred) where
   none-queued : (t : Token) → queued sys lanes t ≡ 0
   unfolding queued entries_in times
-  none-queued t = sum-none queues (λ a. times (is_ref t) (entries_in sys lanes a)) (λ a. go a (is_object sys a) refl)
+  none-queued t = sum-none queues (λ a. times (is_token_of t) (entries_in sys lanes a)) (λ a. go a (is_object sys a) refl)
     where
-      go : (a : ℕ) (u : Bool) → is_object sys a ≡ u → times (is_ref t) (cond u (line_in sys lanes a).entries []) ≡ 0
-      go a true e = ap (times (is_ref t)) (only.queues a e)
+      go : (a : ℕ) (u : Bool) → is_object sys a ≡ u → times (is_token_of t) (cond u (line_in sys lanes a).entries []) ≡ 0
+      go a true e = ap (times (is_token_of t)) (only.queues a e)
       go a false e = refl
 
   rests : (p b : ℕ) → IsTrue (is_block sys p b) → 0 < p → block_rests sys (all_items lanes) deferred p b ≡ true

@@ -18,7 +18,7 @@ use Rattle.qp_model.specs.OneOrder.{Placed, enters, leaves}
 use Rattle.qp_model.specs.Sites.{ring_of}
 use Rattle.qp_model.specs.WordLaw.{is_object}
 use Rattle.qp_model.proofs.HistoryLemmas.{drawn_as-on, filtered-pass}
-use Rattle.qp_calls.specs.Counting.{one, times}
+use Rattle.qp_calls.specs.Counting.{one_if, times}
 use Rattle.qp_plain_sound.specs.Log.{log_of, items_placed}
 use Rattle.qp_plain_sound.specs.Sound.{SoundWorld}
 use Rattle.qp_plain_sound.specs.WordStates.{line_in}
@@ -30,14 +30,14 @@ use Rattle.qp_plain_sound.proofs.Times.{times-append}
 -- how often a touch stands among the numbers below n, where it counts
 among : Word → Touch → Bool → ℕ → ℕ
 among w t counts zero = 0
-among w t counts (suc n) = among w t counts n + one (drawn_as w n t && counts)
+among w t counts (suc n) = among w t counts n + one_if (drawn_as w n t && counts)
 
 not_counted : (w : Word) (t : Touch) (n : ℕ) → among w t false n ≡ 0
 unfolding among
 not_counted w t zero = refl
 not_counted w t (suc n) = omega (arith, not_counted w t n, go (drawn_as w n t))
   where
-    go : (u : Bool) → one (u && false) ≡ 0
+    go : (u : Bool) → one_if (u && false) ≡ 0
     go true = refl
     go false = refl
 
@@ -48,17 +48,17 @@ none_yet w v mark (suc n) b lt =
     let other : (mark == suc n) ≡ false = grind (arith, nat_tests) in
     omega (arith, none_yet w v mark n b (omega (arith, lt)), go (same_word v w) (mark == suc n) other)
   where
-    go : (u x : Bool) → x ≡ false → one ((u && x) && b) ≡ 0
+    go : (u x : Bool) → x ≡ false → one_if ((u && x) && b) ≡ 0
     go true x h = rw h refl
     go false x h = refl
 
-once : (w v : Word) (mark n : ℕ) (b : Bool) → same_word v w ≡ true → 0 < mark → mark ≤ n → among w (Draws v mark) b n ≡ one b
+once : (w v : Word) (mark n : ℕ) (b : Bool) → same_word v w ≡ true → 0 < mark → mark ≤ n → among w (Draws v mark) b n ≡ one_if b
 unfolding among
 once w v mark zero b on some few = absurd (omega (arith, some, few))
 once w v mark (suc n) b on some few = go (mark == suc n) refl (once w v mark n b on some)
   where
-    go : (u : Bool) → (mark == suc n) ≡ u → (mark ≤ n → among w (Draws v mark) b n ≡ one b)
-        → among w (Draws v mark) b n + one ((same_word v w && (mark == suc n)) && b) ≡ one b
+    go : (u : Bool) → (mark == suc n) ≡ u → (mark ≤ n → among w (Draws v mark) b n ≡ one_if b)
+        → among w (Draws v mark) b n + one_if ((same_word v w && (mark == suc n)) && b) ≡ one_if b
     go true is ih =
         let same : mark ≡ suc n = grind (arith, nat_tests) in
         rw (on, is) (omega (arith, none_yet w v mark n b (omega (arith, same))))
@@ -66,7 +66,7 @@ once w v mark (suc n) b on some few = go (mark == suc n) refl (once w v mark n b
         let other : mark ≤ n = grind (arith, nat_tests) in
         rw (on, is) (omega (arith, ih other))
 
-counted_once : (w : Word) (t : Touch) (n : ℕ) (b : Bool) → drawn_on w t ≡ true → drawn_below w n t ≡ true → among w t b n ≡ one b
+counted_once : (w : Word) (t : Touch) (n : ℕ) (b : Bool) → drawn_on w t ≡ true → drawn_below w n t ≡ true → among w t b n ≡ one_if b
 counted_once w (Draws v mark) n b on below =
     let both : (nat_lt 0 mark && nat_le mark n) ≡ true = rw on at below in
     let some : nat_lt 0 mark ≡ true = (and_parts (nat_lt 0 mark) (nat_le mark n) both).0 in
@@ -76,11 +76,11 @@ counted_once w (Draws v mark) n b on below =
     once w v mark n b on above within
 counted_once w _ n b on below = absurd (cc)
 
-filter_times : (p q : Item → Bool) (i : Item) (is : List Item) → times p (filter q (i ∷ is)) ≡ times p (filter q is) + one (q i && p i)
+filter_times : (p q : Item → Bool) (i : Item) (is : List Item) → times p (filter q (i ∷ is)) ≡ times p (filter q is) + one_if (q i && p i)
 unfolding times
 filter_times p q i is = go (q i) refl
   where
-    go : (u : Bool) → q i ≡ u → times p (filter q (i ∷ is)) ≡ times p (filter q is) + one (u && p i)
+    go : (u : Bool) → q i ≡ u → times p (filter q (i ∷ is)) ≡ times p (filter q is) + one_if (u && p i)
     go true h = rw h (omega arith)
     go false h = rw h (omega arith)
 
@@ -107,7 +107,7 @@ numbered-times p w n (i ∷ is) on below =
     numbered-cons p w i is n ∙ go (p i) refl (numbered-times p w n is on parts.1) parts.0
   where
     go : (u : Bool) → p i ≡ u → times p (numbered w is n) ≡ times p is → drawn_below w n (touch i) ≡ true
-        → times p (numbered w is n) + among w (touch i) u n ≡ one u + times p is
+        → times p (numbered w is n) + among w (touch i) u n ≡ one_if u + times p is
     go true h ih few = omega (arith, ih, counted_once w (touch i) n true (on i h) few)
     go false h ih few = omega (arith, ih, not_counted w (touch i) n)
 
@@ -162,7 +162,7 @@ unfolding times
 filtered-times p [] = refl
 filtered-times p (x ∷ xs) = go (p x) refl (filtered-times p xs)
   where
-    go : (u : Bool) → p x ≡ u → length (filter p xs) ≡ times p xs → length (filter p (x ∷ xs)) ≡ one u + times p xs
+    go : (u : Bool) → p x ≡ u → length (filter p xs) ≡ times p xs → length (filter p (x ∷ xs)) ≡ one_if u + times p xs
     go true h ih = rw h (omega (arith, ih))
     go false h ih = rw h (omega (arith, ih))
 
@@ -172,7 +172,7 @@ count-times p xs = sym (length-filter p xs) ∙ filtered-times p xs
 items-times : (p : Item → Bool) (log : List Placed) → times (λ x. p x.item) log ≡ times p (items_placed log)
 unfolding times
 items-times p [] = refl
-items-times p (x ∷ log) = ap (λ n. one (p x.item) + n) (items-times p log)
+items-times p (x ∷ log) = ap (λ n. one_if (p x.item) + n) (items-times p log)
 
 module _ (sys : System) (lanes : List (List Rec)) (order : List ℕ) (world : SoundWorld sys lanes order) (a : ℕ) (object : IsTrue (is_object sys a)) where
   -- a test of the queue's operations counts alike in the log and in the history

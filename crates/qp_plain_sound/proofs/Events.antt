@@ -21,7 +21,7 @@ use Rattle.qp_model.specs.Settled.{Settled}
 use Rattle.qp_model.proofs.MachineLemmas.{after-keeps}
 use Rattle.qp_model.proofs.KnowingLemmas.{IsLater, known-stays}
 use Rattle.qp_model.proofs.EventLemmas.{event_known-same}
-use Rattle.qp_calls.specs.Counting.{one, times}
+use Rattle.qp_calls.specs.Counting.{one_if, times}
 use Rattle.qp_plain_sound.specs.WordStates.{cell_next, cell_after}
 use Rattle.qp_plain_sound.proofs.Times.{times-without_one}
 
@@ -35,7 +35,7 @@ unfolding times
 absent [] r h = refl
 absent (x ∷ xs) r h = go (x == r) h (absent xs r)
   where
-    go : (b : Bool) → (b || has xs r) ≡ false → (has xs r ≡ false → times (λ y. y == r) xs ≡ 0) → one b + times (λ y. y == r) xs ≡ 0
+    go : (b : Bool) → (b || has xs r) ≡ false → (has xs r ≡ false → times (λ y. y == r) xs ≡ 0) → one_if b + times (λ y. y == r) xs ≡ 0
     go true k later = absurd (cc)
     go false k later = let z = later k in omega (arith, z)
 
@@ -59,7 +59,7 @@ made_names s is = record {
     below q true e h = let same : s.count ≡ q = grind (arith, nat_tests) in omega (arith, same)
     below q false e h = let k = is.below q h in omega (arith, k)
 
-    once : (q : ℕ) (u v : Bool) → (s.count == q) ≡ u → has s.names q ≡ v → one u + times (λ x. x == q) s.names ≤ 1
+    once : (q : ℕ) (u v : Bool) → (s.count == q) ≡ u → has s.names q ≡ v → one_if u + times (λ x. x == q) s.names ≤ 1
     once q true true e h = let same : s.count ≡ q = grind (arith, nat_tests) in let k = is.below q h in absurd (omega (arith, same, k))
     once q true false e h = let z = absent s.names q h in omega (arith, z)
     once q false v e h = let k = is.once q in omega (arith, k)
@@ -73,7 +73,7 @@ names_stay s (Dec p b d k) h is = record {
   once = λ q. fewer q (times-without_one s.names k q (and_parts _ _ h).1) (is.once q);
 }
   where
-    fewer : (q : ℕ) → times (λ x. x == q) (without_one k s.names) + one (k == q) ≡ times (λ x. x == q) s.names → times (λ x. x == q) s.names ≤ 1 → times (λ x. x == q) (without_one k s.names) ≤ 1
+    fewer : (q : ℕ) → times (λ x. x == q) (without_one k s.names) + one_if (k == q) ≡ times (λ x. x == q) s.names → times (λ x. x == q) s.names ≤ 1 → times (λ x. x == q) (without_one k s.names) ≤ 1
     fewer q less few = omega (arith, less, few)
 names_stay s _ h is = absurd (cc)
 

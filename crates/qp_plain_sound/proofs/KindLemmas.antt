@@ -30,7 +30,7 @@ use Rattle.qp_model.proofs.ListLemmas.{all-without}
 use Rattle.qp_calls.specs.Tokens.{Token, Held, Loose, stands, hands_of, with_left, take_out}
 use Rattle.qp_plain_sound.specs.WordStates.{pool_in, refs_in, line_in, set_in, clock_in}
 use Rattle.qp_plain_sound.specs.Sound.{Sound, facts_in, queues}
-use Rattle.qp_plain_sound.specs.May.{May, MayGive, MayMake, MayDrop, MayGiveBack, MayPost, MayTake, IsQueue, IsSignal}
+use Rattle.qp_plain_sound.specs.May.{May, MayGive, MayMake, MayDrop, MayGiveBack, MayPost, MayTake, IsQueue, HasSignalOps}
 use Rattle.qp_plain_sound.proofs.Standing.{refs-long, set-count, clock-count, held-line}
 use Rattle.qp_plain_sound.proofs.SoundBlocks.{sound-first, sound-again, sound-dec, dec-refs}
 use Rattle.qp_plain_sound.proofs.SoundPools.{sound-new, sound-back}
@@ -134,14 +134,14 @@ module _ (sys : System) (before : List (List Rec)) (lane : List Rec) (behind : L
 
   -- Signals.
 
-  set_draws : (sig n : ℕ) → IsSignal sys old_lanes sig n → Draws (word.Signal sig) (suc n) ≡ Draws (word.Signal sig) (suc (total (word.Signal sig) (all_items old_lanes)))
+  set_draws : (sig n : ℕ) → HasSignalOps sys old_lanes sig n → Draws (word.Signal sig) (suc n) ≡ Draws (word.Signal sig) (suc (total (word.Signal sig) (all_items old_lanes)))
   set_draws sig n m = ap (λ x. Draws (word.Signal sig) (suc x)) (m.number ∙ set-count sys old_lanes old.words sig m.signal)
 
   set_state : (sig : ℕ) (s : Subscribers) → HeldWord Subscribers subscribers (word.Signal sig) new_lanes s → set_in new_lanes sig ≡ s
   unfolding set_in
   set_state sig s held = held.state
 
-  keeps-sub : (o sig n : ℕ) → Says o (Sub sig n) → IsSignal sys old_lanes sig n → has (set_in old_lanes sig).members o ≡ false → IsTrue (is_object sys o) → Sound sys new_lanes hands
+  keeps-sub : (o sig n : ℕ) → Says o (Sub sig n) → HasSignalOps sys old_lanes sig n → has (set_in old_lanes sig).members o ≡ false → IsTrue (is_object sys o) → Sound sys new_lanes hands
   keeps-sub o sig n is m none object =
       sound-signal_drawn sys before lane behind r _ is hands old sig m.signal (set_draws sig n m) (λ h. held.keeps)
       (subst (λ x. IsTrue (list_all (is_object sys) x.members)) (sym (set_state sig _ held)) (and_from _ _ object (all-without (is_object sys) o (set_in old_lanes sig).members (old.subscribed sig m.signal))))
@@ -149,7 +149,7 @@ module _ (sys : System) (before : List (List Rec)) (lane : List Rec) (behind : L
       held : HeldWord Subscribers subscribers (word.Signal sig) new_lanes (record { count = (set_in old_lanes sig).count + 1; members = o ∷ without_all o (set_in old_lanes sig).members })
       held = held-sub before lane behind r sig (set_in old_lanes sig) (held_set sig m.signal) o (is ∙ ap (λ x. record { of = o; body = Sub sig x }) m.number) none
 
-  keeps-unsub : (o sig n : ℕ) → Says o (Unsub sig n) → IsSignal sys old_lanes sig n → has (set_in old_lanes sig).members o ≡ true → Sound sys new_lanes hands
+  keeps-unsub : (o sig n : ℕ) → Says o (Unsub sig n) → HasSignalOps sys old_lanes sig n → has (set_in old_lanes sig).members o ≡ true → Sound sys new_lanes hands
   keeps-unsub o sig n is m there =
       sound-signal_drawn sys before lane behind r _ is hands old sig m.signal (set_draws sig n m) (λ h. held.keeps)
       (subst (λ x. IsTrue (list_all (is_object sys) x.members)) (sym (set_state sig _ held)) (all-without (is_object sys) o (set_in old_lanes sig).members (old.subscribed sig m.signal)))

@@ -22,10 +22,10 @@ use Rattle.qp_model.proofs.WordLemmas.{all_items-split, all_items-grown}
 use Rattle.qp_model.proofs.KnowingLemmas.{IsLater, later-undrawn, new-fresh, back-fresh, settled-stays}
 use Rattle.qp_model.proofs.SettledLemmas.{settled-from, settled-to}
 use Rattle.qp_calls.specs.Tokens.{Token, Held, token_of, stands}
-use Rattle.qp_calls.specs.Counting.{one, times}
+use Rattle.qp_calls.specs.Counting.{one_if, times}
 use Rattle.qp_calls.proofs.HandLemmas.{same-self}
 use Rattle.qp_plain_sound.specs.WordStates.{pool_in, refs_in, line_in, set_in}
-use Rattle.qp_plain_sound.specs.Sound.{Sound, sum_below, queued, queues, entries_in, is_ref, is_good, is_made, handles_made, all_made, names_block}
+use Rattle.qp_plain_sound.specs.Sound.{Sound, sum_below, queued, queues, entries_in, is_token_of, is_good, is_made, handles_made, all_made, names_block}
 use Rattle.qp_plain_sound.specs.May.{May}
 use Rattle.qp_plain_sound.proofs.Times.{has-times, all-stands}
 use Rattle.qp_plain_sound.proofs.Marks.{Next, Drawing, Showing, Silent, total-on, total-rises}
@@ -135,10 +135,10 @@ module _ (sys : System) (lanes : List (List Rec)) (hands : List Token) (sound : 
       let good : is_good sys e ≡ true = (and_parts _ _ (subst (λ es. list_all (is_good sys) es ≡ true) front (sound.entries a h))).0 in
       let pooled : (e.pool == 0) ≡ false = grind (arith, nat_tests) in
       let block : is_block sys e.pool e.block ≡ true = rw pooled at good in
-      let self : one (is_ref (token_of e) e) ≡ 1 = ap one (same-self (token_of e)) in
+      let self : one_if (is_token_of (token_of e) e) ≡ 1 = ap one_if (same-self (token_of e)) in
       let front_is : entries_in sys lanes a ≡ e ∷ others = entries-of sys lanes a h ∙ front in
-      let here : times (is_ref (token_of e)) (entries_in sys lanes a) ≡ one (is_ref (token_of e) e) + times (is_ref (token_of e)) others = ap (times (is_ref (token_of e))) front_is in
-      let part = part-of-sum queues (λ c. times (is_ref (token_of e)) (entries_in sys lanes c)) a few in
+      let here : times (is_token_of (token_of e)) (entries_in sys lanes a) ≡ one_if (is_token_of (token_of e) e) + times (is_token_of (token_of e)) others = ap (times (is_token_of (token_of e))) front_is in
+      let part = part-of-sum queues (λ c. times (is_token_of (token_of e)) (entries_in sys lanes c)) a few in
       let owned = (sound.block e.pool e.block block).owned e.name in
       (block, has-times (refs_in lanes e.pool e.block).names e.name (omega (arith, self, here, part, owned)))
 

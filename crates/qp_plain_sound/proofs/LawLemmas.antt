@@ -19,13 +19,13 @@ use Rattle.qp_model.proofs.KnowingLemmas.{told_lane-stays, records_of-told}
 use Rattle.qp_model.proofs.SettledLemmas.{all_settled-from}
 use Rattle.qp_calls.specs.LaneView.{Gains, LaneView, ceiling_in, is_known, mark_after, own_after}
 use Rattle.qp_calls.specs.LaneLaws.{is_caused}
-use Rattle.qp_calls.specs.Notes.{IsNote, MayNote, told_as, told_note, stop_code, last_code}
+use Rattle.qp_calls.specs.Notes.{IsNote, MayNote, note_told, told_note, stop_code, last_code}
 use Rattle.qp_calls.specs.Tokens.{Token, hands_after}
-use Rattle.qp_plain_sound.specs.Log.{lane_of, log_of, items_placed, first_placed, with_record}
+use Rattle.qp_plain_sound.specs.Log.{lane_recs, log_of, items_placed, first_placed, with_record}
 use Rattle.qp_plain_sound.specs.Sound.{SoundWorld, facts_in, hands_in, is_made}
 use Rattle.qp_plain_sound.specs.May.{May}
 use Rattle.qp_plain_sound.specs.View.{view_of, event_in}
-use Rattle.qp_plain_sound.specs.Step.{Step, Grown, before, behind, MayCome}
+use Rattle.qp_plain_sound.specs.Step.{WorldStep, Grown, before, behind, MayCome}
 use Rattle.qp_plain_sound.specs.Laws.{StaysSound, LaneGainsIt, NoteIsAdded, LanesAreTheLog, LogGrowsAtItsEnd, OtherLanesStay, LaneKeepsItsLimit, LaneKeepsItsCauses, StopHasItsCause, CausesStay, WordsAreFew, LogIsNumbered, ToldByTheBook, is_caused_in}
 use Rattle.qp_plain_sound.proofs.Logs.{log-grows, lanes-log, lane-set_other}
 use Rattle.qp_plain_sound.proofs.LogTotals.{total-log}
@@ -78,7 +78,7 @@ note-may sys lanes hands o v (Tick t n counter) h = let wrong : false ≡ true =
 note-may sys lanes hands o v (Fire t n reload) h = let wrong : false ≡ true = h.0 in absurd (cc)
 note-may sys lanes hands o v _ h = tt
 
-note-told : (w : Facts) (o c : ℕ) (v : LaneView) (b : Body) → IsNote b v → told w o c b ≡ told_as c b
+note-told : (w : Facts) (o c : ℕ) (v : LaneView) (b : Body) → IsNote b v → told w o c b ≡ note_told c b
 unfolding told known_of
 note-told w o c v (Took f l m e) h = let wrong : false ≡ true = h.0 in absurd (cc)
 note-told w o c v (New p n b from sig pars) h = let wrong : false ≡ true = h.0 in absurd (cc)
@@ -99,24 +99,24 @@ note-added s old grown note =
 
 module _ (sys : System) (lanes : List (List Rec)) (order : List ℕ) (at : ℕ) (r : Rec) (o : ℕ) (b : Body) (old : SoundWorld sys lanes order) (within : at < length lanes)
     (is : item_of r ≡ record { of = o; body = b }) (may : May sys lanes (hands_in sys lanes order) o b) (k : ℕ) (other : (k == at) ≡ false) where
-  lane_kept : lane_of (with_record lanes at r) k ≡ lane_of lanes k
-  lane_kept = let differ : k ≢ at = grind (arith, nat_tests) in lane-set_other lanes at k (lane_of lanes at ++ r ∷ []) differ
+  lane_kept : lane_recs (with_record lanes at r) k ≡ lane_recs lanes k
+  lane_kept = let differ : k ≢ at = grind (arith, nat_tests) in lane-set_other lanes at k (lane_recs lanes at ++ r ∷ []) differ
 
-  lane_settled : AllSettled (world.front sys lanes order at r o b old within is may ++ world.rest sys lanes order at r o b old within is may) (lane_items (lane_of lanes k))
+  lane_settled : AllSettled (world.front sys lanes order at r o b old within is may ++ world.rest sys lanes order at r o b old within is may) (lane_items (lane_recs lanes k))
   unfolding all_settled
   lane_settled =
-      subst (λ z. AllSettled z (lane_items (lane_of lanes k))) (world.items_before sys lanes order at r o b old within is may)
-      (all_settled-from (all_items lanes) (lane_items (lane_of lanes k)) (all-lane (λ j. is_settled (all_items lanes) j.body) lanes k old.settled))
+      subst (λ z. AllSettled z (lane_items (lane_recs lanes k))) (world.items_before sys lanes order at r o b old within is may)
+      (all_settled-from (all_items lanes) (lane_items (lane_recs lanes k)) (all-lane (λ j. is_settled (all_items lanes) j.body) lanes k old.settled))
 
-  told-kept : told_lane (facts_in sys (with_record lanes at r)) 0 (lane_items (lane_of (with_record lanes at r) k)) ≡ told_lane (facts_in sys lanes) 0 (lane_items (lane_of lanes k))
+  told-kept : told_lane (facts_in sys (with_record lanes at r)) 0 (lane_items (lane_recs (with_record lanes at r) k)) ≡ told_lane (facts_in sys lanes) 0 (lane_items (lane_recs lanes k))
   told-kept =
       ap (λ l. told_lane (facts_in sys (with_record lanes at r)) 0 (lane_items l)) lane_kept
-      ∙ ap (λ z. told_lane (record { sys = sys; items = z }) 0 (lane_items (lane_of lanes k))) (world.items_after sys lanes order at r o b old within is may)
+      ∙ ap (λ z. told_lane (record { sys = sys; items = z }) 0 (lane_items (lane_recs lanes k))) (world.items_after sys lanes order at r o b old within is may)
       ∙ told_lane-stays sys (world.front sys lanes order at r o b old within is may) (record { of = o; body = b }) (world.rest sys lanes order at r o b old within is may)
-      (world.later sys lanes order at r o b old within is may) 0 (lane_items (lane_of lanes k)) lane_settled
-      ∙ sym (ap (λ z. told_lane (record { sys = sys; items = z }) 0 (lane_items (lane_of lanes k))) (world.items_before sys lanes order at r o b old within is may))
+      (world.later sys lanes order at r o b old within is may) 0 (lane_items (lane_recs lanes k)) lane_settled
+      ∙ sym (ap (λ z. told_lane (record { sys = sys; items = z }) 0 (lane_items (lane_recs lanes k))) (world.items_before sys lanes order at r o b old within is may))
 
-event-kept : (s : Step) (o : ℕ) (b : Body) → SoundWorld s.sys s.lanes s.order → Grown s.lanes s.order s.at s.rec s.more s.longer → item_of s.rec ≡ record { of = o; body = b } → MayCome s o b
+event-kept : (s : WorldStep) (o : ℕ) (b : Body) → SoundWorld s.sys s.lanes s.order → Grown s.lanes s.order s.at s.rec s.more s.longer → item_of s.rec ≡ record { of = o; body = b } → MayCome s o b
     → (e : Entry) → is_made (all_items s.lanes) e ≡ true → event_in s.sys s.more e ≡ event_in s.sys s.lanes e
 unfolding event_in
 event-kept s o b old grown says may e made = ap (λ x. unwrap_or x (record { sig = 0; pars = [] })) (event_of-same s o b old grown says may e made)
@@ -126,7 +126,7 @@ unfolding view_of mark_after own_after hands_after is_known
 others-stay s o b old grown says may k spare by stops answered purses other =
     let g = gains s o b old grown says may in
     record {
-      told = subst (λ ls. told_lane (facts_in s.sys ls) 0 (lane_items (lane_of ls k)) ≡ told_lane (facts_in s.sys s.lanes) 0 (lane_items (lane_of s.lanes k))) (sym grown.lanes_are)
+      told = subst (λ ls. told_lane (facts_in s.sys ls) 0 (lane_items (lane_recs ls k)) ≡ told_lane (facts_in s.sys s.lanes) 0 (lane_items (lane_recs s.lanes k))) (sym grown.lanes_are)
           (told-kept s.sys s.lanes s.order s.at s.rec o b old grown.within says may k other);
       mark = λ w. g.mark w;
       rise = λ w. g.rise w;
@@ -147,7 +147,7 @@ count-told w c a (i ∷ is) = count-told w (ceiling_after c i.body) (a + cond (n
 pub limit-kept : LaneKeepsItsLimit
 unfolding view_of
 limit-kept sys lanes order at spare by stops answered purses h =
-    let same = count-told (facts_in sys lanes) 0 0 (lane_items (lane_of lanes at)) in
+    let same = count-told (facts_in sys lanes) 0 0 (lane_items (lane_recs lanes at)) in
     subst (λ n. n + spare ≤ 1000000) (sym same) h
 
 caused-told : (w : Facts) (items : List Item) (code : ℕ) → is_caused (told_lane w 0 items) code ≡ is_caused_in items code
@@ -157,10 +157,10 @@ pub causes-kept : LaneKeepsItsCauses
 unfolding view_of
 causes-kept sys lanes order at spare by stops answered purses h = go stops h
   where
-    go : (codes : List ℕ) → list_all (is_caused_in (lane_items (lane_of lanes at))) codes ≡ true
-        → list_all (λ code. is_caused (told_lane (facts_in sys lanes) 0 (lane_items (lane_of lanes at))) code) codes ≡ true
+    go : (codes : List ℕ) → list_all (is_caused_in (lane_items (lane_recs lanes at))) codes ≡ true
+        → list_all (λ code. is_caused (told_lane (facts_in sys lanes) 0 (lane_items (lane_recs lanes at))) code) codes ≡ true
     go [] k = refl
-    go (code ∷ codes) k = and_from _ _ (caused-told (facts_in sys lanes) (lane_items (lane_of lanes at)) code ∙ (and_parts _ _ k).0) (go codes (and_parts _ _ k).1)
+    go (code ∷ codes) k = and_from _ _ (caused-told (facts_in sys lanes) (lane_items (lane_recs lanes at)) code ∙ (and_parts _ _ k).0) (go codes (and_parts _ _ k).1)
 
 last-caused : (code : ℕ) (ts : List ToldItem) → 0 < code → last_code ts ≡ code → list_any (λ t. stop_code t.told.body == code) ts ≡ true
 unfolding last_code
@@ -178,7 +178,7 @@ stop-caused sys lanes order at spare by stops answered purses code (inl seven) =
 stop-caused sys lanes order at spare by stops answered purses code (inr last) =
     or_right (code == 7) _
     (and_from _ _ (above code last.0)
-    (sym (any-told (λ b. stop_code b == code) (facts_in sys lanes) 0 (lane_items (lane_of lanes at))) ∙ last-caused code _ last.0 last.1))
+    (sym (any-told (λ b. stop_code b == code) (facts_in sys lanes) 0 (lane_items (lane_recs lanes at))) ∙ last-caused code _ last.0 last.1))
   where
     or_right : (a b : Bool) → b ≡ true → (a || b) ≡ true
     or_right true b h = refl
@@ -209,10 +209,10 @@ causes-stay items more (code ∷ codes) h = and_from _ _ (go (code == 7) (nat_lt
 log-short : (lanes : List (List Rec)) (order : List ℕ) → length (items_placed (log_of lanes order)) ≤ length order
 unfolding log_of
 log-short lanes [] = omega arith
-log-short lanes (x ∷ order) = go (lane_of lanes x) (log-short (slice_set lanes x (drop 1 (lane_of lanes x))) order)
+log-short lanes (x ∷ order) = go (lane_recs lanes x) (log-short (slice_set lanes x (drop 1 (lane_recs lanes x))) order)
   where
-    go : (l : List Rec) → length (items_placed (log_of (slice_set lanes x (drop 1 (lane_of lanes x))) order)) ≤ length order
-        → length (items_placed (first_placed x l (log_of (slice_set lanes x (drop 1 (lane_of lanes x))) order))) ≤ suc (length order)
+    go : (l : List Rec) → length (items_placed (log_of (slice_set lanes x (drop 1 (lane_recs lanes x))) order)) ≤ length order
+        → length (items_placed (first_placed x l (log_of (slice_set lanes x (drop 1 (lane_recs lanes x))) order))) ≤ suc (length order)
     go [] later = omega (arith, later)
     go (r ∷ rs) later = omega (arith, later)
 
@@ -234,7 +234,7 @@ by-the_book sys lanes order at spare by stops answered purses old = record {
   words = old.sound.words;
   told = refl;
   marks = λ w. refl;
-  objects = λ o. records_of-told (facts_in sys lanes) o 0 (lane_items (lane_of lanes at));
+  objects = λ o. records_of-told (facts_in sys lanes) o 0 (lane_items (lane_recs lanes at));
   events = λ h stand.
       let e = held-has sys lanes order old h stand.1 in
       let is = held-same sys lanes order old h stand.1 ∙ e.1 in

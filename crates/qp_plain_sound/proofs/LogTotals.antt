@@ -8,13 +8,13 @@ use Rattle.qp_model.specs.History.{Touch, touch, drawn_on, lane_items, all_items
 use Rattle.qp_model.specs.Places.{is_next, in_order}
 use Rattle.qp_model.proofs.LineLemmas.{same_number}
 use Rattle.qp_model.proofs.WordLemmas.{all_items-split}
-use Rattle.qp_calls.specs.Counting.{one, times}
-use Rattle.qp_plain_sound.specs.Log.{Orders, lane_of, log_of, items_placed, first_placed}
+use Rattle.qp_calls.specs.Counting.{one_if, times}
+use Rattle.qp_plain_sound.specs.Log.{Orders, lane_recs, log_of, items_placed, first_placed}
 use Rattle.qp_plain_sound.proofs.Marks.{Next, Drawing, Showing, Silent}
 use Rattle.qp_plain_sound.proofs.Times.{times-append}
 use Rattle.qp_plain_sound.proofs.Logs.{lane-there, orders-rest, some-first, without_first, lanes-split, lanes-grown}
 
-pub none-left : (lanes : List (List Rec)) → ((a : ℕ) → 0 ≡ length (lane_of lanes a)) → all_items lanes ≡ []
+pub none-left : (lanes : List (List Rec)) → ((a : ℕ) → 0 ≡ length (lane_recs lanes a)) → all_items lanes ≡ []
 unfolding all_items lane_items
 none-left [] h = refl
 none-left (l ∷ ls) h = rw (empty l (h 0)) (none-left ls (λ a. h (suc a)))
@@ -36,17 +36,17 @@ module _ (p : Item → Bool) (lanes : List (List Rec)) (x : ℕ) (order : List �
 
   times-cons : times p (items_placed (log_of lanes (x ∷ order))) ≡ times p (all_items lanes)
   unfolding log_of lane_items
-  times-cons = go (lane_of lanes x) refl (some-first lanes x order orders)
+  times-cons = go (lane_recs lanes x) refl (some-first lanes x order orders)
     where
-      go : (l : List Rec) → lane_of lanes x ≡ l → 0 < length l → times p (items_placed (first_placed x l (log_of (without_first lanes x order orders) order))) ≡ times p (all_items lanes)
+      go : (l : List Rec) → lane_recs lanes x ≡ l → 0 < length l → times p (items_placed (first_placed x l (log_of (without_first lanes x order orders) order))) ≡ times p (all_items lanes)
       go [] e some = absurd (omega (arith, some))
       go (r ∷ rs) e some =
           let whole : all_items lanes ≡ all_items (take x lanes) ++ item_of r ∷ (map item_of rs ++ all_items (drop (suc x) lanes)) =
-          ap all_items (lanes-split lanes x there) ∙ all_items-split (take x lanes) (lane_of lanes x) (drop (suc x) lanes)
+          ap all_items (lanes-split lanes x there) ∙ all_items-split (take x lanes) (lane_recs lanes x) (drop (suc x) lanes)
           ∙ ap (λ l. (all_items (take x lanes) ++ map item_of l) ++ all_items (drop (suc x) lanes)) e
           ∙ append_assoc (all_items (take x lanes)) (item_of r ∷ map item_of rs) (all_items (drop (suc x) lanes)) in
-          let rest : all_items (slice_set lanes x (drop 1 (lane_of lanes x))) ≡ all_items (take x lanes) ++ (map item_of rs ++ all_items (drop (suc x) lanes)) =
-          ap all_items (lanes-grown lanes x (drop 1 (lane_of lanes x)) there) ∙ all_items-split (take x lanes) (drop 1 (lane_of lanes x)) (drop (suc x) lanes)
+          let rest : all_items (slice_set lanes x (drop 1 (lane_recs lanes x))) ≡ all_items (take x lanes) ++ (map item_of rs ++ all_items (drop (suc x) lanes)) =
+          ap all_items (lanes-grown lanes x (drop 1 (lane_recs lanes x)) there) ∙ all_items-split (take x lanes) (drop 1 (lane_recs lanes x)) (drop (suc x) lanes)
           ∙ ap (λ l. (all_items (take x lanes) ++ map item_of (drop 1 l)) ++ all_items (drop (suc x) lanes)) e
           ∙ append_assoc (all_items (take x lanes)) (map item_of rs) (all_items (drop (suc x) lanes)) in
           same-place p (all_items (take x lanes)) (item_of r) (map item_of rs ++ all_items (drop (suc x) lanes)) (items_placed (log_of (without_first lanes x order orders) order)) (later ∙ ap (times p) rest)
@@ -63,7 +63,7 @@ unfolding total times
 total-times w [] = refl
 total-times w (i ∷ items) = go (drawn_on w (touch i)) refl (total-times w items)
   where
-    go : (u : Bool) → drawn_on w (touch i) ≡ u → total w items ≡ times (λ i. drawn_on w (touch i)) items → total w (i ∷ items) ≡ one u + times (λ i. drawn_on w (touch i)) items
+    go : (u : Bool) → drawn_on w (touch i) ≡ u → total w items ≡ times (λ i. drawn_on w (touch i)) items → total w (i ∷ items) ≡ one_if u + times (λ i. drawn_on w (touch i)) items
     go true h ih = rw h (omega (arith, ih))
     go false h ih = rw h (omega (arith, ih))
 

@@ -29,9 +29,9 @@ use Rattle.qp_calls.specs.Counting.{times}
 use Rattle.qp_calls.specs.Clauses.{params_of}
 use Rattle.qp_calls.specs.LaneView.{FreeBlocks, first_shown}
 use Rattle.qp_calls.specs.Tokens.{Token, hands_after}
-use Rattle.qp_plain_sound.specs.Log.{empty_lanes, lane_of, log_of}
+use Rattle.qp_plain_sound.specs.Log.{empty_lanes, lane_recs, log_of}
 use Rattle.qp_plain_sound.specs.WordStates.{pool_in, life_in, refs_in, line_in, set_in}
-use Rattle.qp_plain_sound.specs.Sound.{Sound, BlockIn, EventIn, hands_in, told_log, queued, queues, entries_in, is_ref, all_made}
+use Rattle.qp_plain_sound.specs.Sound.{Sound, BlockIn, EventIn, hands_in, told_log, queued, queues, entries_in, is_token_of, all_made}
 use Rattle.qp_plain_sound.specs.View.{view_of, shown_in, own_of_line}
 use Rattle.qp_plain_sound.specs.Laws.{NewWorldIsSound, NewLaneIsNew}
 use Rattle.qp_plain_sound.proofs.EndLemmas.{sum-none}
@@ -48,7 +48,7 @@ unfolding marks_rise lane_items
 no-marks w zero = refl
 no-marks w (suc n) = no-marks w n
 
-pub no-lane : (n a : ℕ) → lane_of (empty_lanes n) a ≡ []
+pub no-lane : (n a : ℕ) → lane_recs (empty_lanes n) a ≡ []
 no-lane zero a = refl
 no-lane (suc n) zero = refl
 no-lane (suc n) (suc a) = no-lane n a
@@ -115,10 +115,10 @@ set-first n s = ap (after subscribers) (hist-none (word.Signal s) n)
 
 queued-first : (sys : System) (n : ℕ) (t : Token) → queued sys (empty_lanes n) t ≡ 0
 unfolding queued entries_in times
-queued-first sys n t = sum-none queues (λ a. times (is_ref t) (entries_in sys (empty_lanes n) a)) (λ a. go a (is_object sys a))
+queued-first sys n t = sum-none queues (λ a. times (is_token_of t) (entries_in sys (empty_lanes n) a)) (λ a. go a (is_object sys a))
   where
-    go : (a : ℕ) (u : Bool) → times (is_ref t) (cond u (line_in sys (empty_lanes n) a).entries []) ≡ 0
-    go a true = ap (λ q. times (is_ref t) q.entries) (line-first sys n a)
+    go : (a : ℕ) (u : Bool) → times (is_token_of t) (cond u (line_in sys (empty_lanes n) a).entries []) ≡ 0
+    go a true = ap (λ q. times (is_token_of t) q.entries) (line-first sys n a)
     go a false = refl
 
 block-first : (sys : System) (n p b : ℕ) → BlockIn sys (empty_lanes n) [] p b

@@ -22,7 +22,7 @@ use Rattle.qp_model.specs.Parts.{members, members_below}
 use Rattle.qp_model.specs.WordLaw.{is_object, is_signal}
 use Rattle.qp_model.proofs.ListLemmas.{list_all-has}
 use Rattle.qp_model.proofs.MachineLemmas.{after-keeps}
-use Rattle.qp_calls.specs.Counting.{one}
+use Rattle.qp_calls.specs.Counting.{one_if}
 use Rattle.qp_plain_sound.specs.WordStates.{set_in}
 use Rattle.qp_plain_sound.specs.Sound.{SoundWorld}
 use Rattle.qp_model.proofs.LifeLemmas.{has-without_same}
@@ -121,15 +121,15 @@ module _ (j n : ℕ) (clear : bit_at n j ≡ 0) where
       go false e false f = let lt : k < j = grind (arith, nat_tests) in bit-below k lt
 
 -- bit p - 1 of a set tells whether p is in it
-pub bits-has : (ms : List ℕ) → are_apart ms ≡ true → (k : ℕ) → bit_at (bits_of_set ms) k ≡ one (has ms (suc k))
+pub bits-has : (ms : List ℕ) → are_apart ms ≡ true → (k : ℕ) → bit_at (bits_of_set ms) k ≡ one_if (has ms (suc k))
 bits-has [] h k = bit_at-zero k
 bits-has (zero ∷ ms) h k =
     let sum : bits_of_set (zero ∷ ms) ≡ 0 + bits_of_set ms = sum_by-cons (λ p. 2 ^ p / 2) zero ms in
     let same : bits_of_set (zero ∷ ms) ≡ bits_of_set ms = omega (arith, sum) in
     let none : (zero == suc k) ≡ false = grind (arith, nat_tests) in
-    ap (λ x. bit_at x k) same ∙ bits-has ms (and_parts _ _ h).1 k ∙ sym (ap (λ u. one (u || has ms (suc k))) none)
+    ap (λ x. bit_at x k) same ∙ bits-has ms (and_parts _ _ h).1 k ∙ sym (ap (λ u. one_if (u || has ms (suc k))) none)
 bits-has (suc j ∷ ms) h k =
-    ap (λ x. bit_at x k) sum ∙ bit-more j (bits_of_set ms) (bits-has ms (and_parts _ _ h).1 j ∙ ap one (not-true _ (and_parts _ _ h).0)) k
+    ap (λ x. bit_at x k) sum ∙ bit-more j (bits_of_set ms) (bits-has ms (and_parts _ _ h).1 j ∙ ap one_if (not-true _ (and_parts _ _ h).0)) k
     ∙ go (j == k) refl (bits-has ms (and_parts _ _ h).1 k)
   where
     sum : bits_of_set (suc j ∷ ms) ≡ 2 ^ j + bits_of_set ms
@@ -139,9 +139,9 @@ bits-has (suc j ∷ ms) h k =
     both-suc x y true e = grind (arith, nat_tests)
     both-suc x y false e = grind (arith, nat_tests)
 
-    go : (u : Bool) → (j == k) ≡ u → bit_at (bits_of_set ms) k ≡ one (has ms (suc k)) → cond u 1 (bit_at (bits_of_set ms) k) ≡ one ((suc j == suc k) || has ms (suc k))
-    go true e later = sym (ap (λ u. one (u || has ms (suc k))) (both-suc j k true e))
-    go false e later = later ∙ sym (ap (λ u. one (u || has ms (suc k))) (both-suc j k false e))
+    go : (u : Bool) → (j == k) ≡ u → bit_at (bits_of_set ms) k ≡ one_if (has ms (suc k)) → cond u 1 (bit_at (bits_of_set ms) k) ≡ one_if ((suc j == suc k) || has ms (suc k))
+    go true e later = sym (ap (λ u. one_if (u || has ms (suc k))) (both-suc j k true e))
+    go false e later = later ∙ sym (ap (λ u. one_if (u || has ms (suc k))) (both-suc j k false e))
 
 -- the members that its bits tell are in it
 all-members : (p : ℕ → Bool) (set : ℕ) → ((k : ℕ) → bit_at set k ≡ 1 → p (suc k) ≡ true) → (n : ℕ) → list_all p (members_below n set) ≡ true
@@ -162,6 +162,6 @@ subscribers-objects sys lanes order world sig h =
     (one-true (has (set_in lanes sig).members (suc k)) (sym (bits-has (set_in lanes sig).members (set-apart (hist (word.Signal sig) (all_items lanes)) (world.sound.words.signals sig h).allowed) k) ∙ bit)))
     32
   where
-    one-true : (u : Bool) → one u ≡ 1 → u ≡ true
+    one-true : (u : Bool) → one_if u ≡ 1 → u ≡ true
     one-true true e = refl
     one-true false e = absurd (omega (arith, e))

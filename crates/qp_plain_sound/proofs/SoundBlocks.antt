@@ -21,7 +21,7 @@ use Rattle.qp_model.proofs.KnowingLemmas.{IsLater}
 use Rattle.qp_model.proofs.LifeLemmas.{edge-within}
 use Rattle.qp_model.proofs.ReferenceLemmas.{Alive, held-inc, held-dec, words-inc, words-dec}
 use Rattle.qp_calls.specs.Tokens.{Token, Held, Loose, same_token, take_out, stands, with_left}
-use Rattle.qp_calls.specs.Counting.{one, times, count_of}
+use Rattle.qp_calls.specs.Counting.{one_if, times, count_of}
 use Rattle.qp_calls.proofs.HandLemmas.{same-self}
 use Rattle.qp_plain_sound.specs.WordStates.{life_in, refs_in, cell_in, cell_after}
 use Rattle.qp_plain_sound.specs.Sound.{Sound, BlockIn, EventIn, facts_in, queued, names_block}
@@ -77,10 +77,10 @@ module _ (sys : System) (before : List (List Rec)) (lane : List Rec) (behind : L
           differ : same_token (Loose p b true) (Loose p b false) ≡ false
           differ = rw (same_number p, same_number b) refl
 
-          counts : (n : ℕ) → one (same_token (Held p b n) (Held p b refs_now)) + count_of (Held p b n) (take_out (Loose p b false) hands) ≡ count_of (Held p b n) hands + one (refs_now == n)
+          counts : (n : ℕ) → one_if (same_token (Held p b n) (Held p b refs_now)) + count_of (Held p b n) (take_out (Loose p b false) hands) ≡ count_of (Held p b n) hands + one_if (refs_now == n)
           counts n =
               let u = times-other (Loose p b false) (Held p b n) hands refl in
-              let same : one (same_token (Held p b n) (Held p b refs_now)) ≡ one (refs_now == n) = rw (same_number p, same_number b) (ap one (eqb-sym n refs_now)) in
+              let same : one_if (same_token (Held p b n) (Held p b refs_now)) ≡ one_if (refs_now == n) = rw (same_number p, same_number b) (ap one_if (eqb-sym n refs_now)) in
               omega (arith, u, same)
 
       made-there : (q c : ℕ) → IsTrue (is_block sys q c) → ((p == q) && (b == c)) ≡ false → BlockIn sys new_lanes made q c
@@ -91,7 +91,7 @@ module _ (sys : System) (before : List (List Rec)) (lane : List Rec) (behind : L
           (λ n. queued-stays sys before lane behind r _ is (Held q c n) (λ a. refl))
           (λ u. let t = times-other (Loose p b false) (Loose q c u) hands (rw (flipped p b q c other) refl) in omega (arith, t))
         where
-          held_other : (n : ℕ) → one (same_token (Held q c n) (Held p b refs_now)) ≡ 0
+          held_other : (n : ℕ) → one_if (same_token (Held q c n) (Held p b refs_now)) ≡ 0
           held_other n = rw (flipped p b q c other) refl
 
       -- The new reference has the event of the block.
@@ -153,7 +153,7 @@ module _ (sys : System) (before : List (List Rec)) (lane : List Rec) (behind : L
         let some = stands-times (Loose p b false) hands stand in
         let fresh = (old.block p b h).fresh_is (omega (arith, some)) in
         let gone = times-take_out (Loose p b false) (Loose p b false) hands stand in
-        let self : one (same_token (Loose p b false) (Loose p b false)) ≡ 1 = rw (same-self (Loose p b false)) refl in
+        let self : one_if (same_token (Loose p b false) (Loose p b false)) ≡ 1 = rw (same-self (Loose p b false)) refl in
         let lone = (old.block p b h).lone in
         sound-made o is (record { out = out_is fresh.1; going = inl (edge_is (fresh.2 ∙ refs-long sys old_lanes old.words p b h)) })
         (omega (arith, some, gone, self, lone)) (omega (arith, some, lone))
@@ -209,14 +209,14 @@ module _ (sys : System) (before : List (List Rec)) (lane : List Rec) (behind : L
           omega (arith, e, c)
 
       -- the tokens after it, by how many references are left
-      dec-held : (xs : List ℕ) (n : ℕ) → count_of (Held p b n) (with_left p b (Left (length xs)) (take_out (Held p b k) hands)) + one (k == n) ≡ count_of (Held p b n) hands
+      dec-held : (xs : List ℕ) (n : ℕ) → count_of (Held p b n) (with_left p b (Left (length xs)) (take_out (Held p b k) hands)) + one_if (k == n) ≡ count_of (Held p b n) hands
       unfolding times
       dec-held xs n = go xs
         where
-          same : one (same_token (Held p b n) (Held p b k)) ≡ one (k == n)
-          same = rw (same_number p, same_number b) (ap one (eqb-sym n k))
+          same : one_if (same_token (Held p b n) (Held p b k)) ≡ one_if (k == n)
+          same = rw (same_number p, same_number b) (ap one_if (eqb-sym n k))
 
-          go : (xs : List ℕ) → count_of (Held p b n) (with_left p b (Left (length xs)) (take_out (Held p b k) hands)) + one (k == n) ≡ count_of (Held p b n) hands
+          go : (xs : List ℕ) → count_of (Held p b n) (with_left p b (Left (length xs)) (take_out (Held p b k) hands)) + one_if (k == n) ≡ count_of (Held p b n) hands
           go [] = let t = times-take_out (Held p b k) (Held p b n) hands stand in let e = same in omega (arith, t, e)
           go (x ∷ xs) = let t = times-take_out (Held p b k) (Held p b n) hands stand in let e = same in omega (arith, t, e)
 
@@ -228,7 +228,7 @@ module _ (sys : System) (before : List (List Rec)) (lane : List Rec) (behind : L
       unfolding times
       dec-fresh [] =
           let t = times-other (Held p b k) (Loose p b false) hands refl in
-          let z : one (same_token (Loose p b false) (Loose p b true)) ≡ 0 = rw (same_number p, same_number b) refl in
+          let z : one_if (same_token (Loose p b false) (Loose p b true)) ≡ 0 = rw (same_number p, same_number b) refl in
           omega (arith, t, z)
       dec-fresh (x ∷ xs) = times-other (Held p b k) (Loose p b false) hands refl
 
@@ -236,7 +236,7 @@ module _ (sys : System) (before : List (List Rec)) (lane : List Rec) (behind : L
       unfolding times
       dec-used [] =
           let t = times-other (Held p b k) (Loose p b true) hands refl in
-          let z : one (same_token (Loose p b true) (Loose p b true)) ≡ 1 = rw (same_number p, same_number b) refl in
+          let z : one_if (same_token (Loose p b true) (Loose p b true)) ≡ 1 = rw (same_number p, same_number b) refl in
           omega (arith, t, z)
       dec-used (x ∷ xs) = let t = times-other (Held p b k) (Loose p b true) hands refl in omega (arith, t)
 
@@ -277,7 +277,7 @@ module _ (sys : System) (before : List (List Rec)) (lane : List Rec) (behind : L
           loose : (xs : List ℕ) (u : Bool) → count_of (Loose q c u) (with_left p b (Left (length xs)) (take_out (Held p b k) hands)) ≡ count_of (Loose q c u) hands
           loose [] u =
               let t = times-other (Held p b k) (Loose q c u) hands refl in
-              let z : one (same_token (Loose q c u) (Loose p b true)) ≡ 0 = rw flip refl in
+              let z : one_if (same_token (Loose q c u) (Loose p b true)) ≡ 0 = rw flip refl in
               omega (arith, t, z)
           loose (x ∷ xs) u = times-other (Held p b k) (Loose q c u) hands refl
 

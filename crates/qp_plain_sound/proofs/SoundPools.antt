@@ -23,7 +23,7 @@ use Rattle.qp_model.proofs.WordLawLemmas.{free_blocks-counts}
 use Rattle.qp_model.proofs.KnowingLemmas.{IsLater, new-fresh, back-fresh}
 use Rattle.qp_model.proofs.ReferenceLemmas.{words-new, words-back}
 use Rattle.qp_calls.specs.Tokens.{Token, Held, Loose, same_token, take_out, stands}
-use Rattle.qp_calls.specs.Counting.{one, times, count_of}
+use Rattle.qp_calls.specs.Counting.{one_if, times, count_of}
 use Rattle.qp_plain_sound.specs.WordStates.{pool_in, life_in, refs_in, cell_in, cell_after, cell_next}
 use Rattle.qp_plain_sound.specs.Sound.{Sound, BlockIn, EventIn, queued, names_block, is_event}
 use Rattle.qp_plain_sound.proofs.Times.{times-take_out, times-other, stands-times, all-take_out}
@@ -108,8 +108,8 @@ module _ (sys : System) (before : List (List Rec)) (lane : List Rec) (behind : L
           (suc (count_of (Loose p b false) hands)) (count_of (Loose p b true) hands) (count_of (Loose p b false) given_out) (count_of (Loose p b true) given_out)
           (life-next _ is refl b ∙ rw (same_number b) refl) (refs-stays sys before lane behind r _ is p b refl) (λ n. omega arith)
           (λ n. queued-stays sys before lane behind r _ is (Held p b n) (λ a. refl))
-          (let z : one (same_token (Loose p b false) (Loose p b false)) ≡ 1 = rw (same_number p, same_number b) refl in omega (arith, z))
-          (let z : one (same_token (Loose p b true) (Loose p b false)) ≡ 0 = rw (same_number p, same_number b) refl in omega (arith, z))
+          (let z : one_if (same_token (Loose p b false) (Loose p b false)) ≡ 1 = rw (same_number p, same_number b) refl in omega (arith, z))
+          (let z : one_if (same_token (Loose p b true) (Loose p b false)) ≡ 0 = rw (same_number p, same_number b) refl in omega (arith, z))
           (ok-new (life_in old_lanes p b) (refs_in old_lanes p b) _ _ _ _ from free_out from_is (old.block p b h))
 
       new-there : (q c : ℕ) → IsTrue (is_block sys q c) → ((p == q) && (b == c)) ≡ false → BlockIn sys new_lanes given_out q c
@@ -118,7 +118,7 @@ module _ (sys : System) (before : List (List Rec)) (lane : List Rec) (behind : L
           same-block sys old_lanes new_lanes hands given_out old q c k (new-other q c other).0 (refs-stays sys before lane behind r _ is q c refl) (λ n. omega arith)
           (λ n. queued-stays sys before lane behind r _ is (Held q c n) (λ a. refl)) (λ u. let z = loose u in omega (arith, z))
         where
-          loose : (u : Bool) → one (same_token (Loose q c u) (Loose p b false)) ≡ 0
+          loose : (u : Bool) → one_if (same_token (Loose q c u) (Loose p b false)) ≡ 0
           loose u = rw (flipped p b q c other) refl
 
       new-later : IsLater (all_items before ++ lane_items lane) (record { of = o; body = New p (pool_in sys old_lanes p).count b from ev.sig ev.pars }) (all_items behind)
@@ -197,7 +197,7 @@ module _ (sys : System) (before : List (List Rec)) (lane : List Rec) (behind : L
           (times-other (Loose p b true) (Loose p b false) hands (rw (same_number p, same_number b) refl)) refl
           (ok-back (life_in old_lanes p b) (refs_in old_lanes p b) _ _ _ (count_of (Loose p b true) hands) (count_of (Loose p b true) gone) to some
           (let t = times-take_out (Loose p b true) (Loose p b true) hands stand in
-          let z : one (same_token (Loose p b true) (Loose p b true)) ≡ 1 = rw (same_number p, same_number b) refl in omega (arith, t, z)) (old.block p b h))
+          let z : one_if (same_token (Loose p b true) (Loose p b true)) ≡ 1 = rw (same_number p, same_number b) refl in omega (arith, t, z)) (old.block p b h))
 
       back-there : (q c : ℕ) → IsTrue (is_block sys q c) → ((p == q) && (b == c)) ≡ false → BlockIn sys new_lanes gone q c
       back-there q c k other =

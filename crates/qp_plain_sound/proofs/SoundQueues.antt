@@ -20,9 +20,9 @@ use Rattle.qp_model.proofs.WordLawLemmas.{words-queue}
 use Rattle.qp_model.proofs.KnowingLemmas.{IsLater}
 use Rattle.qp_model.proofs.LineLemmas.{held-post, held-lifo, held-took}
 use Rattle.qp_calls.specs.Tokens.{Token, Held, Loose, token_of, take_out, stands, with_entry, without_entry}
-use Rattle.qp_calls.specs.Counting.{one, times, count_of}
+use Rattle.qp_calls.specs.Counting.{one_if, times, count_of}
 use Rattle.qp_plain_sound.specs.WordStates.{life_in, refs_in, line_in, set_in}
-use Rattle.qp_plain_sound.specs.Sound.{Sound, BlockIn, queued, queues, entries_in, names_block, is_good, is_ref}
+use Rattle.qp_plain_sound.specs.Sound.{Sound, BlockIn, queued, queues, entries_in, names_block, is_good, is_token_of}
 use Rattle.qp_plain_sound.proofs.Times.{times-take_out, times-other, all-take_out, sum-change, times-append}
 use Rattle.qp_plain_sound.proofs.Blocks.{ok-same, ok-moved}
 use Rattle.qp_plain_sound.proofs.Staying.{life-stays, cell-stays, refs-stays, line-stays, entries_in-stays, queued-stays, entries-stay, subscribed-stay}
@@ -32,10 +32,10 @@ use Rattle.qp_plain_sound.proofs.SoundParts.{same-block, later-next, event-kept}
 -- An entry and the tokens without it, or with it.
 module _ (hands : List Token) where
   entry-out : (e : Entry) → (e.pool ≡ 0) ⊎ (stands (token_of e) hands ≡ true) → (p b n : ℕ) → 0 < p
-      → count_of (Held p b n) (without_entry e hands) + one (is_ref (Held p b n) e) ≡ count_of (Held p b n) hands
+      → count_of (Held p b n) (without_entry e hands) + one_if (is_token_of (Held p b n) e) ≡ count_of (Held p b n) hands
   entry-out e h p b n some = go (e.pool == 0) refl h
     where
-      absent : (e.pool == 0) ≡ true → one (is_ref (Held p b n) e) ≡ 0
+      absent : (e.pool == 0) ≡ true → one_if (is_token_of (Held p b n) e) ≡ 0
       absent t =
           let fixed : e.pool ≡ 0 = grind (arith, nat_tests) in
           let other : (p == e.pool) ≡ false = rw fixed (above p some) in
@@ -45,7 +45,7 @@ module _ (hands : List Token) where
           above p lt = grind (arith, nat_tests)
 
       go : (v : Bool) → (e.pool == 0) ≡ v → (e.pool ≡ 0) ⊎ (stands (token_of e) hands ≡ true)
-          → count_of (Held p b n) (cond v hands (take_out (token_of e) hands)) + one (is_ref (Held p b n) e) ≡ count_of (Held p b n) hands
+          → count_of (Held p b n) (cond v hands (take_out (token_of e) hands)) + one_if (is_token_of (Held p b n) e) ≡ count_of (Held p b n) hands
       go true t k = let z = absent t in omega (arith, z)
       go false t (inl fixed) = let wrong : (e.pool == 0) ≡ true = grind (arith, nat_tests) in let bad : false ≡ true = sym t ∙ wrong in absurd (cc)
       go false t (inr stand) = times-take_out (token_of e) (Held p b n) hands stand
@@ -64,18 +64,18 @@ module _ (hands : List Token) where
       go true = tokens
       go false = all-take_out (names_block sys) (token_of e) hands tokens
 
-  entry-in : (e : Entry) (p b n : ℕ) → 0 < p → count_of (Held p b n) (with_entry e hands) ≡ count_of (Held p b n) hands + one (is_ref (Held p b n) e)
+  entry-in : (e : Entry) (p b n : ℕ) → 0 < p → count_of (Held p b n) (with_entry e hands) ≡ count_of (Held p b n) hands + one_if (is_token_of (Held p b n) e)
   unfolding times
   entry-in e p b n some = go (e.pool == 0) refl
     where
       above : (p : ℕ) → 0 < p → (p == 0) ≡ false
       above p lt = grind (arith, nat_tests)
 
-      go : (v : Bool) → (e.pool == 0) ≡ v → count_of (Held p b n) (cond v hands (token_of e ∷ hands)) ≡ count_of (Held p b n) hands + one (is_ref (Held p b n) e)
+      go : (v : Bool) → (e.pool == 0) ≡ v → count_of (Held p b n) (cond v hands (token_of e ∷ hands)) ≡ count_of (Held p b n) hands + one_if (is_token_of (Held p b n) e)
       go true t =
           let fixed : e.pool ≡ 0 = grind (arith, nat_tests) in
           let other : (p == e.pool) ≡ false = rw fixed (above p some) in
-          let z : one (is_ref (Held p b n) e) ≡ 0 = rw other refl in
+          let z : one_if (is_token_of (Held p b n) e) ≡ 0 = rw other refl in
           omega (arith, z)
       go false t = omega arith
 
@@ -145,18 +145,18 @@ module _ (sys : System) (before : List (List Rec)) (lane : List Rec) (behind : L
           later-next sys before lane behind r i is (word.Queue a) (draws ∙ ap (λ n. Draws (word.Queue a) (suc n)) (line-count sys old_lanes old.words a h))
           (old.words.queues a h).numbers (λ q c n same. absurd (cc))
 
-      queued-change : (t : Token) → queued sys new_lanes t + times (is_ref t) (line_in sys old_lanes a).entries ≡ queued sys old_lanes t + times (is_ref t) now.entries
+      queued-change : (t : Token) → queued sys new_lanes t + times (is_token_of t) (line_in sys old_lanes a).entries ≡ queued sys old_lanes t + times (is_token_of t) now.entries
       unfolding queued
       queued-change t =
-          let sums = sum-change queues a (λ c. times (is_ref t) (entries_in sys old_lanes c)) (λ c. times (is_ref t) (entries_in sys new_lanes c)) few
-          (λ c e. ap (times (is_ref t)) (entries_in-stays sys before lane behind r i is c (others c (differ c e)))) in
-          let was : times (is_ref t) (entries_in sys old_lanes a) ≡ times (is_ref t) (line_in sys old_lanes a).entries = ap (times (is_ref t)) (entries-of sys old_lanes a h) in
-          let is_now : times (is_ref t) (entries_in sys new_lanes a) ≡ times (is_ref t) now.entries = ap (times (is_ref t)) (entries-of sys new_lanes a h) ∙ ap (λ q. times (is_ref t) q.entries) now_is in
+          let sums = sum-change queues a (λ c. times (is_token_of t) (entries_in sys old_lanes c)) (λ c. times (is_token_of t) (entries_in sys new_lanes c)) few
+          (λ c e. ap (times (is_token_of t)) (entries_in-stays sys before lane behind r i is c (others c (differ c e)))) in
+          let was : times (is_token_of t) (entries_in sys old_lanes a) ≡ times (is_token_of t) (line_in sys old_lanes a).entries = ap (times (is_token_of t)) (entries-of sys old_lanes a h) in
+          let is_now : times (is_token_of t) (entries_in sys new_lanes a) ≡ times (is_token_of t) now.entries = ap (times (is_token_of t)) (entries-of sys new_lanes a h) ∙ ap (λ q. times (is_token_of t) q.entries) now_is in
           omega (arith, sums, was, is_now)
 
       -- a reference goes between the hands and the queue
       sound-moved : (have : List Token) → Words sys new_lanes → list_all (names_block sys) have ≡ true → list_all (is_good sys) now.entries ≡ true
-          → ((p b n : ℕ) → 0 < p → count_of (Held p b n) have + times (is_ref (Held p b n)) now.entries ≡ count_of (Held p b n) hands + times (is_ref (Held p b n)) (line_in sys old_lanes a).entries)
+          → ((p b n : ℕ) → 0 < p → count_of (Held p b n) have + times (is_token_of (Held p b n)) now.entries ≡ count_of (Held p b n) hands + times (is_token_of (Held p b n)) (line_in sys old_lanes a).entries)
           → ((p b : ℕ) (u : Bool) → count_of (Loose p b u) have ≡ count_of (Loose p b u) hands) → Sound sys new_lanes have
       sound-moved have words named good held loose = record {
         words = words;
@@ -196,7 +196,7 @@ module _ (sys : System) (before : List (List Rec)) (lane : List Rec) (behind : L
         (ap (Draws (word.Queue a)) (omega arith)) (without_entry e hands)
         (words-queue sys before lane behind r _ is old.words a _ (inl refl) (λ k. held.keeps))
         (named-out hands sys e old.tokens) (all-append (is_good sys) (queue_line a).entries e (old.entries a h) good)
-        (λ p b n some. let out = entry-out hands e stand p b n some in let more = times-append (is_ref (Held p b n)) (queue_line a).entries (e ∷ []) in omega (arith, out, more))
+        (λ p b n some. let out = entry-out hands e stand p b n some in let more = times-append (is_token_of (Held p b n)) (queue_line a).entries (e ∷ []) in omega (arith, out, more))
         (loose-out hands e)
       where
         all-append : (p : Entry → Bool) (xs : List Entry) (x : Entry) → list_all p xs ≡ true → p x ≡ true → list_all p (xs ++ x ∷ []) ≡ true
@@ -229,5 +229,5 @@ module _ (sys : System) (before : List (List Rec)) (lane : List Rec) (behind : L
         held.state (ap (Draws (word.Queue a)) (omega arith)) (with_entry e hands)
         (words-queue sys before lane behind r _ is old.words a _ (inl refl) (λ k. held.keeps))
         (named-in hands sys e (and_parts _ _ good).0 old.tokens) (and_parts _ _ good).1
-        (λ p b n some. let more = entry-in hands e p b n some in let fewer : times (is_ref (Held p b n)) (queue_line a).entries ≡ one (is_ref (Held p b n) e) + times (is_ref (Held p b n)) rest = rw front refl in omega (arith, more, fewer))
+        (λ p b n some. let more = entry-in hands e p b n some in let fewer : times (is_token_of (Held p b n)) (queue_line a).entries ≡ one_if (is_token_of (Held p b n) e) + times (is_token_of (Held p b n)) rest = rw front refl in omega (arith, more, fewer))
         (loose-in hands e)

@@ -18,7 +18,7 @@ use Rattle.qp_model.proofs.WordLemmas.{hist-stays}
 use Rattle.qp_calls.specs.Tokens.{Token}
 use Rattle.qp_calls.specs.Counting.{times}
 use Rattle.qp_plain_sound.specs.WordStates.{pool_in, life_in, refs_in, line_in, set_in, cell_in, cell_after}
-use Rattle.qp_plain_sound.specs.Sound.{entries_in, queued, queues, is_ref, is_good}
+use Rattle.qp_plain_sound.specs.Sound.{entries_in, queued, queues, is_token_of, is_good}
 use Rattle.qp_plain_sound.proofs.Times.{sum-same}
 
 module _ (sys : System) (before : List (List Rec)) (lane : List Rec) (behind : List (List Rec)) (r : Rec) (i : Item) (is : item_of r ≡ i) where
@@ -58,7 +58,7 @@ module _ (sys : System) (before : List (List Rec)) (lane : List Rec) (behind : L
 
   pub queued-stays : (t : Token) → ((a : ℕ) → drawn_on (word.Queue a) (touch i) ≡ false) → queued sys new_lanes t ≡ queued sys old_lanes t
   unfolding queued
-  queued-stays t other = sum-same queues _ _ (λ a lt. ap (times (is_ref t)) (entries_in-stays a (other a)))
+  queued-stays t other = sum-same queues _ _ (λ a lt. ap (times (is_token_of t)) (entries_in-stays a (other a)))
 
   -- entries and subscribers
   pub entries-stay : ((a : ℕ) → drawn_on (word.Queue a) (touch i) ≡ false)

@@ -7,18 +7,18 @@ use Rattle.qp_chart.specs.StateTree.{has}
 use Rattle.qp_model.specs.Lists.{without_one}
 use Rattle.qp_calls.specs.Tokens.{Token, same_token, take_out, stands}
 use Rattle.qp_calls.proofs.HandLemmas.{same-equal, same-self}
-use Rattle.qp_calls.specs.Counting.{one, times}
+use Rattle.qp_calls.specs.Counting.{one_if, times}
 use Rattle.qp_plain_sound.specs.Sound.{sum_below}
 
 -- a token that stands is taken out once
-pub times-take_out : (t u : Token) (hands : List Token) → stands t hands ≡ true → times (same_token u) (take_out t hands) + one (same_token u t) ≡ times (same_token u) hands
+pub times-take_out : (t u : Token) (hands : List Token) → stands t hands ≡ true → times (same_token u) (take_out t hands) + one_if (same_token u t) ≡ times (same_token u) hands
 unfolding times stands take_out
 times-take_out t u [] h = cc
 times-take_out t u (x ∷ xs) h = go (same_token t x) refl h (times-take_out t u xs)
   where
     go : (b : Bool) → same_token t x ≡ b → (b || list_any (λ y. same_token t y) xs) ≡ true
-        → (list_any (λ y. same_token t y) xs ≡ true → times (same_token u) (take_out t xs) + one (same_token u t) ≡ times (same_token u) xs)
-        → times (same_token u) (cond b xs (x ∷ take_out t xs)) + one (same_token u t) ≡ one (same_token u x) + times (same_token u) xs
+        → (list_any (λ y. same_token t y) xs ≡ true → times (same_token u) (take_out t xs) + one_if (same_token u t) ≡ times (same_token u) xs)
+        → times (same_token u) (cond b xs (x ∷ take_out t xs)) + one_if (same_token u t) ≡ one_if (same_token u x) + times (same_token u) xs
     go true is e later = let same : t ≡ x = same-equal t x is in rw same (omega arith)
     go false is e later = let k = later e in omega (arith, k)
 
@@ -35,7 +35,7 @@ take_out-absent t (x ∷ xs) h = go (same_token t x) h (take_out-absent t xs)
 
 -- a token that stands occurs
 pub stands-times : (t : Token) (hands : List Token) → stands t hands ≡ true → 0 < times (same_token t) hands
-stands-times t hands h = let n = times-take_out t t hands h in let k : one (same_token t t) ≡ 1 = rw (same-self t) refl in omega (arith, n, k)
+stands-times t hands h = let n = times-take_out t t hands h in let k : one_if (same_token t t) ≡ 1 = rw (same-self t) refl in omega (arith, n, k)
 
 pub all-take_out : (p : Token → Bool) (t : Token) (hands : List Token) → list_all p hands ≡ true → list_all p (take_out t hands) ≡ true
 unfolding take_out
@@ -61,17 +61,17 @@ unfolding times
 has-times [] k lt = absurd (omega arith)
 has-times (x ∷ xs) k lt = go (x == k) lt (has-times xs k)
   where
-    go : (b : Bool) → 0 < one b + times (λ x. x == k) xs → (0 < times (λ x. x == k) xs → has xs k ≡ true) → (b || has xs k) ≡ true
+    go : (b : Bool) → 0 < one_if b + times (λ x. x == k) xs → (0 < times (λ x. x == k) xs → has xs k ≡ true) → (b || has xs k) ≡ true
     go true h later = refl
     go false h later = later (omega arith)
 
-pub times-without_one : (refs : List ℕ) (k r : ℕ) → has refs k ≡ true → times (λ x. x == r) (without_one k refs) + one (k == r) ≡ times (λ x. x == r) refs
+pub times-without_one : (refs : List ℕ) (k r : ℕ) → has refs k ≡ true → times (λ x. x == r) (without_one k refs) + one_if (k == r) ≡ times (λ x. x == r) refs
 unfolding times
 times-without_one [] k r h = cc
 times-without_one (x ∷ xs) k r h = go (x == k) refl h (times-without_one xs k r)
   where
-    go : (b : Bool) → (x == k) ≡ b → (b || has xs k) ≡ true → (has xs k ≡ true → times (λ y. y == r) (without_one k xs) + one (k == r) ≡ times (λ y. y == r) xs)
-        → times (λ y. y == r) (cond b xs (x ∷ without_one k xs)) + one (k == r) ≡ one (x == r) + times (λ y. y == r) xs
+    go : (b : Bool) → (x == k) ≡ b → (b || has xs k) ≡ true → (has xs k ≡ true → times (λ y. y == r) (without_one k xs) + one_if (k == r) ≡ times (λ y. y == r) xs)
+        → times (λ y. y == r) (cond b xs (x ∷ without_one k xs)) + one_if (k == r) ≡ one_if (x == r) + times (λ y. y == r) xs
     go true is e later = let same : x ≡ k = grind (arith, nat_tests) in rw same (omega arith)
     go false is e later = let n = later e in omega (arith, n)
 
@@ -114,5 +114,5 @@ pub times-other : (t u : Token) (hands : List Token) → same_token u t ≡ fals
 times-other t u hands other = go (stands t hands) refl
   where
     go : (b : Bool) → stands t hands ≡ b → times (same_token u) (take_out t hands) ≡ times (same_token u) hands
-    go true e = let k = times-take_out t u hands e in let z : one (same_token u t) ≡ 0 = rw other refl in omega (arith, k, z)
+    go true e = let k = times-take_out t u hands e in let z : one_if (same_token u t) ≡ 0 = rw other refl in omega (arith, k, z)
     go false e = ap (times (same_token u)) (take_out-absent t hands e)

@@ -34,7 +34,7 @@ use Rattle.qp_calls.specs.Tokens.{Token, Held, token_of, stands, handles, hands_
 use Rattle.qp_calls.specs.LaneView.{LaneView, Gains, Purse, Own, mark_or, mark_by, mark_after, shown_from, own_of, own_after, ceiling_in, handled_in, is_known}
 use Rattle.qp_calls.proofs.Advancing.{between-one}
 use Rattle.qp_calls.proofs.HandLemmas.{same-equal}
-use Rattle.qp_plain_sound.specs.Log.{lane_of, log_of, with_record}
+use Rattle.qp_plain_sound.specs.Log.{lane_recs, log_of, with_record}
 use Rattle.qp_plain_sound.specs.WordStates.{line_in, refs_in, pool_in}
 use Rattle.qp_plain_sound.specs.Sound.{SoundWorld, facts_in, hands_in, is_made, handles_made, all_made}
 use Rattle.qp_plain_sound.specs.May.{May}
@@ -85,7 +85,7 @@ any-made items e (j ∷ js) h k = go (handles (token_of e) j.body) refl h (any-m
     go true at g later = handled-made items e j.body at (and_parts _ _ k).0
     go false at g later = later g (and_parts _ _ k).1
 
-pub all-lane : (p : Item → Bool) (lanes : List (List Rec)) (k : ℕ) → list_all p (all_items lanes) ≡ true → list_all p (lane_items (lane_of lanes k)) ≡ true
+pub all-lane : (p : Item → Bool) (lanes : List (List Rec)) (k : ℕ) → list_all p (all_items lanes) ≡ true → list_all p (lane_items (lane_recs lanes k)) ≡ true
 unfolding all_items lane_items
 all-lane p [] k h = refl
 all-lane p (l ∷ ls) zero h = (list_all-parts p (lane_items l) (all_items ls) h).0
@@ -124,18 +124,18 @@ items-left p (l ∷ ls) (suc at) h =
 
 -- what a lane knows was made
 pub known-made : (sys : System) (lanes : List (List Rec)) (order : List ℕ) (k : ℕ) (e : Entry) → SoundWorld sys lanes order
-    → ((((e.pool == 0) || stands (token_of e) (hands_in sys lanes order)) || handled_in (token_of e) (told_lane (facts_in sys lanes) 0 (lane_items (lane_of lanes k))))
+    → ((((e.pool == 0) || stands (token_of e) (hands_in sys lanes order)) || handled_in (token_of e) (told_lane (facts_in sys lanes) 0 (lane_items (lane_recs lanes k))))
     || list_any (handled_in (token_of e)) (told_aside sys lanes k)) ≡ true
     → is_made (all_items lanes) e ≡ true
 unfolding is_made all_made
 known-made sys lanes order k e old h =
-    go (e.pool == 0) (stands (token_of e) (hands_in sys lanes order)) (handled_in (token_of e) (told_lane (facts_in sys lanes) 0 (lane_items (lane_of lanes k)))) refl refl refl h
+    go (e.pool == 0) (stands (token_of e) (hands_in sys lanes order)) (handled_in (token_of e) (told_lane (facts_in sys lanes) 0 (lane_items (lane_recs lanes k)))) refl refl refl h
   where
-    go : (u v x : Bool) → (e.pool == 0) ≡ u → stands (token_of e) (hands_in sys lanes order) ≡ v → handled_in (token_of e) (told_lane (facts_in sys lanes) 0 (lane_items (lane_of lanes k))) ≡ x
+    go : (u v x : Bool) → (e.pool == 0) ≡ u → stands (token_of e) (hands_in sys lanes order) ≡ v → handled_in (token_of e) (told_lane (facts_in sys lanes) 0 (lane_items (lane_recs lanes k))) ≡ x
         → (((u || v) || x) || list_any (handled_in (token_of e)) (told_aside sys lanes k)) ≡ true → is_made (all_items lanes) e ≡ true
     go true v x p s t q = rw p refl
     go false true x p s t q = held-is_made sys lanes (hands_in sys lanes order) old.sound e.pool e.block e.name s
-    go false false true p s t q = lane-made (facts_in sys lanes) (all_items lanes) e (lane_of lanes k) t (all-lane (λ j. handles_made (all_items lanes) j.body) lanes k old.made)
+    go false false true p s t q = lane-made (facts_in sys lanes) (all_items lanes) e (lane_recs lanes k) t (all-lane (λ j. handles_made (all_items lanes) j.body) lanes k old.made)
     go false false false p s t q =
         lanes-made (facts_in sys lanes) (all_items lanes) e (slice_set lanes k []) q (items-left (λ j. handles_made (all_items lanes) j.body) lanes k old.made)
 
@@ -160,7 +160,7 @@ module _ (sys : System) (lanes : List (List Rec)) (order : List ℕ) (at : ℕ) 
   more = with_record lanes at r
 
   abbrev lane : List Item
-  lane = lane_items (lane_of lanes at)
+  lane = lane_items (lane_recs lanes at)
 
   abbrev front : List Item
   front = world.front sys lanes order at r o b old within is may
@@ -187,9 +187,9 @@ module _ (sys : System) (lanes : List (List Rec)) (order : List ℕ) (at : ℕ) 
       subst (λ z. AllSettled z lane) items_before
       (all_settled-from (all_items lanes) lane (lane_middle (λ j. is_settled (all_items lanes) j.body) old.settled))
 
-  lane_now : lane_items (lane_of more at) ≡ lane ++ this ∷ []
+  lane_now : lane_items (lane_recs more at) ≡ lane ++ this ∷ []
   unfolding lane_items
-  lane_now = ap (map item_of) (lane-set_same lanes at (lane_of lanes at ++ r ∷ []) within) ∙ map-append item_of (lane_of lanes at) (r ∷ []) ∙ ap (λ i. map item_of (lane_of lanes at) ++ i ∷ []) is
+  lane_now = ap (map item_of) (lane-set_same lanes at (lane_recs lanes at ++ r ∷ []) within) ∙ map-append item_of (lane_recs lanes at) (r ∷ []) ∙ ap (λ i. map item_of (lane_recs lanes at) ++ i ∷ []) is
 
   abbrev told_before : List ToldItem
   told_before = told_lane (facts_in sys lanes) 0 lane
@@ -198,7 +198,7 @@ module _ (sys : System) (lanes : List (List Rec)) (order : List ℕ) (at : ℕ) 
   abbrev pub told_now : ToldItem
   told_now = for_object o (told (facts_in sys more) o (ceiling_in 0 told_before) b)
 
-  pub told-more : told_lane (facts_in sys more) 0 (lane_items (lane_of more at)) ≡ told_before ++ told_now ∷ []
+  pub told-more : told_lane (facts_in sys more) 0 (lane_items (lane_recs more at)) ≡ told_before ++ told_now ∷ []
   told-more =
       ap (told_lane (facts_in sys more) 0) lane_now
       ∙ told_lane-append (facts_in sys more) 0 lane this
@@ -367,7 +367,7 @@ module _ (sys : System) (lanes : List (List Rec)) (order : List ℕ) (at : ℕ) 
   pub aside-stays : told_aside sys more at ≡ told_aside sys lanes at
   unfolding all_settled
   aside-stays =
-      ap (map (λ l. told_lane (facts_in sys more) 0 (lane_items l))) (slice_set-twice lanes at (lane_of lanes at ++ r ∷ []) [])
+      ap (map (λ l. told_lane (facts_in sys more) 0 (lane_items l))) (slice_set-twice lanes at (lane_recs lanes at ++ r ∷ []) [])
       ∙ all-stay (slice_set lanes at []) (items-left (λ j. is_settled (all_items lanes) j.body) lanes at old.settled)
 
   pub log-now : log_of more (order ++ at ∷ []) ≡ log_of lanes order ++ record { lane = at; item = this } ∷ []

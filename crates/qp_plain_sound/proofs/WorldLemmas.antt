@@ -19,7 +19,7 @@ use Rattle.qp_model.proofs.KnowingLemmas.{IsLater, known-stays, all_settled-stay
 use Rattle.qp_model.proofs.SettledLemmas.{all_settled-from, all_settled-to}
 use Rattle.qp_calls.specs.Tokens.{Token, hands_of, hands_by, hands_after}
 use Rattle.qp_calls.proofs.HandLemmas.{hands-append}
-use Rattle.qp_plain_sound.specs.Log.{lane_of, log_of, items_placed, with_record}
+use Rattle.qp_plain_sound.specs.Log.{lane_recs, log_of, items_placed, with_record}
 use Rattle.qp_plain_sound.specs.Sound.{Sound, SoundWorld, facts_in, hands_in, told_log, all_made, handles_made}
 use Rattle.qp_plain_sound.specs.May.{May}
 use Rattle.qp_plain_sound.proofs.Logs.{log-grows, orders-more, lanes-split, lanes-grown}
@@ -49,7 +49,7 @@ module _ (sys : System) (lanes : List (List Rec)) (order : List ℕ) (at : ℕ) 
   before = take at lanes
 
   abbrev pub lane : List Rec
-  lane = lane_of lanes at
+  lane = lane_recs lanes at
 
   abbrev pub behind : List (List Rec)
   behind = drop (suc at) lanes

@@ -20,9 +20,9 @@ use Rattle.qp_calls.specs.LaneView.{Gains, GrowsOf, IsNew, LaneView, Purse, ceil
 use Rattle.qp_calls.specs.Tokens.{Hold, Token, hands_by}
 use Rattle.qp_calls.specs.LaneLaws.{IsWithinLimit, HasCauses}
 use Rattle.qp_calls.specs.Notes.{MayNote, MayStop, told_note, stop_code}
-use Rattle.qp_plain_sound.specs.Log.{Orders, empty_lanes, lane_of, log_of, items_placed}
+use Rattle.qp_plain_sound.specs.Log.{Orders, empty_lanes, lane_recs, log_of, items_placed}
 use Rattle.qp_plain_sound.specs.Sound.{Sound, SoundWorld, facts_in, hands_in}
-use Rattle.qp_plain_sound.specs.Step.{Step, Grown, before, behind, MayCome}
+use Rattle.qp_plain_sound.specs.Step.{WorldStep, Grown, before, behind, MayCome}
 use Rattle.qp_plain_sound.specs.Ending.{BlockStands, OnlyDeferred}
 use Rattle.qp_plain_sound.specs.View.{view_of}
 
@@ -36,14 +36,14 @@ NewLaneIsNew = (sys : System) (n at spare : ℕ) (purses : List Purse) → at < 
 -- whatever record may come next, the world stays sound
 abbrev pub StaysSound : Type 0
 StaysSound =
-    (s : Step) (o : ℕ) (b : Body) → SoundWorld s.sys s.lanes s.order
+    (s : WorldStep) (o : ℕ) (b : Body) → SoundWorld s.sys s.lanes s.order
     → Grown s.lanes s.order s.at s.rec s.more s.longer
     → item_of s.rec ≡ record { of = o; body = b } → MayCome s o b → SoundWorld s.sys s.more s.longer
 
 -- and the lane gains just this record, as it is told; the spare is no matter of it
 abbrev pub LaneGainsIt : Type 0
 LaneGainsIt =
-    (s : Step) (o : ℕ) (b : Body) → SoundWorld s.sys s.lanes s.order
+    (s : WorldStep) (o : ℕ) (b : Body) → SoundWorld s.sys s.lanes s.order
     → Grown s.lanes s.order s.at s.rec s.more s.longer
     → item_of s.rec ≡ record { of = o; body = b } → MayCome s o b
     → Gains (for_object o (told (facts_in s.sys s.more) o (ceiling_in 0 (before s).told) b) ∷ []) (before s) (behind s)
@@ -51,7 +51,7 @@ LaneGainsIt =
 -- a note comes as `note` says
 abbrev pub NoteIsAdded : Type 0
 NoteIsAdded =
-    (s : Step) → SoundWorld s.sys s.lanes s.order → Grown s.lanes s.order s.at s.rec s.more s.longer
+    (s : WorldStep) → SoundWorld s.sys s.lanes s.order → Grown s.lanes s.order s.at s.rec s.more s.longer
     → MayNote s.rec (before s)
     → SoundWorld s.sys s.more s.longer × GrowsOf s.rec.of (told_note s.rec (before s)) (before s) (behind s)
 
@@ -59,7 +59,7 @@ NoteIsAdded =
 abbrev pub LanesAreTheLog : Type 0
 LanesAreTheLog =
     (lanes : List (List Rec)) (order : List ℕ) → Orders lanes order → (a : ℕ)
-    → items_placed (filter (λ x. x.lane == a) (log_of lanes order)) ≡ lane_items (lane_of lanes a)
+    → items_placed (filter (λ x. x.lane == a) (log_of lanes order)) ≡ lane_items (lane_recs lanes a)
 
 abbrev pub LogGrowsAtItsEnd : Type 0
 LogGrowsAtItsEnd =
@@ -78,10 +78,10 @@ LogIsNumbered =
 -- hands.
 pub record ByTheBook (sys : System) (lanes : List (List Rec)) (order : List ℕ) (at : ℕ) (v : LaneView) : Type 0 where
   pub words : Words sys lanes
-  pub told : v.told ≡ told_lane (facts_in sys lanes) 0 (lane_items (lane_of lanes at))
+  pub told : v.told ≡ told_lane (facts_in sys lanes) 0 (lane_items (lane_recs lanes at))
   pub marks : (w : Word) → v.mark w ≡ total w (all_items lanes)
   pub objects : (o : ℕ)
-      → records_of (facts_in sys lanes) o 0 (lane_items (lane_of lanes at)) ≡ told_alone (filter (λ t. t.of == o) v.told)
+      → records_of (facts_in sys lanes) o 0 (lane_items (lane_recs lanes at)) ≡ told_alone (filter (λ t. t.of == o) v.told)
   pub events : (h : Hold) → StandsHold h v
       → event_of_entry (facts_in sys lanes) (entry h.pool h.block h.name) ≡ Some (v.event (entry h.pool h.block h.name))
   pub hands : (k : ℕ) → (view_of sys lanes order k 0 0 [] [] []).hands ≡ v.hands
@@ -105,7 +105,7 @@ pub record SeesElsewhere (t : ToldItem) (old new : LaneView) : Type 0 where
 -- so it is for each lane but that of the record
 abbrev pub OtherLanesStay : Type 0
 OtherLanesStay =
-    (s : Step) (o : ℕ) (b : Body) → SoundWorld s.sys s.lanes s.order
+    (s : WorldStep) (o : ℕ) (b : Body) → SoundWorld s.sys s.lanes s.order
     → Grown s.lanes s.order s.at s.rec s.more s.longer
     → item_of s.rec ≡ record { of = o; body = b } → MayCome s o b
     → (k spare by : ℕ) (stops answered : List ℕ) (purses : List Purse) → IsFalse (k == s.at)
@@ -116,7 +116,7 @@ OtherLanesStay =
 abbrev pub LaneKeepsItsLimit : Type 0
 LaneKeepsItsLimit =
     (sys : System) (lanes : List (List Rec)) (order : List ℕ) (at spare by : ℕ) (stops answered : List ℕ) (purses : List Purse)
-    → count_by (λ i. not (is_spill i.body)) (lane_items (lane_of lanes at)) + spare ≤ 1000000
+    → count_by (λ i. not (is_spill i.body)) (lane_items (lane_recs lanes at)) + spare ≤ 1000000
     → IsWithinLimit (view_of sys lanes order at spare by stops answered purses)
 
 -- a code that the lane handed in has its record
@@ -126,7 +126,7 @@ is_caused_in items code = (code == 7) || (nat_lt 0 code && list_any (λ i. stop_
 abbrev pub LaneKeepsItsCauses : Type 0
 LaneKeepsItsCauses =
     (sys : System) (lanes : List (List Rec)) (order : List ℕ) (at spare by : ℕ) (stops answered : List ℕ) (purses : List Purse)
-    → IsTrue (list_all (is_caused_in (lane_items (lane_of lanes at))) stops)
+    → IsTrue (list_all (is_caused_in (lane_items (lane_recs lanes at))) stops)
     → HasCauses (view_of sys lanes order at spare by stops answered purses)
 
 -- a code that may be handed in has its record
@@ -134,7 +134,7 @@ abbrev pub StopHasItsCause : Type 0
 StopHasItsCause =
     (sys : System) (lanes : List (List Rec)) (order : List ℕ) (at spare by : ℕ) (stops answered : List ℕ) (purses : List Purse) (code : ℕ)
     → MayStop code (view_of sys lanes order at spare by stops answered purses)
-    → IsTrue (is_caused_in (lane_items (lane_of lanes at)) code)
+    → IsTrue (is_caused_in (lane_items (lane_recs lanes at)) code)
 
 -- what is caused stays caused
 abbrev pub CausesStay : Type 0

@@ -6,8 +6,8 @@ use Rattle.qp_model.specs.OneOrder.{Placed}
 use Rattle.qp_calls.specs.Counting.{times}
 
 -- the records of a lane; one that isn't there has none
-abbrev pub lane_of : List (List Rec) → ℕ → List Rec
-lane_of lanes a = get_or lanes a []
+abbrev pub lane_recs : List (List Rec) → ℕ → List Rec
+lane_recs lanes a = get_or lanes a []
 
 -- so many lanes without records
 abbrev pub empty_lanes : ℕ → List (List Rec)
@@ -23,7 +23,7 @@ first_placed a (r ∷ rs) others = record { lane = a; item = item_of r } ∷ oth
 unfoldable pub log_of : List (List Rec) → List ℕ → List Placed
 unfolding item_of
 log_of lanes [] = []
-log_of lanes (a ∷ order) = first_placed a (lane_of lanes a) (log_of (slice_set lanes a (drop 1 (lane_of lanes a))) order)
+log_of lanes (a ∷ order) = first_placed a (lane_recs lanes a) (log_of (slice_set lanes a (drop 1 (lane_recs lanes a))) order)
 
 -- without the lanes
 abbrev pub items_placed : List Placed → List Item
@@ -31,8 +31,8 @@ items_placed log = map (λ x. x.item) log
 
 -- the order names each lane as often as it has records
 abbrev pub Orders : List (List Rec) → List ℕ → Type 0
-Orders lanes order = (a : ℕ) → times (λ x. x == a) order ≡ length (lane_of lanes a)
+Orders lanes order = (a : ℕ) → times (λ x. x == a) order ≡ length (lane_recs lanes a)
 
 -- the lanes with a record at the end of one
 abbrev pub with_record : List (List Rec) → ℕ → Rec → List (List Rec)
-with_record lanes at r = slice_set lanes at (lane_of lanes at ++ r ∷ [])
+with_record lanes at r = slice_set lanes at (lane_recs lanes at ++ r ∷ [])

@@ -78,12 +78,12 @@ pub record MayTake (sys : System) (lanes : List (List Rec)) (a f l m : ℕ) (e :
 -- Signals and time events.
 
 -- n operations of the signal's word
-pub record IsSignal (sys : System) (lanes : List (List Rec)) (sig n : ℕ) : Type 0 where
+pub record HasSignalOps (sys : System) (lanes : List (List Rec)) (sig n : ℕ) : Type 0 where
   pub signal : IsTrue (is_signal sys sig)
   pub number : n ≡ (set_in lanes sig).count
 
 -- n operations of the timer's word, after which this is its counter
-pub record IsTimer (sys : System) (lanes : List (List Rec)) (t n counter : ℕ) : Type 0 where
+pub record HasTimerOps (sys : System) (lanes : List (List Rec)) (t n counter : ℕ) : Type 0 where
   pub timer : IsTrue (is_timer sys t)
   pub number : n ≡ (clock_in lanes t).count
   pub is_counter : counter ≡ (clock_in lanes t).counter
@@ -110,15 +110,15 @@ May sys lanes hands o (Full a f l m margin) = IsQueue sys lanes a f l m × (ring
 May sys lanes hands o (NoEntry a f l m) = IsQueue sys lanes a f l m × (f + l - m ≡ ring_of sys a + 1)
 May sys lanes hands o (NoLifo a f l m) = IsQueue sys lanes a f l m × (f + l - m ≡ ring_of sys a + 1)
 May sys lanes hands o (Sub sig n) =
-    IsSignal sys lanes sig n × IsFalse (has (set_in lanes sig).members o) × IsTrue (is_object sys o)
-May sys lanes hands o (Unsub sig n) = IsSignal sys lanes sig n × IsTrue (has (set_in lanes sig).members o)
-May sys lanes hands o (Same sig n) = IsSignal sys lanes sig n
-May sys lanes hands o (Pub sig n set) = IsSignal sys lanes sig n × (set ≡ bits_of_set (set_in lanes sig).members)
-May sys lanes hands o (Arm t n ticks interval) = IsTimer sys lanes t n 0
-May sys lanes hands o (Disarm t n former) = IsTimer sys lanes t n former × (0 < former)
-May sys lanes hands o (Rearm t n former ticks) = IsTimer sys lanes t n former
-May sys lanes hands o (Idle t n) = IsTimer sys lanes t n 0
-May sys lanes hands o (Armed t n counter) = IsTimer sys lanes t n counter × (0 < counter)
-May sys lanes hands o (Tick t n counter) = IsTimer sys lanes t n (counter + 1) × (0 < counter)
-May sys lanes hands o (Fire t n reload) = IsTimer sys lanes t n 1 × (reload ≡ (clock_in lanes t).interval)
+    HasSignalOps sys lanes sig n × IsFalse (has (set_in lanes sig).members o) × IsTrue (is_object sys o)
+May sys lanes hands o (Unsub sig n) = HasSignalOps sys lanes sig n × IsTrue (has (set_in lanes sig).members o)
+May sys lanes hands o (Same sig n) = HasSignalOps sys lanes sig n
+May sys lanes hands o (Pub sig n set) = HasSignalOps sys lanes sig n × (set ≡ bits_of_set (set_in lanes sig).members)
+May sys lanes hands o (Arm t n ticks interval) = HasTimerOps sys lanes t n 0
+May sys lanes hands o (Disarm t n former) = HasTimerOps sys lanes t n former × (0 < former)
+May sys lanes hands o (Rearm t n former ticks) = HasTimerOps sys lanes t n former
+May sys lanes hands o (Idle t n) = HasTimerOps sys lanes t n 0
+May sys lanes hands o (Armed t n counter) = HasTimerOps sys lanes t n counter × (0 < counter)
+May sys lanes hands o (Tick t n counter) = HasTimerOps sys lanes t n (counter + 1) × (0 < counter)
+May sys lanes hands o (Fire t n reload) = HasTimerOps sys lanes t n 1 × (reload ≡ (clock_in lanes t).interval)
 May sys lanes hands o _ = Unit {0}

@@ -40,8 +40,8 @@ abbrev pub queues : ℕ
 queues = 33
 
 -- the entry is this reference
-abbrev pub is_ref : Token → Entry → Bool
-is_ref t e = same_token t (token_of e)
+abbrev pub is_token_of : Token → Entry → Bool
+is_token_of t e = same_token t (token_of e)
 
 -- the entries of an object's queue
 unfoldable pub entries_in : System → List (List Rec) → ℕ → List Entry
@@ -51,7 +51,7 @@ entries_in sys lanes a = if is_object sys a then (line_in sys lanes a).entries e
 -- how often a reference stands in the queues
 unfoldable pub queued : System → List (List Rec) → Token → ℕ
 unfolding entries_in sum_below times
-queued sys lanes t = sum_below queues (λ a. times (is_ref t) (entries_in sys lanes a))
+queued sys lanes t = sum_below queues (λ a. times (is_token_of t) (entries_in sys lanes a))
 
 -- an entry that may stand in a queue or in hands: a static one, or a reference to a block of the system
 abbrev pub is_good : System → Entry → Bool

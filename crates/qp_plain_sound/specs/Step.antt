@@ -18,7 +18,7 @@ pub record Grown (lanes : List (List Rec)) (order : List ℕ) (at : ℕ) (r : Re
   pub order_is : longer ≡ order ++ at ∷ []
 
 -- A call: the world before it, the lane chosen, the record that it adds, and the world after it.
-pub record Step : Type 0 where
+pub record WorldStep : Type 0 where
   pub sys : System
   pub lanes : List (List Rec)
   pub order : List ℕ
@@ -35,23 +35,23 @@ pub record Step : Type 0 where
   pub purses : List Purse
 
 -- what contracts see of the lane before the call
-abbrev pub before : Step → LaneView
+abbrev pub before : WorldStep → LaneView
 before s = view_of s.sys s.lanes s.order s.at s.spare s.by s.stops s.answered s.purses
 
 -- and after it
-abbrev pub behind : Step → LaneView
+abbrev pub behind : WorldStep → LaneView
 behind s = view_of s.sys s.more s.longer s.at s.left s.by s.stops s.answered s.purses
 
 -- the hands before it
-abbrev pub hands_before : Step → List Token
+abbrev pub hands_before : WorldStep → List Token
 hands_before s = hands_in s.sys s.lanes s.order
 
 -- the record, of object o, and with it the lane
-pub record Extends (s : Step) (o : ℕ) (b : Body) : Type 0 where
+pub record Extends (s : WorldStep) (o : ℕ) (b : Body) : Type 0 where
   pub world : SoundWorld s.sys s.lanes s.order
   pub grown : Grown s.lanes s.order s.at s.rec s.more s.longer
   pub says : item_of s.rec ≡ record { of = o; body = b }
   pub less : s.left + 1 ≡ s.spare
 
-abbrev pub MayCome : Step → ℕ → Body → Type 0
+abbrev pub MayCome : WorldStep → ℕ → Body → Type 0
 MayCome s o b = May s.sys s.lanes (hands_before s) o b

@@ -11,7 +11,7 @@ use Rattle.qp_model.specs.Line.{Line}
 use Rattle.qp_model.specs.History.{all_items, lane_items, total}
 use Rattle.qp_model.specs.Knowing.{event_of_entry, told_lane}
 use Rattle.qp_calls.specs.LaneView.{LaneView, Aside, Purse, Own, Shown, FreeBlocks, References, Counts, NotShown, codes_in}
-use Rattle.qp_plain_sound.specs.Log.{lane_of, log_of}
+use Rattle.qp_plain_sound.specs.Log.{lane_recs, log_of}
 use Rattle.qp_plain_sound.specs.WordStates.{pool_in, refs_in, line_in}
 use Rattle.qp_plain_sound.specs.Sound.{facts_in, hands_in}
 
@@ -46,7 +46,7 @@ unfolding told_lane all_items lane_items total shown_in line_in event_in hands_i
 view_of sys lanes order at spare by stops answered purses = record {
   world = [];
   sys = sys;
-  told = told_lane (facts_in sys lanes) 0 (lane_items (lane_of lanes at));
+  told = told_lane (facts_in sys lanes) 0 (lane_items (lane_recs lanes at));
   spare = spare;
   by = by;
   serves = λ o. true;

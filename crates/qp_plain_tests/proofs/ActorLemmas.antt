@@ -29,15 +29,15 @@ use Rattle.qp_dispatch.specs.declared.steps.Position.{Position}
 use Rattle.qp_dispatch.specs.declared.steps.Position.TheVariants as standing
 use Rattle.qp_dispatch.specs.declared.steps.Step.{Step}
 use Rattle.qp_dispatch.specs.declared.steps.Step.TheVariants as step
-use Rattle.qp_dispatch.specs.Objects.{BeginsStep, IsNew, IsObject, MayResume, MayStart, ObjectResumes, ObjectStarts, ResumesAs, StartsAs, home_of, works_for}
+use Rattle.qp_dispatch.specs.Objects.{BeginsStep, IsNewObject, IsServedObject, MayResume, MayStart, ObjectResumes, ObjectStarts, ResumesAs, StartsAs, setting_for, works_for}
 use Rattle.qp_dispatch.specs.Resume.{CanTakeSteps, IsUnderWay}
-use Rattle.qp_dispatch.specs.Runs.{Setting}
-use Rattle.qp_dispatch.specs.SoundFor.{IsHome}
+use Rattle.qp_dispatch.specs.Runs.{ObjectSetting}
+use Rattle.qp_dispatch.specs.SoundFor.{IsObjectWithTimers}
 use Rattle.qp_dispatch.proofs.SoundAble.{sound-ready}
 use Rattle.qp_dispatch.proofs.Taking.{taken-is}
 use Rattle.qp_dispatch.proofs.Naming.{publishing-still}
 use Rattle.qp_plain_tests.specs.declared.actor.Actor.{Actor}
-use Rattle.qp_plain_tests.specs.StepTrial.{AfterPart, AfterStart, IsBase, IsKnown, IsOnItsWay, IsResting, IsUnstarted}
+use Rattle.qp_plain_tests.specs.StepTrial.{AfterPart, AfterStart, IsBase, IsKnownActor, IsOnItsWay, IsResting, IsUnstarted}
 use Rattle.qp_plain_tests.proofs.StepLanes.{base-lane, base-quiet, base-room, lane-base, look-told}
 
 -- An object of a sound system.
@@ -61,7 +61,7 @@ some-priority : (sys : System) → IsSound sys → (o : ℕ) (d : ObjectDef) →
 unfolding object_at
 some-priority sys sound o d found = (found-passes (IsSoundObject sys.charts) o sys.objects d sound.objects found).some_priority
 
-home : (sys : System) → IsSound sys → (o : ℕ) (d : ObjectDef) (chart : Chart) → object_at sys o ≡ Some d → chart_at sys d.chart ≡ Some chart → IsTrue (is_object sys o) → IsHome sys o chart
+home : (sys : System) → IsSound sys → (o : ℕ) (d : ObjectDef) (chart : Chart) → object_at sys o ≡ Some d → chart_at sys d.chart ≡ Some chart → IsTrue (is_object sys o) → IsObjectWithTimers sys o chart
 home sys sound o d chart found its is = record {
   sound = sound;
   some = let same = priority-is sys o d found in let few = some-priority sys sound o d found in omega (arith, same, few);
@@ -71,7 +71,7 @@ home sys sound o d chart found its is = record {
       record { some = n.some; few = let most = sound.few_timers in omega (arith, n.few, most); timer = n.timer; there = n.there; owner = n.owner };
 }
 
-pub new-unstarted : (sys : System) (a : Actor) → IsSound sys → IsTrue (is_object sys a.me) → IsNew sys a.me a.object → IsUnstarted sys a
+pub new-unstarted : (sys : System) (a : Actor) → IsSound sys → IsTrue (is_object sys a.me) → IsNewObject sys a.me a.object → IsUnstarted sys a
 new-unstarted sys a sound is new =
     let me : a.object.me ≡ a.me = new.made.me ∙ priority-is sys a.me new.object new.of in
     record {
@@ -90,8 +90,8 @@ new-unstarted sys a sound is new =
 
 -- Its start.
 
-at-home : (sys : System) (a : Actor) (v : LaneView) (k : IsKnown sys a) → IsBase sys a.ceiling v → IsObject sys a.ceiling a.object (works_for a.object.me v)
-at-home sys a v k b = record { chart = k.chart; is = k.is; ready = k.ready; compiled = k.compiled; lane = base-lane sys a.ceiling (home_of sys k.chart a.object) v refl b }
+at-home : (sys : System) (a : Actor) (v : LaneView) (k : IsKnownActor sys a) → IsBase sys a.ceiling v → IsServedObject sys a.ceiling a.object (works_for a.object.me v)
+at-home sys a v k b = record { chart = k.chart; is = k.is; ready = k.ready; compiled = k.compiled; lane = base-lane sys a.ceiling (setting_for sys k.chart a.object) v refl b }
 
 pub may-start : (sys : System) (a : Actor) (v : LaneView) → IsUnstarted sys a → IsBase sys a.ceiling v → MayStart sys a.ceiling a.object (works_for a.object.me v)
 may-start sys a v u b = record {
@@ -101,7 +101,7 @@ may-start sys a v u b = record {
   stand = subst (λ es. StandAll es (works_for a.object.me v)) (sym u.empty) (none-stand (works_for a.object.me v));
 }
 
-still-known : (sys : System) (a b : Actor) → b.me ≡ a.me → b.object.me ≡ a.object.me → b.object.chart ≡ a.object.chart → b.object.compiled ≡ a.object.compiled → IsKnown sys a → IsKnown sys b
+still-known : (sys : System) (a b : Actor) → b.me ≡ a.me → b.object.me ≡ a.object.me → b.object.chart ≡ a.object.chart → b.object.compiled ≡ a.object.compiled → IsKnownActor sys a → IsKnownActor sys b
 still-known sys a b me own chart compiled k = record {
   me = own ∙ k.me ∙ sym me;
   object = subst (λ o. IsTrue (is_object sys o)) (sym me) k.object;
@@ -124,7 +124,7 @@ started sys a b v w answer u base me h = by answer h.2 (subst (λ c. StartsAs c 
         let same = s.0 in
         let d = s.1 in
         record {
-          base = lane-base sys a.ceiling b.ceiling v.by d.g (home_of sys u.known.chart a.object) v h.0 w base d.grows d.lane is;
+          base = lane-base sys a.ceiling b.ceiling v.by d.g (setting_for sys u.known.chart a.object) v h.0 w base d.grows d.lane is;
           known = still-known sys a b me (ap (λ x. x.me) same) (ap (λ x. x.chart) same) (ap (λ x. x.compiled) same) u.known;
           started = ap (λ x. x.started) same;
           between = ap (λ x. x.stage) same ∙ u.between;
@@ -138,7 +138,7 @@ started sys a b v w answer u base me h = by answer h.2 (subst (λ c. StartsAs c 
 -- Its steps.
 
 -- a step under way, in a lane with the same tokens
-way-still : (place : Setting) (k : Lasting) (s : Position) (v w : LaneView) → w.hands ≡ v.hands → w.sys ≡ v.sys → IsUnderWay place k s v → IsUnderWay place k s w
+way-still : (place : ObjectSetting) (k : Lasting) (s : Position) (v w : LaneView) → w.hands ≡ v.hands → w.sys ≡ v.sys → IsUnderWay place k s v → IsUnderWay place k s w
 way-still place k standing.Between v w hands same h = h
 way-still place k (standing.Taken e) v w hands same h = record { stand = stand-same _ v w h.stand hands same; few = h.few }
 way-still place k (standing.Within g) v w hands same h = record {
@@ -155,7 +155,7 @@ pub may-resume : (sys : System) (a : Actor) (v : LaneView) → IsOnItsWay sys a 
 unfolding at-home
 may-resume sys a v w = record {
   at = at-home sys a v w.known w.base;
-  under_way = way-still (home_of sys w.known.chart a.object) a.object.lasting a.object.stage v (works_for a.object.me v) refl refl w.under_way;
+  under_way = way-still (setting_for sys w.known.chart a.object) a.object.lasting a.object.stage v (works_for a.object.me v) refl refl w.under_way;
 }
 
 pub resumed : (sys : System) (a b : Actor) (v w : LaneView) (answer : Step) → IsOnItsWay sys a v → b.me ≡ a.me → ObjectResumes sys a.ceiling b.ceiling a.object b.object v w answer
@@ -163,7 +163,7 @@ pub resumed : (sys : System) (a b : Actor) (v w : LaneView) (answer : Step) → 
 unfolding still-known
 resumed sys a b v w answer u me h = by answer h.2 (subst (λ c. ResumesAs c sys a.ceiling b.ceiling a.object b.object (works_for a.object.me v) h.0 answer) u.known.is h.1)
   where
-    same-home : b.object ≡ record (a.object) { lasting = b.object.lasting; stage = b.object.stage } → home_of sys u.known.chart b.object ≡ home_of sys u.known.chart a.object
+    same-home : b.object ≡ record (a.object) { lasting = b.object.lasting; stage = b.object.stage } → setting_for sys u.known.chart b.object ≡ setting_for sys u.known.chart a.object
     same-home same = rw same refl
 
     by : (answer : Step) → w ≡ works_for v.by h.0 → ResumesAs (Some u.known.chart) sys a.ceiling b.ceiling a.object b.object (works_for a.object.me v) h.0 answer → AfterPart sys b w answer
@@ -171,17 +171,17 @@ resumed sys a b v w answer u me h = by answer h.2 (subst (λ c. ResumesAs c sys 
         let same = s.0 in
         let p = s.1 in
         record {
-          base = lane-base sys a.ceiling b.ceiling v.by p.g (home_of sys u.known.chart a.object) v h.0 w u.base p.grows p.lane is;
+          base = lane-base sys a.ceiling b.ceiling v.by p.g (setting_for sys u.known.chart a.object) v h.0 w u.base p.grows p.lane is;
           known = still-known sys a b me (ap (λ x. x.me) same) (ap (λ x. x.chart) same) (ap (λ x. x.compiled) same) u.known;
           started = ap (λ x. x.started) same ∙ u.started;
           under_way = subst (λ place. IsUnderWay place b.object.lasting b.object.stage w) (sym (same-home same))
-              (way-still (home_of sys u.known.chart a.object) b.object.lasting b.object.stage h.0 w (ap (λ x. x.hands) is) (ap (λ x. x.sys) is) p.under_way);
+              (way-still (setting_for sys u.known.chart a.object) b.object.lasting b.object.stage h.0 w (ap (λ x. x.hands) is) (ap (λ x. x.sys) is) p.under_way);
         }
     by step.Done is s =
         let same = s.0 in
         let e = s.1.1 in
         record {
-          base = lane-base sys a.ceiling b.ceiling v.by e.g (home_of sys u.known.chart a.object) v h.0 w u.base e.grows e.lane is;
+          base = lane-base sys a.ceiling b.ceiling v.by e.g (setting_for sys u.known.chart a.object) v h.0 w u.base e.grows e.lane is;
           known = still-known sys a b me (ap (λ x. x.me) same) (ap (λ x. x.chart) same) (ap (λ x. x.compiled) same) u.known;
           started = ap (λ x. x.started) same ∙ u.started;
           between = s.1.0;
@@ -218,5 +218,5 @@ marked sys a p k floor r u v w way room is noted =
       base = base-quiet sys a.ceiling r.of (plain (Look k floor) ∷ []) v w grows refl (base-room sys a.ceiling u v room way.base);
       known = record { me = way.known.me; object = way.known.object; chart = way.known.chart; is = way.known.is; ready = way.known.ready; compiled = way.known.compiled };
       started = way.started;
-      under_way = way-still (home_of sys way.known.chart a.object) a.object.lasting a.object.stage u w hands of way.under_way;
+      under_way = way-still (setting_for sys way.known.chart a.object) a.object.lasting a.object.stage u w hands of way.under_way;
     }

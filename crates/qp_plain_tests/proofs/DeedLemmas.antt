@@ -24,9 +24,9 @@ use Rattle.qp_calls.specs.declared.answers.Arm as arming
 use Rattle.qp_calls.specs.declared.answers.Arm.TheVariants as armed
 use Rattle.qp_calls.specs.LaneView.{LaneView, GrowsOf, Roomier}
 use Rattle.qp_calls.specs.Tokens.{hands_after, hands_by}
-use Rattle.qp_calls.specs.Clauses.{Arms, entry_of, Disarms, Rearms, Subscribing, Unsubscribing}
+use Rattle.qp_calls.specs.Clauses.{CallArms, entry_of, CallDisarms, CallRearms, Subscribing, Unsubscribing}
 use Rattle.qp_calls.specs.Entries.{is_value}
-use Rattle.qp_calls.specs.Groups.{CallAnswers, DoesCall}
+use Rattle.qp_calls.specs.Groups.{CallAnswers, CallReturns}
 use Rattle.qp_plain_tests.specs.Desk.{GoesOnAfter, MayGoOn, StaysSteady, Steady}
 
 pub answers-steady : (sys : System) (o : ℕ) (now : Option model.Entry) (c : Call) (d : Did) (v w : LaneView) → CallAnswers sys o now c d v w → is_value d ≡ true → Steady v w
@@ -51,17 +51,17 @@ unfolding hands_by
 unsubscribed-steady sig u v w true room s = steady-by v.by _ u v w room s.1.grows refl
 unsubscribed-steady sig u v w false room s = steady-by v.by _ u v w room s.1.grows refl
 
-pub armed-steady : (t n i : ℕ) (u v w : LaneView) (a : arming.Arm) → Roomier u v → Arms t n i v w a → Steady u w
+pub armed-steady : (t n i : ℕ) (u v w : LaneView) (a : arming.Arm) → Roomier u v → CallArms t n i v w a → Steady u w
 unfolding hands_by
 armed-steady t n i u v w armed.Done room s = steady-by v.by _ u v w room s.1.grows refl
 armed-steady t n i u v w (armed.Armed k c) room s = steady-by v.by _ u v w room s.0.grows refl
 
-pub disarmed-steady : (t : ℕ) (u v w : LaneView) (former : ℕ) → Roomier u v → Disarms t v w former → Steady u w
+pub disarmed-steady : (t : ℕ) (u v w : LaneView) (former : ℕ) → Roomier u v → CallDisarms t v w former → Steady u w
 unfolding hands_by
 disarmed-steady t u v w zero room s = steady-by v.by _ u v w room s.1.grows refl
 disarmed-steady t u v w (suc c) room s = steady-by v.by _ u v w room s.1.grows refl
 
-pub rearmed-steady : (t n : ℕ) (u v w : LaneView) (former : ℕ) → Roomier u v → Rearms t n v w former → Steady u w
+pub rearmed-steady : (t n : ℕ) (u v w : LaneView) (former : ℕ) → Roomier u v → CallRearms t n v w former → Steady u w
 unfolding hands_by
 rearmed-steady t n u v w former room s = steady-by v.by _ u v w room s.1.grows refl
 
@@ -101,7 +101,7 @@ goes-steady sys now list v w None may s = s
 goes-steady sys now list v w (Some d) may s = λ value. steady-goes sys (now ∷ list.entries.items) v w may (s value)
 
 pub goes-call : (sys : System) (now : HeldEntry) (list : Deferred) (hand : Option model.Entry) (c : Call) (r : Result Did RoomFault) (v w : LaneView)
-    → MayGoOn sys (now ∷ list.entries.items) v → DoesCall hand c v w r → GoesOnAfter sys now list w (result_ok r)
+    → MayGoOn sys (now ∷ list.entries.items) v → CallReturns hand c v w r → GoesOnAfter sys now list w (result_ok r)
 goes-call sys now list hand c (Ok d) v w may a = λ value. steady-goes sys (now ∷ list.entries.items) v w may (answers-steady v.sys v.by hand c d v w a value)
 goes-call sys now list hand c (Err fault) v w may a = tt
 

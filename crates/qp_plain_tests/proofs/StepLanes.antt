@@ -15,7 +15,7 @@ use Rattle.qp_calls.specs.Notes.{spills_told, told_note}
 use Rattle.qp_dispatch.proofs.Quiet.{Quiet, fits-quiet, quiet-ceiling, quiet-spillless, spills-append}
 use Rattle.qp_dispatch.specs.Objects.{works_for}
 use Rattle.qp_dispatch.specs.Resume.{IsLaneOf}
-use Rattle.qp_dispatch.specs.Runs.{Setting}
+use Rattle.qp_dispatch.specs.Runs.{ObjectSetting}
 use Rattle.qp_plain.specs.declared.world.PlainWorld.{PlainWorld}
 use Rattle.qp_plain.specs.NewWorld.{IsNewWorld}
 use Rattle.qp_plain.specs.WorldView.{world_view}
@@ -60,10 +60,10 @@ pub base-post : (sys : System) (to sig : ℕ) (d : Did) (v w : LaneView) → Cal
 base-post sys to sig d v w a b = base-quiet sys 0 v.by a.g v w a.grows (fits-quiet v.sys v.by None (call.Post to sig [] None None) a.answer a.g refl a.fits) b
 
 -- while the lane works for an object, and behind that
-pub base-lane : (sys : System) (c : ℕ) (home : Setting) (v : LaneView) → home.sys ≡ sys → IsBase sys c v → IsLaneOf home c (works_for home.me v)
+pub base-lane : (sys : System) (c : ℕ) (home : ObjectSetting) (v : LaneView) → home.sys ≡ sys → IsBase sys c v → IsLaneOf home c (works_for home.me v)
 base-lane sys c home v same b = record { of = b.of ∙ sym same; mine = refl; serves = b.serves home.me; told = b.told; spills = b.spills }
 
-pub lane-base : (sys : System) (c d o : ℕ) (g : List Told) (home : Setting) (v mid w : LaneView) → IsBase sys c v → Grows g (works_for home.me v) mid → IsLaneOf home d mid → w ≡ works_for o mid
+pub lane-base : (sys : System) (c d o : ℕ) (g : List Told) (home : ObjectSetting) (v mid w : LaneView) → IsBase sys c v → Grows g (works_for home.me v) mid → IsLaneOf home d mid → w ≡ works_for o mid
     → IsBase sys d w
 lane-base sys c d o g home v mid w b grows lane is = record {
   sound = b.sound;

@@ -16,7 +16,7 @@ use Rattle.qp_plain.specs.declared.world.PlainWorld.{PlainWorld}
 use Rattle.qp_plain.specs.NewWorld.{IsNewWorld}
 use Rattle.qp_plain.specs.WorldView.{world_view}
 use Rattle.qp_plain_sound.specs.View.{view_of}
-use Rattle.qp_calls_stimulus.specs.Stimulating.{Happens}
+use Rattle.qp_calls_stimulus.specs.Stimulating.{StimulusHappens}
 use Rattle.qp_calls_stimulus.proofs.Halting.{happens-unspilled}
 use Rattle.qp_plain_tests.specs.StimulusTrial.{IsStimulusBase}
 
@@ -36,7 +36,7 @@ base-rest sys o k r u v w is room grows b =
     }
 
 -- a stimulus came to its end
-pub base-happens : (sys : System) (s : Stim) (place look : ℕ) (v w : LaneView) → Happens sys s place look v w → IsStimulusBase sys v → IsStimulusBase sys w
+pub base-happens : (sys : System) (s : Stim) (place look : ℕ) (v w : LaneView) → StimulusHappens sys s place look v w → IsStimulusBase sys v → IsStimulusBase sys w
 base-happens sys s place look v w h b = record {
   sound = b.sound;
   of = h.grows.sys ∙ b.of;

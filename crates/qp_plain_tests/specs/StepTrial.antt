@@ -13,7 +13,7 @@ use Rattle.qp_chart_compiled.specs.Compiled.{IsCompiled}
 use Rattle.qp_dispatch.specs.declared.steps.Position.TheVariants as standing
 use Rattle.qp_dispatch.specs.declared.steps.Step.{Step}
 use Rattle.qp_dispatch.specs.declared.steps.Step.TheVariants as step
-use Rattle.qp_dispatch.specs.Objects.{home_of}
+use Rattle.qp_dispatch.specs.Objects.{setting_for}
 use Rattle.qp_dispatch.specs.Resume.{CanTakeSteps, IsUnderWay}
 use Rattle.qp_plain_tests.specs.declared.actor.Actor.{Actor}
 use Rattle.qp_plain_tests.specs.declared.actor.End.{End}
@@ -27,7 +27,7 @@ pub record IsBase (sys : System) (ceiling : ℕ) (v : LaneView) : Type 0 where
   pub spills : spills_told v.told ≡ false
 
 -- an object of the system with its chart
-pub record IsKnown (sys : System) (a : Actor) : Type 0 where
+pub record IsKnownActor (sys : System) (a : Actor) : Type 0 where
   pub me : a.object.me ≡ a.me
   pub object : IsTrue (is_object sys a.me)
   pub chart : Chart
@@ -37,7 +37,7 @@ pub record IsKnown (sys : System) (a : Actor) : Type 0 where
 
 -- it has not started
 pub record IsUnstarted (sys : System) (a : Actor) : Type 0 where
-  pub known : IsKnown sys a
+  pub known : IsKnownActor sys a
   pub unstarted : a.object.started ≡ false
   pub between : a.object.stage ≡ standing.Between
   pub empty : a.object.lasting.list.entries.items ≡ []
@@ -45,7 +45,7 @@ pub record IsUnstarted (sys : System) (a : Actor) : Type 0 where
 -- it stands between two steps
 pub record IsResting (sys : System) (a : Actor) (v : LaneView) : Type 0 where
   pub base : IsBase sys a.ceiling v
-  pub known : IsKnown sys a
+  pub known : IsKnownActor sys a
   pub started : a.object.started ≡ true
   pub between : a.object.stage ≡ standing.Between
   pub few : length (kept_in a.object.lasting.list) ≤ a.object.lasting.list.entries.capacity
@@ -54,9 +54,9 @@ pub record IsResting (sys : System) (a : Actor) (v : LaneView) : Type 0 where
 -- it stands within a step
 pub record IsOnItsWay (sys : System) (a : Actor) (v : LaneView) : Type 0 where
   pub base : IsBase sys a.ceiling v
-  pub known : IsKnown sys a
+  pub known : IsKnownActor sys a
   pub started : a.object.started ≡ true
-  pub under_way : IsUnderWay (home_of sys known.chart a.object) a.object.lasting a.object.stage v
+  pub under_way : IsUnderWay (setting_for sys known.chart a.object) a.object.lasting a.object.stage v
 
 abbrev pub AfterStart : System → Actor → LaneView → Step → Type 0
 AfterStart sys a v step.Done = IsResting sys a v

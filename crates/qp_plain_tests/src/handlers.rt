@@ -3,7 +3,7 @@
 ghost use Rattle.std.specs.Prelude.{◌≡◌};
 ghost use Rattle.qp_model.specs.Sound.{IsSound};
 ghost use Rattle.qp_calls.specs.Clauses.{IsEvent, EntryStands, entry_of, event_of};
-ghost use Rattle.qp_calls.specs.Publishing.{AreObjects};
+ghost use Rattle.qp_calls.specs.Publishing.{MembersAreObjects};
 ghost use Rattle.qp_plain_tests.specs.Desk.{EndsIt, LocksOnce, StaysSteady};
 
 use qp_base::{Ev, Steps};
@@ -23,7 +23,7 @@ fn locked<O: Ops>(ops: &mut O, o: u8) -> Option<()>
 
 /// Posts to all members, and ends the publication.
 fn go_on<O: Ops, L: Ledger>(ops: &mut O, p: Publication, steps: &mut Steps<L>) -> Option<Did>
-    requires objects { AreObjects (O.lane ops.old).sys p.left }
+    requires objects { MembersAreObjects (O.lane ops.old).sys p.left }
     requires stands { EntryStands p.entry (O.lane ops.old) }
     ensures { EndsIt (entry_of p.entry) (O.lane ops.old) (O.lane ops.new) result }
 {

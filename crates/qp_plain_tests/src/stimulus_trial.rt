@@ -3,7 +3,7 @@
 ghost use Rattle.std.specs.Prelude.{◌≡◌, ◌<◌, IfSome};
 ghost use Rattle.std.specs.List.{AllByRecursion};
 ghost use Rattle.qp_model.specs.Sound.{IsSound};
-ghost use Rattle.qp_stim.specs.Rules.{StimFits};
+ghost use Rattle.qp_stim.specs.Rules.{StimulusFits};
 ghost use Rattle.qp_plain_tests.specs.StimulusTrial.{IsStimulusBase};
 
 use qp_base::{Gate, Steps};
@@ -59,7 +59,7 @@ fn play<O: Ops, L: Ledger, G: Gate>(
     requires name { blank.name ≡ L.name }
     requires parts { blank.parts ≡ L.parts }
     requires some { 0 < blank.parts }
-    requires fits { AllByRecursion (StimFits sys.now) stimuli.now }
+    requires fits { AllByRecursion (StimulusFits sys.now) stimuli.now }
     requires base { IsStimulusBase sys.now (O.lane ops.old) }
 {
     let mut steps = Steps::<L>::open(blank);
@@ -84,7 +84,7 @@ pub(crate) fn run<G: Gate>(
     gate: &G,
 ) -> Option<Trial>
     requires sound { IsSound sys.now }
-    requires fits { AllByRecursion (StimFits sys.now) stimuli.now }
+    requires fits { AllByRecursion (StimulusFits sys.now) stimuli.now }
 {
     let Ok(mut world) = PlainWorld::new(alloc, sys, 1) else {
         return None;

@@ -5,5 +5,5 @@ use Rattle.std.specs.Int.{bit_at}
 use Rattle.qp_model.specs.Lists.{count_up}
 
 -- their places, ascending
-unfoldable pub places : ℕ → List ℕ
-places bits = filter (λ b. bit_at bits b == 1) (count_up 0 32)
+unfoldable pub bit_places : ℕ → List ℕ
+bit_places bits = filter (λ b. bit_at bits b == 1) (count_up 0 32)

@@ -22,11 +22,11 @@ impl Model for PoolWord {
     ghost Value = { Pool };
 
     ghost use Rattle.std.specs.Prelude.{◌≡◌, length};
-    ghost use Rattle.qp_plain_words.specs.Places.{places};
+    ghost use Rattle.qp_plain_words.specs.Places.{bit_places};
 
-    ghost view = { λ w. record { count = w.ops; free = places w.bits } };
+    ghost view = { λ w. record { count = w.ops; free = bit_places w.bits } };
 
-    ghost invariant = { λ w. w.left ≡ length (places w.bits) };
+    ghost invariant = { λ w. w.left ≡ length (bit_places w.bits) };
 }
 
 impl PoolWord {

@@ -11,14 +11,14 @@ use Rattle.qp_calls.specs.LaneView.{LaneView}
 use Rattle.qp_dispatch.specs.declared.objects.Turn.{Turn}
 use Rattle.qp_port_phases.specs.Turns.{AreReady}
 use Rattle.qp_port_phases.specs.Lanes.{AreTogether}
-use Rattle.qp_port_lanes.specs.At.{IsMade}
+use Rattle.qp_port_lanes.specs.At.{IsUnstartedHome}
 use Rattle.qp_port_lanes.proofs.Feeding.{fed-new}
 use Rattle.qp_port_lanes.proofs.Standing.{new-stand}
 use Rattle.qp_port.specs.declared.job.Job.{Job}
 use Rattle.qp_port.specs.declared.job.Job.TheVariants as job
 use Rattle.qp_port.specs.Jobs.{JobBegins}
-use Rattle.qp_port.specs.Making.{AreAllMade, HomesMade, IsFreshWorker, IsHomeMade, IsSourceMade, MadesHome, MadesNothing, MadesSource, SourcesMade}
-use Rattle.qp_port.specs.Rows.{AreNew, AreNewLanes, AreWorkers, IsHomeOf, IsNewOf, IsNothing, IsRow, IsSourceOf}
+use Rattle.qp_port.specs.Making.{AreAllMade, HomesMade, IsFreshWorker, IsHomeMade, IsSourceMade, MadesHome, MadesNothing, IsFreshSource, SourcesMade}
+use Rattle.qp_port.specs.Rows.{AreNew, AreNewLanes, AreWorkers, IsHomeJobOf, IsNewOf, IsNothing, IsRow, IsSourceOf}
 use Rattle.qp_port.specs.Workers.{MayBegin}
 
 got : (xs : List (List Stim)) (n : ℕ) (x : List Stim) → slice_get xs n ≡ Some x → (get_or xs n [] ≡ x) × (n < length xs)
@@ -55,10 +55,10 @@ module _ (sys : System) (stimuli : List (List Stim)) (budget : ℕ) (sound : IsS
   nothing-begins world (job.Home x) v is new = absurd is
   nothing-begins world (job.Source x) v is new = absurd is
 
-  home-begins : (world : List ℕ) (d : ObjectDef) (x : Job) (v : LaneView) → IsHomeMade sys d x → IsNewOf sys world v → v.serves d.priority ≡ true → JobBegins sys x v × IsHomeOf d x
+  home-begins : (world : List ℕ) (d : ObjectDef) (x : Job) (v : LaneView) → IsHomeMade sys d x → IsNewOf sys world v → v.serves d.priority ≡ true → JobBegins sys x v × IsHomeJobOf d x
   home-begins world d (job.Home x) v made new serves = (
     (
-      subst (λ p. IsMade sys p x) (sym made.me) made,
+      subst (λ p. IsUnstartedHome sys p x) (sym made.me) made,
       record { of = new.of; serves = ap v.serves made.me ∙ serves; told = new.new.told; hands = new.new.hands },
     ),
     made.me,
@@ -108,7 +108,7 @@ module _ (sys : System) (stimuli : List (List Stim)) (budget : ℕ) (sound : IsS
     MadeHome d w = MadesHome sys budget d (s w) (b w) (t w) (work w)
 
     abbrev MadeSource : ℕ → T → Type 0
-    MadeSource k w = MadesSource sys budget stimuli k (s w) (b w) (t w) (work w)
+    MadeSource k w = IsFreshSource sys budget stimuli k (s w) (b w) (t w) (work w)
 
     sources-begin : (n : ℕ) (more : List (List Stim)) (ws : List T) → drop n stimuli ≡ more → SourcesMade MadeSource (n + 1) more ws → AreNew sys world [] more (map view ws) → MayAllBegin [] more ws
     sources-begin n [] [] at made new = record { begin = tt; row = tt; terms = tt; here = tt }
@@ -154,7 +154,7 @@ module _ (sys : System) (stimuli : List (List Stim)) (budget : ℕ) (sound : IsS
     pub of : (view first).sys ≡ sys
 
   pub all-begin : {T L : Type 0} (s : T → System) (b : T → ℕ) (t : T → Turn) (work : T → Job) (lane : T → L) (see : L → LaneView) (lanes : List L) (ws : List T)
-      → AreAllMade lane (λ w. MadesNothing sys budget (s w) (b w) (t w) (work w)) (λ d w. MadesHome sys budget d (s w) (b w) (t w) (work w)) (λ k w. MadesSource sys budget stimuli k (s w) (b w) (t w) (work w)) sys.objects stimuli lanes ws
+      → AreAllMade lane (λ w. MadesNothing sys budget (s w) (b w) (t w) (work w)) (λ d w. MadesHome sys budget d (s w) (b w) (t w) (work w)) (λ k w. IsFreshSource sys budget stimuli k (s w) (b w) (t w) (work w)) sys.objects stimuli lanes ws
       → AreNewLanes sys stimuli (map see lanes) → AreReadyAll s b t work (λ w. see (lane w)) ws
   all-begin {T = T} s b t work lane see lanes ws made new =
       let all : AreNewLanes sys stimuli (see (lane made.first) ∷ map (λ w. see (lane w)) (made.homes ++ made.sources)) =

@@ -9,7 +9,7 @@ use Rattle.qp_model.specs.declared.systems.System.{System}
 use Rattle.qp_model.specs.declared.systems.ObjectDef.{ObjectDef}
 use Rattle.qp_dispatch.specs.declared.objects.Turn.{Turn}
 use Rattle.qp_port_lanes.specs.declared.home.Home.{Home}
-use Rattle.qp_port_lanes.specs.At.{IsMade}
+use Rattle.qp_port_lanes.specs.At.{IsUnstartedHome}
 use Rattle.qp_port.specs.declared.job.Job.{Job}
 use Rattle.qp_port.specs.declared.job.Job.TheVariants as job
 use Rattle.qp_port.specs.Making.{AddsAll, AddsOne, AreAllMade, HomesMade, IsFreshWorker, IsHomeMade, IsThis, MadesHome, MadesNothing, SourcesMade}
@@ -122,5 +122,5 @@ module _ {T L : Type 0} (lane : T → L) where
 pub made-nothing : (sys : System) (budget : ℕ) (s : System) (b : ℕ) (t : Turn) (x : Job) → IsFreshWorker sys budget s b t → IsThis job.Nothing x → MadesNothing sys budget s b t x
 made-nothing sys budget s b t x fresh is = record { fresh = fresh; its = subst IsNothing (sym is) tt }
 
-pub made-home : (sys : System) (budget : ℕ) (d : ObjectDef) (home : Home) (s : System) (b : ℕ) (t : Turn) (x : Job) → IsMade sys d.priority home → IsFreshWorker sys budget s b t → IsThis (job.Home home) x → MadesHome sys budget d s b t x
+pub made-home : (sys : System) (budget : ℕ) (d : ObjectDef) (home : Home) (s : System) (b : ℕ) (t : Turn) (x : Job) → IsUnstartedHome sys d.priority home → IsFreshWorker sys budget s b t → IsThis (job.Home home) x → MadesHome sys budget d s b t x
 made-home sys budget d home s b t x made fresh is = record { fresh = fresh; its = subst (IsHomeMade sys d) (sym is) made }

@@ -56,7 +56,7 @@ use Rattle.qp_port.specs.declared.job.Job.TheVariants as job
 use Rattle.qp_port.specs.Ends.{HasRun}
 use Rattle.qp_port.specs.Jobs.{JobRests, JobStops, is_left_in, starts_of}
 use Rattle.qp_port.specs.Resting.{AreShown, IsShownBy, IsShownIn}
-use Rattle.qp_port.specs.Rows.{AreWorkers, IsHomeOf, IsNothing, IsRow, IsSourceOf}
+use Rattle.qp_port.specs.Rows.{AreWorkers, IsHomeJobOf, IsNothing, IsRow, IsSourceOf}
 use Rattle.qp_model_order.specs.SourceRun.{untold_all}
 use Rattle.qp_port.proofs.QuietHomes.{quiet-home}
 use Rattle.qp_port.proofs.Rows.{ready-none}
@@ -85,7 +85,7 @@ module _ (sys : System) where
 -- One object, by its lane.
 
 module _ (sys : System) (budget : ℕ) (d : ObjectDef) (found : object_at sys d.priority ≡ Some d) (v : LaneView) where
-  home-early : (end : ℕ) → may_cut end ≡ true → (x : Job) → IsHomeOf d x → JobStops sys budget x v → HomeEnds sys d budget end v.told
+  home-early : (end : ℕ) → may_cut end ≡ true → (x : Job) → IsHomeJobOf d x → JobStops sys budget x v → HomeEnds sys d budget end v.told
   home-early end early (job.Home x) is h = h.ends d (ap (object_at sys) is ∙ found) end early
   home-early end early job.Nothing is h = absurd is
   home-early end early (job.Source x) is h = absurd is
@@ -118,7 +118,7 @@ module _ (sys : System) (budget : ℕ) (d : ObjectDef) (found : object_at sys d.
         h.at.only t ∙ ap (λ es. count_of t (tokens_in (map entry_of es))) held ∙ ap (λ c. count_of t (tokens_in c.kept)) (sym h.rest.config)
 
   -- what it shows
-  shown-here : (x : Job) → IsHomeOf d x → JobStops sys budget x v → (r : Rest) → IsShownBy x r → IsRestOf sys d (own_told d.priority v.told) r
+  shown-here : (x : Job) → IsHomeJobOf d x → JobStops sys budget x v → (r : Rest) → IsShownBy x r → IsRestOf sys d (own_told d.priority v.told) r
   unfolding IsRestOf CourseLeaves
   shown-here (job.Home x) is h r shown = λ at chart its. (
     config_of x.object.lasting,
@@ -218,7 +218,7 @@ module _ {T : Type 0} (work : T → Job) (view : T → LaneView) where
     homes-quiet sound (d ∷ ds) more [] found rise row h = absurd row
     homes-quiet sound (d ∷ ds) more (w ∷ ws) found rise row h = by (homes-quiet sound ds more ws found.1 rise.2 row.1 h.1) (work w) row.0 h.0
       where
-        by : (keeps : ℕ → Config) × HomesAre sys budget quiet ds (homes_in ds ws) × AreAtRest sys keeps ds (homes_in ds ws) → (x : Job) → IsHomeOf d x → JobRests sys budget x (view w)
+        by : (keeps : ℕ → Config) × HomesAre sys budget quiet ds (homes_in ds ws) × AreAtRest sys keeps ds (homes_in ds ws) → (x : Job) → IsHomeJobOf d x → JobRests sys budget x (view w)
             → (keeps : ℕ → Config) × HomesAre sys budget quiet (d ∷ ds) (view w ∷ homes_in ds ws) × AreAtRest sys keeps (d ∷ ds) (view w ∷ homes_in ds ws)
         by behind (job.Home x) is here =
             let self : (d.priority == d.priority) ≡ true = grind (arith, nat_tests) in
@@ -236,7 +236,7 @@ module _ {T : Type 0} (work : T → Job) (view : T → LaneView) where
 
     -- Where they show that they rest.
 
-    shown-by : (d : ObjectDef) (x : Job) (r : Rest) → IsHomeOf d x → IsShownBy x r → r.priority ≡ d.priority
+    shown-by : (d : ObjectDef) (x : Job) (r : Rest) → IsHomeJobOf d x → IsShownBy x r → r.priority ≡ d.priority
     shown-by d (job.Home x) r is shown = shown.priority ∙ is
     shown-by d job.Nothing r is shown = absurd is
     shown-by d (job.Source x) r is shown = absurd is
@@ -261,7 +261,7 @@ module _ {T : Type 0} (work : T → Job) (view : T → LaneView) where
     abbrev ShownAbove : ℕ → List T → List Rest → Type 0
     ShownAbove n ws rests = AllByRecursion (λ (r : Rest). n < r.priority → IsShownIn work ws r) rests
 
-    above-next : (n : ℕ) (d : ObjectDef) (w : T) (ws : List T) (rests : List Rest) → n < d.priority → IsHomeOf d (work w) → ShownAbove n (w ∷ ws) rests → ShownAbove d.priority ws rests
+    above-next : (n : ℕ) (d : ObjectDef) (w : T) (ws : List T) (rests : List Rest) → n < d.priority → IsHomeJobOf d (work w) → ShownAbove n (w ∷ ws) rests → ShownAbove d.priority ws rests
     above-next n d w ws [] lt is h = tt
     above-next n d w ws (r ∷ rests) lt is h = (λ above. one above (h.0 (omega (arith, lt, above))), above-next n d w ws rests lt is h.1)
       where
@@ -270,7 +270,7 @@ module _ {T : Type 0} (work : T → Job) (view : T → LaneView) where
         one above (inr behind) = behind
 
     told-here : (n : ℕ) (d : ObjectDef) (ds : List ObjectDef) (more : List (List Stim)) (w : T) (ws : List T) (rests : List Rest) → object_at sys d.priority ≡ Some d → n < d.priority → AllByRecursion (λ x. d.priority < x.priority) ds
-        → IsHomeOf d (work w) → AreWorkers work ds more ws → Stops w → ShownAbove n (w ∷ ws) rests → AllByRecursion (IsRestOf sys d (own_told d.priority (view w).told)) rests
+        → IsHomeJobOf d (work w) → AreWorkers work ds more ws → Stops w → ShownAbove n (w ∷ ws) rests → AllByRecursion (IsRestOf sys d (own_told d.priority (view w).told)) rests
     unfolding IsRestOf CourseLeaves
     told-here n d ds more w ws [] found lt rise is row stops h = tt
     told-here n d ds more w ws (r ∷ rests) found lt rise is row stops h = (one, told-here n d ds more w ws rests found lt rise is row stops h.1)
@@ -315,7 +315,7 @@ module _ {T : Type 0} (work : T → Job) (view : T → LaneView) where
     homes-apart floor (d ∷ ds) more [] row h = absurd row
     homes-apart floor (d ∷ ds) more (w ∷ ws) row h = (by (work w) row.0 h.0, homes-apart floor ds more ws row.1 h.1)
       where
-        by : (x : Job) → IsHomeOf d x → IsApart floor (starts_of x) (untold_all (view w).told) → IsApart floor 1 (untold_all (view w).told)
+        by : (x : Job) → IsHomeJobOf d x → IsApart floor (starts_of x) (untold_all (view w).told) → IsApart floor 1 (untold_all (view w).told)
         by (job.Home x) is apart = apart
         by job.Nothing is apart = absurd is
         by (job.Source x) is apart = absurd is

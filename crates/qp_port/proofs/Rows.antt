@@ -19,7 +19,7 @@ use Rattle.qp_port.specs.declared.job.Job.{Job}
 use Rattle.qp_port.specs.declared.job.Job.TheVariants as job
 use Rattle.qp_port_lanes.specs.Answers.{is_idle, is_short}
 use Rattle.qp_port.specs.Jobs.{IsSameJob, JobEnds, JobRests, JobStands, JobStops}
-use Rattle.qp_port.specs.Rows.{AreSameLanes, AreWorkers, IsHomeOf, IsNothing, IsRow, IsSourceOf}
+use Rattle.qp_port.specs.Rows.{AreSameLanes, AreWorkers, IsHomeJobOf, IsNothing, IsRow, IsSourceOf}
 use Rattle.qp_port.specs.Workers.{MayEnd, MayTurn}
 
 pub ready-map : {T : Type 0} (P Q : T → Type 0) → ((w : T) → P w → Q w) → (ws : List T) → AreReady P ws → AreReady Q ws
@@ -59,7 +59,7 @@ nothing-still job.Nothing (job.Source y) same h = absurd same
 nothing-still (job.Home x) j same h = absurd h
 nothing-still (job.Source x) j same h = absurd h
 
-home-still : (d : ObjectDef) (i j : Job) → IsSameJob i j → IsHomeOf d i → IsHomeOf d j
+home-still : (d : ObjectDef) (i j : Job) → IsSameJob i j → IsHomeJobOf d i → IsHomeJobOf d j
 home-still d (job.Home x) (job.Home y) same h = same ∙ h
 home-still d (job.Home x) job.Nothing same h = absurd same
 home-still d (job.Home x) (job.Source y) same h = absurd same

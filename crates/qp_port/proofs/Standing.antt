@@ -25,7 +25,7 @@ use Rattle.qp_port_lanes.proofs.Hearing.{passes-hands, passes-hear, passes-to, w
 use Rattle.qp_port_lanes.specs.Answers.{Feeds, is_idle, turn_by}
 use Rattle.qp_port_lanes.specs.CursorAt.{IsCursorAt, mine}
 use Rattle.qp_port_lanes.specs.SourceTurning.{IsSameSource, SourceTurns}
-use Rattle.qp_port_lanes.specs.Passing.{Passes}
+use Rattle.qp_port_lanes.specs.Passing.{CursorPasses}
 use Rattle.qp_port_lanes.proofs.Feeding.{idle-long}
 use Rattle.qp_port_lanes.proofs.Standing.{may-stop}
 use Rattle.qp_port.specs.declared.job.Job.{Job}
@@ -67,7 +67,7 @@ source-turned sys budget x y v w turn.Stopped h same = (
 )
 source-turned sys budget x y v w turn.Memory h same = why-starved v w h.stops
 
-pub source-passed : (sys : System) (budget : ℕ) (x y : Cursor) (v w : LaneView) (p : Passed) → Passes sys x y v w p → IsSameSource x y → JobPasses sys budget p (job.Source y) w
+pub source-passed : (sys : System) (budget : ℕ) (x y : Cursor) (v w : LaneView) (p : Passed) → CursorPasses sys x y v w p → IsSameSource x y → JobPasses sys budget p (job.Source y) w
 source-passed sys budget x y v w passed.Yes h same = h.stays.at
 source-passed sys budget x y v w (passed.Found p now) h same = h.stays.at
 source-passed sys budget x y v w passed.Stopped h same = (
@@ -80,13 +80,13 @@ source-passed sys budget x y v w passed.Memory h same = why-starved v w h.starve
 
 -- What passing a `settle`, or a try, leaves.
 
-pub source-passed_hears : (sys : System) (x y : Cursor) (v w : LaneView) (p : Passed) → Passes sys x y v w p → Hears v w
+pub source-passed_hears : (sys : System) (x y : Cursor) (v w : LaneView) (p : Passed) → CursorPasses sys x y v w p → Hears v w
 source-passed_hears sys x y v w p h = passes-hear sys x y v w p h
 
-pub source-passed_to : (sys : System) (x y : Cursor) (v w : LaneView) (p : Passed) → IsCursorAt sys x v → Passes sys x y v w p → PassesTo v w p
+pub source-passed_to : (sys : System) (x y : Cursor) (v w : LaneView) (p : Passed) → IsCursorAt sys x v → CursorPasses sys x y v w p → PassesTo v w p
 source-passed_to sys x y v w p at h = passes-to sys x y v w p at.at.of h
 
-pub source-passed_hands : (sys : System) (x y : Cursor) (v w : LaneView) (p : Passed) → Passes sys x y v w p → w.hands ≡ v.hands
+pub source-passed_hands : (sys : System) (x y : Cursor) (v w : LaneView) (p : Passed) → CursorPasses sys x y v w p → w.hands ≡ v.hands
 source-passed_hands sys x y v w p h = passes-hands sys x y v w p h
 
 -- behind a turn, a try or a start it may take another turn

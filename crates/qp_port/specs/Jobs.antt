@@ -10,7 +10,7 @@ use Rattle.qp_kernel_turns.specs.Lanes.{LaneTurns}
 use Rattle.qp_model_order.specs.SourceRun.{untold_all}
 use Rattle.qp_port_law.specs.SourcesLeft.{SourceLeaves}
 use Rattle.qp_kernel.specs.Starts.{AreStarts, IsStartAlone}
-use Rattle.qp_port_lanes.specs.At.{HasEmptyLane, IsHome, IsMade}
+use Rattle.qp_port_lanes.specs.At.{HasEmptyLane, IsHome, IsUnstartedHome}
 use Rattle.qp_port_phases.specs.declared.lanes.Passed.{Passed}
 use Rattle.qp_port_phases.specs.Stopping.{HasStarved, HasStopped}
 use Rattle.qp_port_lanes.specs.Turning.{HomeStops, HomeTurns}
@@ -47,7 +47,7 @@ pub record IsEmptyLane (v : LaneView) : Type 0 where
 -- before the start
 abbrev pub JobBegins : System → Job → LaneView → Type 0
 JobBegins sys job.Nothing v = IsEmptyLane v
-JobBegins sys (job.Home x) v = IsMade sys x.me x × HasEmptyLane sys x.me v
+JobBegins sys (job.Home x) v = IsUnstartedHome sys x.me x × HasEmptyLane sys x.me v
 JobBegins sys (job.Source x) v = IsCursorAt sys x v
 
 -- between two turns
@@ -82,16 +82,16 @@ TurnsFrom sys budget turn.Stopped x v t y w = (t ≡ turn.Stopped) × (y ≡ x) 
 TurnsFrom sys budget turn.Memory x v t y w = (t ≡ turn.Memory) × (y ≡ x) × (w ≡ v)
 
 -- what is done in a lane behind a turn with this answer: something in that of a source alone
-abbrev pub IsOver : {O : Type 0} → (Turn → O → O → Type 0) → Job → Turn → O → O → Type 0
-IsOver Over job.Nothing t a b = b ≡ a
-IsOver Over (job.Home x) t a b = b ≡ a
-IsOver Over (job.Source x) t a b = Over t a b
+abbrev pub DoneBehindTurn : {O : Type 0} → (Turn → O → O → Type 0) → Job → Turn → O → O → Type 0
+DoneBehindTurn Over job.Nothing t a b = b ≡ a
+DoneBehindTurn Over (job.Home x) t a b = b ≡ a
+DoneBehindTurn Over (job.Source x) t a b = Over t a b
 
 -- that is the last that was done in a lane
-pub record EndsSo {O : Type 0} (lane : O → LaneView) (Over : Turn → O → O → Type 0) (x : Job) (t : Turn) (b : O) : Type 0 where
+pub record LaneEndsBehind {O : Type 0} (lane : O → LaneView) (Over : Turn → O → O → Type 0) (x : Job) (t : Turn) (b : O) : Type 0 where
   pub before : O
   pub still : lane b ≡ lane before
-  pub over : IsOver Over x t before b
+  pub over : DoneBehindTurn Over x t before b
 
 -- how many objects start in the lane
 abbrev pub starts_of : Job → ℕ

@@ -5,7 +5,7 @@ use Rattle.qp_model.specs.declared.systems.System.{System}
 use Rattle.qp_model.specs.declared.systems.ObjectDef.{ObjectDef}
 use Rattle.qp_dispatch.specs.declared.objects.Turn.{Turn}
 use Rattle.qp_dispatch.specs.declared.objects.Turn.TheVariants as turn
-use Rattle.qp_port_lanes.specs.At.{IsMade}
+use Rattle.qp_port_lanes.specs.At.{IsUnstartedHome}
 use Rattle.qp_port_lanes.specs.declared.cursor.Cursor.{Cursor}
 use Rattle.qp_port.specs.declared.job.Job.{Job}
 use Rattle.qp_port.specs.declared.job.Job.TheVariants as job
@@ -23,7 +23,7 @@ pub record IsFreshWorker (sys : System) (budget : ℕ) (s : System) (b : ℕ) (t
 
 -- it is of this object
 abbrev pub IsHomeMade : System → ObjectDef → Job → Type 0
-IsHomeMade sys d (job.Home x) = IsMade sys d.priority x
+IsHomeMade sys d (job.Home x) = IsUnstartedHome sys d.priority x
 IsHomeMade sys d job.Nothing = ⊥
 IsHomeMade sys d (job.Source x) = ⊥
 
@@ -47,7 +47,7 @@ pub record MadesHome (sys : System) (budget : ℕ) (d : ObjectDef) (s : System) 
   pub fresh : IsFreshWorker sys budget s b t
   pub its : IsHomeMade sys d x
 
-pub record MadesSource (sys : System) (budget : ℕ) (stimuli : List (List Stim)) (k : ℕ) (s : System) (b : ℕ) (t : Turn) (x : Job) : Type 0 where
+pub record IsFreshSource (sys : System) (budget : ℕ) (stimuli : List (List Stim)) (k : ℕ) (s : System) (b : ℕ) (t : Turn) (x : Job) : Type 0 where
   pub fresh : IsFreshWorker sys budget s b t
   pub its : IsSourceMade stimuli k x
 

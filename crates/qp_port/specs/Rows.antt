@@ -36,10 +36,10 @@ AreSameLanes (v ∷ vs) (w ∷ ws) = SameLane v w × AreSameLanes vs ws
 AreSameLanes [] (w ∷ ws) = ⊥
 AreSameLanes (v ∷ vs) [] = ⊥
 
-abbrev pub IsHomeOf : ObjectDef → Job → Type 0
-IsHomeOf d (job.Home x) = x.me ≡ d.priority
-IsHomeOf d job.Nothing = ⊥
-IsHomeOf d (job.Source x) = ⊥
+abbrev pub IsHomeJobOf : ObjectDef → Job → Type 0
+IsHomeJobOf d (job.Home x) = x.me ≡ d.priority
+IsHomeJobOf d job.Nothing = ⊥
+IsHomeJobOf d (job.Source x) = ⊥
 
 abbrev pub IsSourceOf : List Stim → Job → Type 0
 IsSourceOf ss (job.Source x) = mine x ≡ ss
@@ -53,7 +53,7 @@ IsNothing (job.Source x) = ⊥
 
 -- a worker for each of these objects, then one for each of these sources
 abbrev pub AreWorkers : {T : Type 0} → (T → Job) → List ObjectDef → List (List Stim) → List T → Type 0
-AreWorkers work (d ∷ ds) more (w ∷ ws) = IsHomeOf d (work w) × AreWorkers work ds more ws
+AreWorkers work (d ∷ ds) more (w ∷ ws) = IsHomeJobOf d (work w) × AreWorkers work ds more ws
 AreWorkers work [] (ss ∷ more) (w ∷ ws) = IsSourceOf ss (work w) × AreWorkers work [] more ws
 AreWorkers work [] [] [] = ⊤
 AreWorkers work [] [] (w ∷ ws) = ⊥

@@ -7,7 +7,7 @@ ghost use Rattle.qp_model.specs.Sound.{IsSound};
 ghost use Rattle.qp_kernel_turns.specs.Lanes.{SameLane};
 ghost use Rattle.qp_port_lanes.specs.Answers.{Feeds, turn_by};
 ghost use Rattle.qp_port.specs.declared.job.Job.TheVariants as job;
-ghost use Rattle.qp_port.specs.Jobs.{IsOver, IsSameJob, JobBegins, JobPasses, JobRests, JobStands, JobStartsAlone, JobTurns, is_left_in, stands_at_settle};
+ghost use Rattle.qp_port.specs.Jobs.{DoneBehindTurn, IsSameJob, JobBegins, JobPasses, JobRests, JobStands, JobStartsAlone, JobTurns, is_left_in, stands_at_settle};
 
 use crate::beside::{Beside, again};
 use crate::turns::Turns;
@@ -100,7 +100,7 @@ pub(crate) fn run_job<R: Wait, O: Ops, G: Tells, T: Turns<O>>(
 
 /// What the lane does behind a turn with this answer, where a source runs in it.
 pub(crate) fn end_turn<O: Ops, T: Turns<O>>(turns: &T, ops: &mut O, job: &Job<'_>, turn: &Turn)
-    ensures over { IsOver T.over job.now turn.now ops.old ops.new }
+    ensures over { DoneBehindTurn T.over job.now turn.now ops.old ops.new }
     ensures still { O.lane ops.new ≡ O.lane ops.old }
 {
     match job {

@@ -1,7 +1,7 @@
 //! The workers of a run, before their start.
 
 ghost use Rattle.std.specs.Prelude.{◌≡◌, ◌+◌, ◌<◌, ◌≤◌, IfOk, OnOk, length};
-ghost use Rattle.qp_port.specs.Making.{AddsAll, AddsOne, AreAllMade, HomesMade, IsFreshWorker, IsThis, MadesHome, MadesNothing, MadesSource, SourcesMade};
+ghost use Rattle.qp_port.specs.Making.{AddsAll, AddsOne, AreAllMade, HomesMade, IsFreshWorker, IsThis, MadesHome, MadesNothing, IsFreshSource, SourcesMade};
 
 use crate::job::Job;
 use crate::turns::Turns;
@@ -82,7 +82,7 @@ fn add_sources<'a, O: Meets + Drop, G: Tells, T: Turns<O>>(
 ) -> Result<(), Memory>
     requires enough { length sources.now ≤ length lanes.old.items }
     requires few { source + length sources.now ≤ 50 }
-    ensures { OnOk result (AddsAll (λ w. w.lane) (SourcesMade (λ k w. MadesSource at.now.sys.now at.now.budget at.now.stim.now k w.sys.now w.budget w.turn w.job) source sources.now) lanes.old.items workers.old.items lanes.new.items workers.new.items) }
+    ensures { OnOk result (AddsAll (λ w. w.lane) (SourcesMade (λ k w. IsFreshSource at.now.sys.now at.now.budget at.now.stim.now k w.sys.now w.budget w.turn w.job) source sources.now) lanes.old.items workers.old.items lanes.new.items workers.new.items) }
 {
     let Some((_, rest)) = sources.split_first() else {
         return Ok(());
@@ -105,7 +105,7 @@ pub(crate) fn new_workers<'a, O: Meets + Drop, G: Tells, T: Turns<O>>(
     requires few { length at.now.stim.now ≤ 16 }
     ensures { IfOk result (λ ws. AreAllMade (λ w. w.lane) (λ w. MadesNothing at.now.sys.now at.now.budget w.sys.now w.budget w.turn w.job)
         (λ d w. MadesHome at.now.sys.now at.now.budget d w.sys.now w.budget w.turn w.job)
-        (λ k w. MadesSource at.now.sys.now at.now.budget at.now.stim.now k w.sys.now w.budget w.turn w.job)
+        (λ k w. IsFreshSource at.now.sys.now at.now.budget at.now.stim.now k w.sys.now w.budget w.turn w.job)
         at.now.sys.now.objects at.now.stim.now lanes.items ws.items) }
 {
     let sys = at.sys;

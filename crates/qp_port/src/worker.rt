@@ -4,7 +4,7 @@ ghost use Rattle.std.specs.Prelude.{◌≡◌, refl, true};
 ghost use Rattle.qp_port_lanes.specs.Answers.{is_idle, is_short};
 ghost use Rattle.qp_model_order.specs.SourceRun.{untold_all};
 ghost use Rattle.qp_kernel.specs.Starts.{AreStarts};
-ghost use Rattle.qp_port.specs.Jobs.{EndsSo, JobIsAlone, JobTurns, TurnsFrom, is_left_in, stands_at_settle, starts_of};
+ghost use Rattle.qp_port.specs.Jobs.{LaneEndsBehind, JobIsAlone, JobTurns, TurnsFrom, is_left_in, stands_at_settle, starts_of};
 ghost use Rattle.qp_port.specs.Alone.{none-alone};
 ghost use Rattle.qp_port.specs.Numbers.{counts-none, none-more, uncounted};
 ghost use Rattle.qp_port.specs.Workers.{IsSameWorker, MayBegin, MayTurn, same-itself, same-still, same-table};
@@ -88,7 +88,7 @@ impl<O: Meets + Send, G: Tells + Sync, T: Turns<O> + Sync> Worker for PortWorker
     ghost ready = { λ w. MayTurn w.sys.now w.budget w.turn w.job (O.lane w.lane) };
 
     ghost turned = { λ a b. MayTurn b.sys.now b.budget b.turn b.job (O.lane b.lane) × IsSameWorker a.sys.now b.sys.now a.budget b.budget a.job b.job (O.lane a.lane) (O.lane b.lane)
-        × TurnsFrom a.sys.now a.budget a.turn a.job (O.lane a.lane) b.turn b.job (O.lane b.lane) × EndsSo O.lane T.over b.job b.turn b.lane };
+        × TurnsFrom a.sys.now a.budget a.turn a.job (O.lane a.lane) b.turn b.job (O.lane b.lane) × LaneEndsBehind O.lane T.over b.job b.turn b.lane };
 
     fn turn<R: Wait>(&mut self, rt: &R) {
         self.take_turn(rt);

@@ -9,23 +9,23 @@ use Rattle.qp_calls.proofs.Advancing.{advances-none}
 use Rattle.qp_dispatch.specs.declared.lasting.Lasting.{Lasting}
 use Rattle.qp_dispatch.specs.declared.steps.Position.{Position}
 use Rattle.qp_dispatch.specs.declared.steps.Position.TheVariants as standing
-use Rattle.qp_dispatch.specs.Objects.{home_of}
+use Rattle.qp_dispatch.specs.Objects.{setting_for}
 use Rattle.qp_dispatch.specs.Parts.{IsPublishing, held_by}
 use Rattle.qp_dispatch.specs.declared.part.Under.{Under}
-use Rattle.qp_dispatch.specs.Resume.{IsUnderWay, event_in, left_of}
-use Rattle.qp_dispatch.specs.Runs.{Setting}
+use Rattle.qp_dispatch.specs.Resume.{IsUnderWay, step_event, remainder_of}
+use Rattle.qp_dispatch.specs.Runs.{ObjectSetting}
 use Rattle.qp_kernel_turns.specs.Halting.{asked_once}
 use Rattle.qp_port_lanes.specs.declared.cursor.Cursor.{Cursor}
 use Rattle.qp_port_lanes.specs.declared.home.Home.{Home}
 use Rattle.qp_port_lanes.specs.At.{IsBusyHome}
 use Rattle.qp_port_lanes.specs.CursorAt.{IsCursorAt}
-use Rattle.qp_port_lanes.specs.Laws.{SeesMore}
+use Rattle.qp_port_lanes.specs.Laws.{LaneSeesMore}
 use Rattle.qp_port_lanes.specs.SourceTurning.{CursorGoes}
 use Rattle.qp_port_lanes.proofs.Standing.{stay}
 
 -- A source.
 
-more-once : (v : LaneView) → SeesMore v (asked_once v)
+more-once : (v : LaneView) → LaneSeesMore v (asked_once v)
 more-once v = record { sys = refl; told = refl; by = refl; hands = refl; rise = λ p. omega arith; shown = λ p e. refl; asked = omega arith }
 
 pub cursor-once : (sys : System) (x : Cursor) (v : LaneView) → IsCursorAt sys x v → CursorGoes sys x x v (asked_once v)
@@ -54,7 +54,7 @@ publishing-once : (u : Option Under) (v : LaneView) → IsPublishing u v → IsP
 publishing-once None v h = h
 publishing-once (Some u) v h = h
 
-under-way-once : (home : Setting) (k : Lasting) (st : Position) (v : LaneView) → IsUnderWay home k st v → IsUnderWay home k st (asked_once v)
+under-way-once : (home : ObjectSetting) (k : Lasting) (st : Position) (v : LaneView) → IsUnderWay home k st v → IsUnderWay home k st (asked_once v)
 under-way-once home k standing.Between v h = h
 under-way-once home k (standing.Taken e) v h = record { stand = stand-once (k.list.entries.items ++ e ∷ []) v h.stand; few = h.few }
 under-way-once home k (standing.Within g) v h = record {
@@ -67,13 +67,13 @@ under-way-once home k (standing.Within g) v h = record {
   few = h.few;
 }
 
-event-once : (st : Position) (v : LaneView) → event_in st (asked_once v) ≡ event_in st v
+event-once : (st : Position) (v : LaneView) → step_event st (asked_once v) ≡ step_event st v
 event-once standing.Between v = refl
 event-once (standing.Taken (token.Static sig)) v = refl
 event-once (standing.Taken (token.Pool h)) v = refl
 event-once (standing.Within g) v = refl
 
-left-once : (home : Setting) (k : Lasting) (st : Position) (v : LaneView) → left_of home k st (asked_once v) ≡ left_of home k st v
+left-once : (home : ObjectSetting) (k : Lasting) (st : Position) (v : LaneView) → remainder_of home k st (asked_once v) ≡ remainder_of home k st v
 left-once home k standing.Between v = refl
 left-once home k (standing.Taken (token.Static sig)) v = refl
 left-once home k (standing.Taken (token.Pool h)) v = refl
@@ -110,10 +110,10 @@ busy-once sys budget x v h = (
     unseen = h.unseen;
     turn = record {
       started = h.turn.started;
-      under_way = under-way-once (home_of sys h.chart x.object) x.object.lasting x.object.stage v h.turn.under_way;
+      under_way = under-way-once (setting_for sys h.chart x.object) x.object.lasting x.object.stage v h.turn.under_way;
       event = h.turn.event ∙ sym (event-once x.object.stage v);
       entry = h.turn.entry;
-      left = h.turn.left ∙ sym (left-once (home_of sys h.chart x.object) x.object.lasting x.object.stage v);
+      left = h.turn.left ∙ sym (left-once (setting_for sys h.chart x.object) x.object.lasting x.object.stage v);
       config = h.turn.config;
     };
     taken = h.taken;

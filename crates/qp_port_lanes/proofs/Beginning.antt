@@ -15,7 +15,7 @@ use Rattle.qp_calls.specs.Tokens.{Token}
 use Rattle.qp_dispatch.specs.declared.lasting.Lasting.{Lasting}
 use Rattle.qp_dispatch.specs.declared.objects.Object.{Object}
 use Rattle.qp_dispatch.specs.Lasts.{actor_of, config_of}
-use Rattle.qp_dispatch.specs.Objects.{BeginsStep, home_of}
+use Rattle.qp_dispatch.specs.Objects.{BeginsStep, setting_for}
 use Rattle.qp_dispatch.specs.Resume.{IsTaken, event_in_hand, held_in}
 use Rattle.qp_dispatch.proofs.Quiet.{spills-append}
 use Rattle.qp_dispatch.proofs.Taking.{taken-is}
@@ -58,7 +58,7 @@ module _ (sys : System) (sound : IsSound sys) (budget : ℕ) (x : Home) (v w : L
       alike : ChangeAlike (map entry_of (held_in k x.object.stage)) (map entry_of (held_in y.lasting y.stage)) v w
       alike = rw (begins, h.rest.between) (taken-alike k x.me e v w takes)
 
-  turn : IsInTurn (home_of sys h.chart y) ev (entry_of e) (whole_step (actor h.d h.chart) h.c ev) h.c y w
+  turn : IsInTurn (setting_for sys h.chart y) ev (entry_of e) (whole_step (actor h.d h.chart) h.c ev) h.c y w
   turn = rw begins (record {
     started = h.rest.started;
     under_way = is-taken;

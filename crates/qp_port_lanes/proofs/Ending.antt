@@ -18,7 +18,7 @@ use Rattle.qp_calls_stimulus.specs.Settling.{SeesNone, SeesSome, SettleCut}
 use Rattle.qp_kernel_turns.specs.Halting.{asked_once}
 use Rattle.qp_port_lanes.specs.declared.cursor.Cursor.{Cursor}
 use Rattle.qp_model.specs.Kernels.{sim}
-use Rattle.qp_port_lanes.specs.CursorAt.{IsCursorAt, IsSourceAt, done, mine, tries_in}
+use Rattle.qp_port_lanes.specs.CursorAt.{IsCursorAt, IsSourceAt, stimuli_done, mine, tries_in}
 use Rattle.qp_port_phases.specs.Passing.{AddsLook}
 use Rattle.qp_port_lanes.specs.Passing.{FindsEntry, FindsNone, Glances, GoesAlong, HasPassed, IsClear, Opens, SeesAllEmpty, ShowsEntry, StarvesThere, StopsThere, opening_of, settles_of}
 use Rattle.qp_port_lanes.proofs.Going.{unspilled-told}
@@ -54,7 +54,7 @@ module _ (sys : System) (x y : Cursor) (v0 v1 v2 w : LaneView) (at : IsCursorAt 
   asked_more : suc v0.asked ≤ w.asked
   asked_more = let one = ap (λ r. r.asked) room.same in let two = glances.asked in let three = opens.along.asked in omega (arith, one, two, three)
 
-  few_done : done x ≤ x.begun
+  few_done : stimuli_done x ≤ x.begun
   few_done = by x.settling
     where
       by : (b : Bool) → cond b (x.begun - 1) x.begun ≤ x.begun
@@ -90,7 +90,7 @@ module _ (sys : System) (x y : Cursor) (v0 v1 v2 w : LaneView) (at : IsCursorAt 
             some = at.some;
             there = at.there;
             begun = λ e. absurd (cc);
-            at = settled-at sys (mine x) (done x) w opens.here u seen;
+            at = settled-at sys (mine x) (stimuli_done x) w opens.here u seen;
             asked = let few = few_done in let more = asked_more in let had = at.asked in let last = seen.grows.asked in omega (arith, few, more, had, last);
           };
           stim = refl;
@@ -111,7 +111,7 @@ module _ (sys : System) (x y : Cursor) (v0 v1 v2 w : LaneView) (at : IsCursorAt 
             omega (arith, before, told, last, now, some);
       })
 
-  same-count : done x + 1 - 1 ≡ done x
+  same-count : stimuli_done x + 1 - 1 ≡ stimuli_done x
   same-count = omega arith
 
   pub passes-found : (u : LaneView) (p : ℕ) (c : counts.Counts) → (h : SeesSome sys w u) × (h.found.object ≡ p) × (h.found.counts ≡ c) → FindsEntry sys p c x y v0 u
@@ -124,7 +124,7 @@ module _ (sys : System) (x y : Cursor) (v0 v1 v2 w : LaneView) (at : IsCursorAt 
             some = at.some;
             there = at.there;
             begun = λ e. omega arith;
-            at = subst (λ n. IsSourceAt sys (mine x) n true u) (sym same-count) (tried-at sys (mine x) (done x) w opens.here u h.0 still_clear);
+            at = subst (λ n. IsSourceAt sys (mine x) n true u) (sym same-count) (tried-at sys (mine x) (stimuli_done x) w opens.here u h.0 still_clear);
             asked = let few = few_done in let more = asked_more in let had = at.asked in let last = h.0.grows.asked in omega (arith, few, more, had, last);
           };
           stim = refl;
@@ -136,21 +136,21 @@ module _ (sys : System) (x y : Cursor) (v0 v1 v2 w : LaneView) (at : IsCursorAt 
         stands = refl;
         shows =
             subst (λ q. ShowsEntry sys q c u) h.1
-            (subst (λ d. ShowsEntry sys h.0.found.object d u) h.2 (shows-now sys (mine x) (done x) w opens.here u h.0 still_clear));
+            (subst (λ d. ShowsEntry sys h.0.found.object d u) h.2 (shows-now sys (mine x) (stimuli_done x) w opens.here u h.0 still_clear));
         told = inr (record { first = first; adds = adds (SeesEntry (priorities sys)) h.0.one u h.0.grows h.0.fits; under_way = refl });
       })
 
   module _ (u : LaneView) (cut : SettleCut sys w u) where
     behind : GoesAlong v0 u
-    behind = along-then v0 w u so_far (along-gains _ w u cut.grows (cut-hands sys (mine x) (done x) w opens.here u u cut))
+    behind = along-then v0 w u so_far (along-gains _ w u cut.grows (cut-hands sys (mine x) (stimuli_done x) w opens.here u u cut))
 
-    same : done y ≡ done x
-    same = ap done opens.cursor ∙ same-count
+    same : stimuli_done y ≡ stimuli_done x
+    same = ap stimuli_done opens.cursor ∙ same-count
 
     opening_none : tries_in (map (for_object 0) (opening_of x)) ≡ []
     opening_none = by x.settling
       where
-        by : (b : Bool) → tries_in (map (for_object 0) (cond b [] (plain (body.Stim (done x + 1) 0) ∷ []))) ≡ []
+        by : (b : Bool) → tries_in (map (for_object 0) (cond b [] (plain (body.Stim (stimuli_done x + 1) 0) ∷ []))) ≡ []
         by true = refl
         by false = refl
 
@@ -161,12 +161,12 @@ module _ (sys : System) (x y : Cursor) (v0 v1 v2 w : LaneView) (at : IsCursorAt 
         (plain-seen cut.g (cut-is-plain sys cut.g cut.rest cut.some (cut.fits sim))) (cut.fits sim) (subst (λ o. GrowsOf o cut.g w u) opens.here.none cut.grows) still_clear
 
     pub cut-unspilled : spills_told u.told ≡ false
-    cut-unspilled = unspilled-told u.told (cut-calm sys (mine x) (done x) w opens.here u u cut)
+    cut-unspilled = unspilled-told u.told (cut-calm sys (mine x) (stimuli_done x) w opens.here u u cut)
 
     pub cut-stops : (z : LaneView) → HaltsFull u z → StopsThere sys x y v0 z
     cut-stops z full =
         let stops = stops-behind sys x v0 u z behind
-        (full-stops sys x u z (λ kernel end may early. cut-leaves sys (mine x) (done x) w opens.here u z cut kernel end may early full) full) in
+        (full-stops sys x u z (λ kernel end may early. cut-leaves sys (mine x) (stimuli_done x) w opens.here u z cut kernel end may early full) full) in
         full-there sys x y v0 u z behind finds full same (record { leaves = stops.leaves; why = stops.why; ts = stops.ts; told = stops.told; keeps = stops.keeps })
 
     pub cut-starves : (z : LaneView) → HaltsDry u z → StarvesThere sys x y v0 z

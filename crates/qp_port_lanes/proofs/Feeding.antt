@@ -15,7 +15,7 @@ use Rattle.qp_port_phases.specs.declared.lanes.Passed.{Passed}
 use Rattle.qp_port_phases.specs.declared.lanes.Passed.TheVariants as passed
 use Rattle.qp_port_lanes.specs.declared.cursor.Cursor.{Cursor}
 use Rattle.qp_port_lanes.specs.Answers.{Feeds, IsFed, is_idle, is_short, turn_by}
-use Rattle.qp_port_lanes.specs.Passing.{Passes}
+use Rattle.qp_port_lanes.specs.Passing.{CursorPasses}
 use Rattle.qp_port_lanes.specs.SourceTurning.{SourceTurns}
 use Rattle.qp_port_lanes.proofs.Seeing.{SeenMore}
 use Rattle.qp_calls_log.proofs.NoteLemmas.{last-small}
@@ -58,7 +58,7 @@ source-feeds sys x y v w turn.Idle k long h = fed-same v w k.goes.stops h
 source-feeds sys x y v w turn.Stopped k long h = fed-why v w k.why h
 source-feeds sys x y v w turn.Memory k long h = absurd (cc)
 
-pub passes-feed : (sys : System) (x y : Cursor) (v w : LaneView) (p : Passed) → Passes sys x y v w p → Feeds v w (turn_by p)
+pub passes-feed : (sys : System) (x y : Cursor) (v w : LaneView) (p : Passed) → CursorPasses sys x y v w p → Feeds v w (turn_by p)
 passes-feed sys x y v w passed.Yes k long h = fed-same v w k.stays.along.stops h
 passes-feed sys x y v w (passed.Found q now) k long h = fed-same v w k.stays.along.stops h
 passes-feed sys x y v w passed.Stopped k long h = fed-why v w k.stops.why h

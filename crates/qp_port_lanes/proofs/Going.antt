@@ -11,7 +11,7 @@ use Rattle.qp_model.specs.declared.bodies.Body.TheVariants as body
 use Rattle.qp_model.specs.Told.{Told, ToldItem, plain, for_object}
 use Rattle.qp_model.specs.Knowing.{told_alone}
 use Rattle.qp_model.specs.Kernels.{may_try}
-use Rattle.qp_model.specs.Ends.{is_end, is_spill, may_cut, may_cut}
+use Rattle.qp_model.specs.Ends.{is_end, is_spill, may_cut}
 use Rattle.qp_model.specs.Sources.{SourceRuns, AllDone, BeforeStimulus, EndsIn, none_twice}
 use Rattle.qp_calls.specs.LaneView.{Advances, LaneView, Gains, Grows, GrowsOf}
 use Rattle.qp_calls.specs.LaneLaws.{IsWithinLimit}
@@ -24,7 +24,7 @@ use Rattle.qp_model_order.proofs.SourceLemmas.{runs-before}
 use Rattle.qp_kernel.proofs.HappeningLemmas.{one as as_one, count-cons}
 use Rattle.qp_port_law.specs.SourcesLeft.{SourceLeaves}
 use Rattle.qp_calls.specs.Halting.{HaltsFull}
-use Rattle.qp_calls_stimulus.specs.Stimulating.{Happens, Asserts, Spills, begun}
+use Rattle.qp_calls_stimulus.specs.Stimulating.{StimulusHappens, StimulusAsserts, Spills, begun_records}
 use Rattle.qp_kernel_turns.specs.Lanes.{SameLane}
 use Rattle.qp_port_lanes.specs.CursorAt.{IsKnownTry, IsSourceAt, tries_in}
 use Rattle.qp_port_lanes.proofs.Leaving.{Calm, Done, still, full-lane, done-more, quiet-more, asserted-lane, cut-lane, tries-quiet}
@@ -134,9 +134,9 @@ module _ (sys : System) (ss : List Stim) (n : ℕ) (v w : LaneView) (at : IsSour
   its : (g : List Told) (u : LaneView) → Grows g v u → GrowsOf 0 g v u
   its g u grows = subst (λ o. GrowsOf o g v u) at.none grows
 
-  pub went : (h : Happens sys s (n + 1) 0 v w) → IsSourceAt sys ss (n + 1) false w
+  pub went : (h : StimulusHappens sys s (n + 1) 0 v w) → IsSourceAt sys ss (n + 1) false w
   went h =
-      let g = its (begun (n + 1) 0 h.one) w h.grows in
+      let g = its (begun_records (n + 1) 0 h.one) w h.grows in
       let told : w.told ≡ v.told ++ stimulus_told (1 + length (take n ss)) 0 h.one = g.told ∙ ap (λ k. v.told ++ stimulus_told k 0 h.one) (sym count) in
       let next = done-more sys (take n ss) v.told (done-at sys ss n v at) s h.one h.fits in
       let quiet = quiet-more sys (take n ss) v.told (done-at sys ss n v at) s h.one h.fits in
@@ -158,9 +158,9 @@ module _ (sys : System) (ss : List Stim) (n : ℕ) (v w : LaneView) (at : IsSour
       }
 
   -- it ends in its assertion
-  pub failed : (kernel end : ℕ) → may_try kernel ≡ true → may_cut end ≡ true → Asserts sys s (n + 1) 0 v w → SourceLeaves sys kernel end ss w.told
+  pub failed : (kernel end : ℕ) → may_try kernel ≡ true → may_cut end ≡ true → StimulusAsserts sys s (n + 1) 0 v w → SourceLeaves sys kernel end ss w.told
   failed kernel end try early h =
-      let g = its (begun (n + 1) 0 h.one) h.mid h.grows in
+      let g = its (begun_records (n + 1) 0 h.one) h.mid h.grows in
       let told : w.told ≡ v.told ++ stimulus_told (1 + length (take n ss)) 0 h.one = ap (λ x. x.told) h.stops ∙ g.told ∙ ap (λ k. v.told ++ stimulus_told k 0 h.one) (sym count) in
       subst (λ xs. SourceLeaves sys kernel end xs w.told) whole (subst (SourceLeaves sys kernel end (take n ss ++ s ∷ left)) (sym told)
       (asserted-lane sys (take n ss) v.told (done-at sys ss n v at) s kernel end left h.one try early h.fits))
@@ -168,7 +168,7 @@ module _ (sys : System) (ss : List Stim) (n : ℕ) (v w : LaneView) (at : IsSour
   -- a `spill` cuts it
   pub spilled : (kernel end : ℕ) → may_try kernel ≡ true → may_cut end ≡ true → Spills sys s (n + 1) 0 v w → SourceLeaves sys kernel end ss w.told
   spilled kernel end try early h =
-      let g = its (begun (n + 1) 0 h.one) h.mid h.grows in
+      let g = its (begun_records (n + 1) 0 h.one) h.mid h.grows in
       let size = length h.mid.told in
       let spill : List ToldItem = for_object 0 (plain (body.Spill size)) ∷ [] in
       let mid : h.mid.told ≡ v.told ++ stimulus_told (1 + length (take n ss)) 0 h.one = g.told ∙ ap (λ k. v.told ++ stimulus_told k 0 h.one) (sym count) in

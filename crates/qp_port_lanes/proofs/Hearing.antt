@@ -16,8 +16,8 @@ use Rattle.qp_port_phases.specs.declared.lanes.Passed.TheVariants as passed
 use Rattle.qp_port_phases.specs.Passing.{AddsLook, IsOpening, PassesTo, TriesOnce}
 use Rattle.qp_port_phases.specs.Stopping.{HasStarved, HasStopped, Hears, StopsNow}
 use Rattle.qp_port_lanes.specs.declared.cursor.Cursor.{Cursor}
-use Rattle.qp_port_lanes.specs.CursorAt.{done}
-use Rattle.qp_port_lanes.specs.Passing.{Passes, TriedOnce, opening_of}
+use Rattle.qp_port_lanes.specs.CursorAt.{stimuli_done}
+use Rattle.qp_port_lanes.specs.Passing.{CursorPasses, TriedOnce, opening_of}
 use Rattle.qp_port_lanes.proofs.Seeing.{SeenMore}
 
 -- Codes are heard of.
@@ -63,7 +63,7 @@ lane-hears acts v w turn.Idle h = hears-none v w h.stops h.answered
 lane-hears acts v w turn.Stopped h = hears-why v w h.handed
 lane-hears acts v w turn.Memory h = hears-one 7 v w h.handed
 
-pub passes-hear : (sys : System) (x y : Cursor) (v w : LaneView) (p : Passed) → Passes sys x y v w p → Hears v w
+pub passes-hear : (sys : System) (x y : Cursor) (v w : LaneView) (p : Passed) → CursorPasses sys x y v w p → Hears v w
 passes-hear sys x y v w passed.Stopped h = hears-why v w h.stops.why
 passes-hear sys x y v w passed.Memory h = hears-one 7 v w h.starves.stops
 passes-hear sys x y v w _ h = hears-none v w h.stays.along.stops h.stays.along.answered
@@ -97,15 +97,15 @@ stops-now v w (inr h) = inr (h.found, h.stops)
 opens : (x : Cursor) → IsOpening (opening_of x)
 opens x = by x.settling refl
   where
-    by : (b : Bool) → x.settling ≡ b → IsOpening (cond b [] (plain (body.Stim (done x + 1) 0) ∷ []))
+    by : (b : Bool) → x.settling ≡ b → IsOpening (cond b [] (plain (body.Stim (stimuli_done x + 1) 0) ∷ []))
     by true e = tt
-    by false e = (done x + 1, refl)
+    by false e = (stimuli_done x + 1, refl)
 
 found-by : (sys : System) (x y : Cursor) (v w : LaneView) → v.sys ≡ sys → ((w.told ≡ v.told) × (y ≡ x)) ⊎ TriedOnce sys x y v w → (w.told ≡ v.told) ⊎ TriesOnce v w
 found-by sys x y v w of (inl h) = inl h.0
 found-by sys x y v w of (inr h) = inr (record { opening = opening_of x; opens = opens x; adds = subst (λ s. AddsLook (SeesEntry (priorities s)) (opening_of x) v w) (sym of) h.adds })
 
-pub passes-to : (sys : System) (x y : Cursor) (v w : LaneView) (p : Passed) → v.sys ≡ sys → Passes sys x y v w p → PassesTo v w p
+pub passes-to : (sys : System) (x y : Cursor) (v w : LaneView) (p : Passed) → v.sys ≡ sys → CursorPasses sys x y v w p → PassesTo v w p
 passes-to sys x y v w passed.Yes of h = record {
   opening = opening_of x;
   opens = opens x;
@@ -123,7 +123,7 @@ passes-to sys x y v w (passed.Found p c) of h = record {
 passes-to sys x y v w passed.Stopped of h = inl (stops-now v w h.stops.why)
 passes-to sys x y v w passed.Memory of h = inl h.starves.stops
 
-pub passes-hands : (sys : System) (x y : Cursor) (v w : LaneView) (p : Passed) → Passes sys x y v w p → w.hands ≡ v.hands
+pub passes-hands : (sys : System) (x y : Cursor) (v w : LaneView) (p : Passed) → CursorPasses sys x y v w p → w.hands ≡ v.hands
 passes-hands sys x y v w passed.Stopped h = h.hands
 passes-hands sys x y v w passed.Memory h = h.hands
 passes-hands sys x y v w _ h = h.stays.along.hands

@@ -15,7 +15,7 @@ use Rattle.qp_kernel_turns.specs.declared.halting.Halt.TheVariants as halt
 use Rattle.qp_kernel_turns.specs.Halting.{TurnHalts, asked_once}
 use Rattle.qp_port_law.specs.HomeLanes.{looks_in, nils_in}
 use Rattle.qp_port_law.proofs.HomeRecords.{AreInside, inside-looks, inside-nils, looks-append, nils-append, of_it}
-use Rattle.qp_port_lanes.specs.Turning.{NeverEmpty, is_entry}
+use Rattle.qp_port_lanes.specs.Turning.{NeverEmpty, shows_entry}
 
 pub never-same : (v w : LaneView) → w.told ≡ v.told → NeverEmpty v w
 never-same v w same = record { ts = []; told = same ∙ sym (append-nil v.told); nils = refl; looks = refl }
@@ -28,12 +28,12 @@ never-then u v w a b = record {
   ts = a.ts ++ b.ts;
   told = b.told ∙ ap (λ ts. ts ++ b.ts) a.told ∙ append_assoc u.told a.ts b.ts;
   nils = nils-append a.ts b.ts ∙ ap (λ xs. xs ++ nils_in b.ts) a.nils ∙ b.nils;
-  looks = ap (list_all is_entry) (looks-append a.ts b.ts) ∙ list_all-append is_entry (looks_in a.ts) (looks_in b.ts) ∙ rw (a.looks, b.looks) refl;
+  looks = ap (list_all shows_entry) (looks-append a.ts b.ts) ∙ list_all-append shows_entry (looks_in a.ts) (looks_in b.ts) ∙ rw (a.looks, b.looks) refl;
 }
 
 -- records of the inside of a step
 pub never-inside : (o : ℕ) (g : List Told) (v w : LaneView) → w.told ≡ v.told ++ of_it o g → AreInside g → NeverEmpty v w
-never-inside o g v w told inside = record { ts = of_it o g; told = told; nils = inside-nils o g inside; looks = ap (list_all is_entry) (inside-looks o g inside) }
+never-inside o g v w told inside = record { ts = of_it o g; told = told; nils = inside-nils o g inside; looks = ap (list_all shows_entry) (inside-looks o g inside) }
 
 pub never-spilled : (n : ℕ) (v w : LaneView) → w.told ≡ v.told ++ spill_told n ∷ [] → NeverEmpty v w
 never-spilled n v w told = record { ts = spill_told n ∷ []; told = told; nils = refl; looks = refl }

@@ -13,8 +13,8 @@ use Rattle.qp_calls.specs.Tokens.{hands_after, hands_by}
 use Rattle.qp_model_order.specs.SourceRun.{untold_all}
 use Rattle.qp_model_order.proofs.StimLemmas.{any-both}
 use Rattle.qp_port_lanes.specs.declared.cursor.Cursor.{Cursor}
-use Rattle.qp_port_lanes.specs.CursorAt.{IsCursorAt, IsKnownTry, IsSourceAt, at_settle_in, begins_settle, done, mine, tries_in}
-use Rattle.qp_port_lanes.specs.Passing.{IsOpen, Opens, opening_of}
+use Rattle.qp_port_lanes.specs.CursorAt.{IsCursorAt, IsKnownTry, IsSourceAt, at_settle_in, begins_settle, stimuli_done, mine, tries_in}
+use Rattle.qp_port_lanes.specs.Passing.{IsInSettle, Opens, opening_of}
 use Rattle.qp_port_lanes.proofs.Leaving.{tries-quiet, untold-append}
 use Rattle.qp_port_lanes.proofs.Going.{done-at, known-later}
 use Rattle.qp_port_lanes.proofs.Waiting.{begins-is}
@@ -26,23 +26,23 @@ no-tries os = refl
 
 -- it was before
 module _ (sys : System) (x : Cursor) (v : LaneView) (at : IsCursorAt sys x v) (settling : x.settling ≡ true) where
-  whole : IsSourceAt sys (mine x) (done x) true v
-  whole = subst (λ b. IsSourceAt sys (mine x) (done x) b v) settling at.at
+  whole : IsSourceAt sys (mine x) (stimuli_done x) true v
+  whole = subst (λ b. IsSourceAt sys (mine x) (stimuli_done x) b v) settling at.at
 
-  next_place : x.begun ≡ done x + 1
+  next_place : x.begun ≡ stimuli_done x + 1
   next_place =
       let some = at.begun settling in
-      let is : done x ≡ x.begun - 1 = ap (λ b. cond b (x.begun - 1) x.begun) settling in
+      let is : stimuli_done x ≡ x.begun - 1 = ap (λ b. cond b (x.begun - 1) x.begun) settling in
       omega (arith, some, is)
 
   whole_told : v.told ≡ v.told ++ map (for_object 0) (opening_of x)
-  whole_told = sym (append-nil v.told) ∙ ap (λ b. v.told ++ map (for_object 0) (cond b [] (plain (body.Stim (done x + 1) 0) ∷ []))) (sym settling)
+  whole_told = sym (append-nil v.told) ∙ ap (λ b. v.told ++ map (for_object 0) (cond b [] (plain (body.Stim (stimuli_done x + 1) 0) ∷ []))) (sym settling)
 
   pub opens-still : Opens sys x x v v
   opens-still =
       let t = whole.under_way in
       record {
-        cursor = ap (λ n. record x { begun = n }) next_place ∙ ap (λ b. record x { begun = done x + 1; settling = b }) settling;
+        cursor = ap (λ n. record x { begun = n }) next_place ∙ ap (λ b. record x { begun = stimuli_done x + 1; settling = b }) settling;
         opened = whole_told;
         here = record {
           of = whole.of;
@@ -81,10 +81,10 @@ module _ (sys : System) (x : Cursor) (v w : LaneView) (at : IsCursorAt sys x v) 
   unfolding mark_after mark_by
   same_mark p = grown.mark (word.Queue p)
 
-  counted : done x ≡ x.begun
+  counted : stimuli_done x ≡ x.begun
   counted = ap (λ b. cond b (x.begun - 1) x.begun) calm
 
-  open_here : IsOpen sys (mine x) x.begun w
+  open_here : IsInSettle sys (mine x) x.begun w
   open_here =
       let ts = map (for_object 0) (plain (body.Stim (x.begun + 1) 0) ∷ []) in
       let next = begins-is (drop x.begun (mine x)) (subst (λ b. (b || begins_settle (drop x.begun (mine x))) ≡ true) calm stands) in
@@ -112,8 +112,8 @@ module _ (sys : System) (x : Cursor) (v w : LaneView) (at : IsCursorAt sys x v) 
   pub opens-new : Opens sys x (record x { begun = x.begun + 1; settling = true }) v w
   opens-new = record {
     cursor = ap (λ n. record x { begun = n + 1; settling = true }) (sym counted);
-    opened = grown.told ∙ ap (λ n. v.told ++ map (for_object 0) (plain (body.Stim (n + 1) 0) ∷ [])) (sym counted) ∙ ap (λ b. v.told ++ map (for_object 0) (cond b [] (plain (body.Stim (done x + 1) 0) ∷ []))) (sym calm);
-    here = subst (λ n. IsOpen sys (mine x) n w) (sym counted) open_here;
+    opened = grown.told ∙ ap (λ n. v.told ++ map (for_object 0) (plain (body.Stim (n + 1) 0) ∷ [])) (sym counted) ∙ ap (λ b. v.told ++ map (for_object 0) (cond b [] (plain (body.Stim (stimuli_done x + 1) 0) ∷ []))) (sym calm);
+    here = subst (λ n. IsInSettle sys (mine x) n w) (sym counted) open_here;
     along = along-gains (map (for_object 0) (plain (body.Stim (x.begun + 1) 0) ∷ [])) v w grown same_hands;
     clear = λ p k. record { f = k.f; l = k.l; m = k.m; mark = same_mark p ∙ k.mark; shown = grown.shown (word.Queue p) (same_mark p) ∙ k.shown; empty = k.empty };
   }

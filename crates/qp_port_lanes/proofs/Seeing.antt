@@ -6,13 +6,13 @@ use Rattle.qp_calls.specs.Clauses.{Counted, Stopped}
 use Rattle.qp_calls.specs.LaneView.{LaneView}
 use Rattle.qp_calls_log.specs.Meeting.{Met}
 use Rattle.qp_kernel_turns.specs.Lanes.{SameLane}
-use Rattle.qp_port_lanes.specs.Laws.{SeesMore}
+use Rattle.qp_port_lanes.specs.Laws.{LaneSeesMore}
 use Rattle.qp_calls.proofs.Advancing.{advances-looks, advances-same, looks-rise}
 use Rattle.qp_calls_log.proofs.Meetings.{advances-met}
 
 -- nothing of it changed but what it has seen, and the codes that it found
 pub record SeenMore (v w : LaneView) : Type 0 where
-  pub sees : SeesMore v w
+  pub sees : LaneSeesMore v w
   pub same : SameLane v w
   pub own : (a : ℕ) → w.own a ≡ v.own a
   pub stops : w.stops ≡ v.stops

@@ -26,7 +26,7 @@ use Rattle.qp_model_order.proofs.StimLemmas.{any-both}
 use Rattle.qp_port_law.specs.SourcesLeft.{SourceLeaves}
 use Rattle.qp_calls_stimulus.specs.Settling.{SeesNone, SeesSome, SettleCut}
 use Rattle.qp_port_lanes.specs.CursorAt.{IsKnownTry, IsSourceAt, tries_in}
-use Rattle.qp_port_lanes.specs.Passing.{IsClear, IsOpen, ShowsEntry}
+use Rattle.qp_port_lanes.specs.Passing.{IsClear, IsInSettle, ShowsEntry}
 use Rattle.qp_port_lanes.proofs.Leaving.{Calm, alone-append, full-lane, no-look, tries-append, tries-quiet, untold-append}
 use Rattle.qp_model_order.proofs.SourceLanes.{alone-source}
 use Rattle.qp_port_lanes.proofs.Going.{known-later}
@@ -80,7 +80,7 @@ last-is (x ∷ xs) (y ∷ ys) a b e = let tail : xs ++ a ∷ [] ≡ ys ++ b ∷ 
 entry-shown : (p f l m : ℕ) → m < f + l → tries_in (for_object 0 (plain (body.Seen p f l m)) ∷ []) ≡ (p ∷ f ∷ l ∷ m ∷ []) ∷ []
 entry-shown p f l m h = let some : nat_lt m (f + l) ≡ true = grind (arith, nat_tests, h) in rw some refl
 
-module _ (sys : System) (ss : List Stim) (n : ℕ) (w : LaneView) (o : IsOpen sys ss n w) where
+module _ (sys : System) (ss : List Stim) (n : ℕ) (w : LaneView) (o : IsInSettle sys ss n w) where
   few : n < length ss
   few = few-next n ss stim.Settle o.rest o.next
 

@@ -13,7 +13,7 @@ use Rattle.qp_model_order.specs.SourceRun.{untold_all}
 use Rattle.qp_model_order.proofs.SourceLemmas.{runs-before, runs-new}
 use Rattle.qp_calls.specs.LaneView.{IsNew, LaneView}
 use Rattle.qp_port_law.specs.SourcesLeft.{SourceLeaves}
-use Rattle.qp_port_lanes.specs.CursorAt.{IsKnownTry, IsSourceAt, done, is_some_left, mine, tries_in}
+use Rattle.qp_port_lanes.specs.CursorAt.{IsKnownTry, IsSourceAt, stimuli_done, is_some_left, mine, tries_in}
 use Rattle.qp_port_lanes.specs.Laws.{CursorsMayStop, CursorsStay, DoneCursorsEnd, NewCursorsStand}
 use Rattle.qp_port_lanes.proofs.Leaving.{Calm, still}
 use Rattle.qp_port_lanes.proofs.Going.{done-at, known-later}
@@ -52,7 +52,7 @@ new-stand sys x v none of new = record {
 pub stay : CursorsStay
 stay sys x v w at more = record { fits = at.fits; some = at.some; there = at.there; begun = at.begun; at = here; asked = let had = at.asked in let up = more.asked in omega (arith, had, up) }
   where
-    here : IsSourceAt sys (mine x) (done x) x.settling w
+    here : IsSourceAt sys (mine x) (stimuli_done x) x.settling w
     here = record {
       of = more.sys ∙ at.at.of;
       none = more.by ∙ at.at.none;

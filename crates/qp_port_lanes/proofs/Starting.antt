@@ -27,10 +27,10 @@ use Rattle.qp_dispatch.specs.declared.steps.Position.TheVariants as standing
 use Rattle.qp_dispatch.specs.declared.steps.Step.{Step}
 use Rattle.qp_dispatch.specs.declared.steps.Step.TheVariants as step
 use Rattle.qp_dispatch.specs.Lasts.{actor_of, config_of}
-use Rattle.qp_dispatch.specs.Objects.{MayStart, ObjectStarts, StartsAs, home_of, works_for}
+use Rattle.qp_dispatch.specs.Objects.{MayStart, ObjectStarts, StartsAs, setting_for, works_for}
 use Rattle.qp_dispatch.specs.Resume.{held_in}
 use Rattle.qp_dispatch.specs.Resume.{CanTakeSteps as ObjectReady}
-use Rattle.qp_dispatch.specs.Runs.{Setting}
+use Rattle.qp_dispatch.specs.Runs.{ObjectSetting}
 use Rattle.qp_dispatch.specs.Starting.{StartAsserted, StartDone, StartSpilled}
 use Rattle.qp_model_order.specs.SourceRun.{untold_all}
 use Rattle.qp_kernel.specs.Turning.{spill_told}
@@ -44,7 +44,7 @@ use Rattle.qp_kernel_turns.proofs.SoundObjects.{ready}
 use Rattle.qp_port_law.specs.HomeLaws.{IsHomeOf, HomeRests}
 use Rattle.qp_port_law.proofs.HomeLaws.{full_home_ends, home_start_fails, home_start_is_cut, home_starts}
 use Rattle.qp_port_lanes.specs.declared.home.Home.{Home}
-use Rattle.qp_port_lanes.specs.At.{HasEmptyLane, IsHome, IsMade}
+use Rattle.qp_port_lanes.specs.At.{HasEmptyLane, IsHome, IsUnstartedHome}
 use Rattle.qp_port_lanes.specs.Turning.{HomeStarts, HomeStops, StartsAlone}
 use Rattle.qp_port_lanes.proofs.Resting.{home-of}
 
@@ -61,7 +61,7 @@ priority-is : (sys : System) (o : ℕ) (d : ObjectDef) → object_at sys o ≡ S
 unfolding object_at
 priority-is sys o d h = found-priority o sys.objects d h
 
-module _ (sys : System) (sound : IsSound sys) (x : Home) (v : LaneView) (made : IsMade sys x.me x) (empty : HasEmptyLane sys x.me v) where
+module _ (sys : System) (sound : IsSound sys) (x : Home) (v : LaneView) (made : IsUnstartedHome sys x.me x) (empty : HasEmptyLane sys x.me v) where
   abbrev d : ObjectDef
   d = made.object.object
 
@@ -71,8 +71,8 @@ module _ (sys : System) (sound : IsSound sys) (x : Home) (v : LaneView) (made : 
   abbrev V : LaneView
   V = works_for x.object.me v
 
-  abbrev home : Setting
-  home = home_of sys chart x.object
+  abbrev home : ObjectSetting
+  home = setting_for sys chart x.object
 
   abbrev k : Lasting
   k = x.object.lasting

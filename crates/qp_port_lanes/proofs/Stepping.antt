@@ -11,7 +11,7 @@ use Rattle.qp_model.specs.Ends.{may_cut}
 use Rattle.qp_model.specs.Pieces.{Point, tell}
 use Rattle.qp_model.specs.Sites.{object_at}
 use Rattle.qp_model.specs.Sound.{IsSound}
-use Rattle.qp_model.specs.Standing.{Advances}
+use Rattle.qp_model.specs.Standing.{StepAdvances}
 use Rattle.qp_model.specs.Step.{StepGoesOn, Remainder, moment}
 use Rattle.qp_model.specs.declared.bodies.Body.TheVariants as body
 use Rattle.qp_model.specs.Told.{Event, Told, ToldItem, for_object, plain}
@@ -30,11 +30,11 @@ use Rattle.qp_dispatch.specs.declared.steps.Position.TheVariants as standing
 use Rattle.qp_dispatch.specs.declared.steps.Step.{Step}
 use Rattle.qp_dispatch.specs.declared.steps.Step.TheVariants as step
 use Rattle.qp_dispatch.specs.Lasts.{actor_of, config_of}
-use Rattle.qp_dispatch.specs.Objects.{MayResume, ObjectResumes, ResumesAs, home_of, works_for}
+use Rattle.qp_dispatch.specs.Objects.{MayResume, ObjectResumes, ResumesAs, setting_for, works_for}
 use Rattle.qp_dispatch.specs.Parts.{held_by}
-use Rattle.qp_dispatch.specs.Resume.{BeginsOn, EndsAsserted, EndsSpilled, IsGoing, IsUnderWay, ToEnd, ToPoint, event_in, held_in, left_of, step_entry}
+use Rattle.qp_dispatch.specs.Resume.{BeginsOn, EndsAsserted, EndsSpilled, IsGoing, IsUnderWay, ToEnd, ToPoint, step_event, held_in, remainder_of, step_entry}
 use Rattle.qp_dispatch.specs.Resume.{CanTakeSteps as ObjectReady}
-use Rattle.qp_dispatch.specs.Runs.{Setting, hand_of, tasks_in}
+use Rattle.qp_dispatch.specs.Runs.{ObjectSetting, hand_of, tasks_in}
 use Rattle.qp_kernel.specs.Stages.{IsReady, closes}
 use Rattle.qp_kernel.specs.Turning.{spill_told}
 use Rattle.qp_kernel.proofs.TurnLemmas.{BehindIt, CutForm, WithinIt, cut-calm, cut-form, done-form, failed-form}
@@ -72,8 +72,8 @@ module _ (sys : System) (sound : IsSound sys) (budget : ℕ) (waits : Bool) (x :
   abbrev V : LaneView
   V = works_for x.object.me v
 
-  abbrev home : Setting
-  home = home_of sys h.chart x.object
+  abbrev home : ObjectSetting
+  home = setting_for sys h.chart x.object
 
   abbrev k : Lasting
   k = x.object.lasting
@@ -114,29 +114,29 @@ module _ (sys : System) (sound : IsSound sys) (budget : ℕ) (waits : Bool) (x :
   is-actor : actor_of x.object.me h.chart k ≡ actor h.d h.chart
   is-actor = ap (λ i. record { o = i; chart = h.chart; room = k.list.entries.capacity }) h.at.object ∙ ap (λ r. record { o = h.d.priority; chart = h.chart; room = r }) h.at.room
 
-  event-is : event_in st V ≡ h.ev
+  event-is : step_event st V ≡ h.ev
   event-is = event-by st x.object.me v ∙ sym h.turn.event
 
   entry-is : step_entry st ≡ h.e
   entry-is = sym h.turn.entry
 
-  left-is : left_of home k st V ≡ h.left
+  left-is : remainder_of home k st V ≡ h.left
   left-is = left-by home k st x.object.me v ∙ sym h.turn.left
 
   config-is : config_of k ≡ h.c
   config-is = sym h.turn.config
 
-  as-known : (P : System → Actor → Event → model.Entry → Remainder → Config → Type 0) → P V.sys (actor_of x.object.me h.chart k) (event_in st V) (step_entry st) (left_of home k st V) (config_of k)
+  as-known : (P : System → Actor → Event → model.Entry → Remainder → Config → Type 0) → P V.sys (actor_of x.object.me h.chart k) (step_event st V) (step_entry st) (remainder_of home k st V) (config_of k)
       → P sys (actor h.d h.chart) h.ev h.e h.left h.c
   as-known P p =
       subst (λ i. P sys (actor h.d h.chart) h.ev h.e h.left i) config-is
       (subst (λ i. P sys (actor h.d h.chart) h.ev h.e i (config_of k)) left-is
-      (subst (λ i. P sys (actor h.d h.chart) h.ev i (left_of home k st V) (config_of k)) entry-is
-      (subst (λ i. P sys (actor h.d h.chart) i (step_entry st) (left_of home k st V) (config_of k)) event-is
-      (subst (λ i. P sys i (event_in st V) (step_entry st) (left_of home k st V) (config_of k)) is-actor
-      (subst (λ i. P i (actor_of x.object.me h.chart k) (event_in st V) (step_entry st) (left_of home k st V) (config_of k)) h.at.lane p)))))
+      (subst (λ i. P sys (actor h.d h.chart) h.ev i (remainder_of home k st V) (config_of k)) entry-is
+      (subst (λ i. P sys (actor h.d h.chart) i (step_entry st) (remainder_of home k st V) (config_of k)) event-is
+      (subst (λ i. P sys i (step_event st V) (step_entry st) (remainder_of home k st V) (config_of k)) is-actor
+      (subst (λ i. P i (actor_of x.object.me h.chart k) (step_event st V) (step_entry st) (remainder_of home k st V) (config_of k)) h.at.lane p)))))
 
-  closing : closes (left_of home k st V).tasks ≡ true
+  closing : closes (remainder_of home k st V).tasks ≡ true
   closing = subst (λ l. closes l.tasks ≡ true) (sym left-is) h.records.1.ready.closing
 
   grown : (g : List Told) (mid : LaneView) → Grows g V mid → mid.told ≡ v.told ++ map (for_object o) g
@@ -180,18 +180,18 @@ module _ (sys : System) (sound : IsSound sys) (budget : ℕ) (waits : Bool) (x :
   -- On to its next scheduling point.
   module _ (level : ℕ) (y : Object) (mid w : LaneView) (w-is : w ≡ works_for v.by mid) (same : y ≡ record (x.object) { lasting = y.lasting; stage = y.stage }) (t : ToPoint home x.ceiling level k st y.lasting y.stage V mid) where
     abbrev due : Remainder
-    due = left_of home y.lasting y.stage mid
+    due = remainder_of home y.lasting y.stage mid
 
     going : IsGoing home y.lasting t.going mid
     going = subst (λ z. IsUnderWay home y.lasting z mid) t.stands t.under_way
 
     due-tasks : due.tasks ≡ tasks_in home t.going.left
-    due-tasks = ap (λ z. (left_of home y.lasting z mid).tasks) t.stands ∙ tasks-of t.going.left.under (tasks_in home t.going.left) t.going.leaf
+    due-tasks = ap (λ z. (remainder_of home y.lasting z mid).tasks) t.stands ∙ tasks-of t.going.left.under (tasks_in home t.going.left) t.going.leaf
 
     ready-due : IsReady sys (actor h.d h.chart) due (config_of y.lasting)
     ready-due = record {
       able = subst (λ ts. list_all (task_able sys true) ts ≡ true) (sym due-tasks) going.able;
-      closing = closes-left V.sys (actor_of x.object.me h.chart k) (moment (event_in st V) (step_entry st)) (left_of home k st V) due (config_of k) (config_of y.lasting) t.g t.done closing t.split t.reaches;
+      closing = closes-left V.sys (actor_of x.object.me h.chart k) (moment (step_event st V) (step_entry st)) (remainder_of home k st V) due (config_of k) (config_of y.lasting) t.g t.done closing t.split t.reaches;
       room = subst (λ i. length (kept_in y.lasting.list) ≤ i) (t.room ∙ h.at.room) going.few;
     }
 
@@ -214,7 +214,7 @@ module _ (sys : System) (sound : IsSound sys) (budget : ℕ) (waits : Bool) (x :
     records-point : IsBusy sys h.d h.chart budget (w.own o) false true (v.told ++ map (for_object o) t.g) h.es (suc h.points) h.ev h.e due (config_of y.lasting)
     records-point =
         home_step_pauses sys h.d h.chart budget (v.own o) (w.own o) waits v.told h.es h.points h.ev h.e h.left due h.c (config_of y.lasting) t.g its (more-w level y mid w w-is same t.g t.grows)
-        (as-known (λ s a ev e left c. Advances s a ev e left c (tell t.g ++ Point ∷ []) due (config_of y.lasting)) t.advances) ready-due h.records
+        (as-known (λ s a ev e left c. StepAdvances s a ev e left c (tell t.g ++ Point ∷ []) due (config_of y.lasting)) t.advances) ready-due h.records
 
     pub pauses : x.object.taken + h.points ≤ v.asked → IsBusyHome sys budget true (record x { object = y; ceiling = level }) w
     pauses free = record {
@@ -229,7 +229,7 @@ module _ (sys : System) (sound : IsSound sys) (budget : ℕ) (waits : Bool) (x :
       c = config_of y.lasting;
       busy = h.busy;
       unseen = h.unseen;
-      turn = subst (λ s. IsInTurn s h.ev h.e due (config_of y.lasting) y w) (sym (ap (home_of sys h.chart) same)) turn-point;
+      turn = subst (λ s. IsInTurn s h.ev h.e due (config_of y.lasting) y w) (sym (ap (setting_for sys h.chart) same)) turn-point;
       taken = ap (λ z. z.taken) same ∙ h.taken;
       records = subst (λ ts. IsBusy sys h.d h.chart budget (w.own o) false true ts h.es (suc h.points) h.ev h.e due (config_of y.lasting)) (told-w level y mid w w-is same t.g t.grows) records-point;
       asked = let kept = asked-w level y mid w w-is same t.g t.grows free in omega (arith, kept);
@@ -297,7 +297,7 @@ module _ (sys : System) (sound : IsSound sys) (budget : ℕ) (waits : Bool) (x :
 
   -- No look stands among the records of a step.
 
-  cut-inside : (g : List Told) → BeginsOn V.sys (actor_of x.object.me h.chart k) (event_in st V) (step_entry st) (left_of home k st V) (config_of k) g → AreInside g
+  cut-inside : (g : List Told) → BeginsOn V.sys (actor_of x.object.me h.chart k) (step_event st V) (step_entry st) (remainder_of home k st V) (config_of k) g → AreInside g
   cut-inside g begins =
       let closed = h.records.1.ready.closing in
       let goes = as-known (λ s a ev e left c. StepGoesOn s a ev e left c (tell g ++ begins.0) begins.1) begins.2 in
@@ -314,7 +314,7 @@ module _ (sys : System) (sound : IsSound sys) (budget : ℕ) (waits : Bool) (x :
       by step.Point mid (same, t) is =
           never-inside o t.g v w (ap (λ u. u.told) is ∙ grown t.g mid t.grows)
           (point-inside sys h.d h.chart its.some waits v.told h.es h.points h.ev h.e h.left h.c h.records.1 (due level y mid w is same t) (config_of y.lasting) t.g
-          (as-known (λ s a ev e left c. Advances s a ev e left c (tell t.g ++ Point ∷ []) (due level y mid w is same t) (config_of y.lasting)) t.advances) (ready-due level y mid w is same t)).0
+          (as-known (λ s a ev e left c. StepAdvances s a ev e left c (tell t.g ++ Point ∷ []) (due level y mid w is same t) (config_of y.lasting)) t.advances) (ready-due level y mid w is same t)).0
       by step.Done mid (same, t) is =
           never-inside o t.1.g v w (ap (λ u. u.told) is ∙ grown t.1.g mid t.1.grows)
           (done-inside t.1.g
@@ -369,7 +369,7 @@ module _ (sys : System) (sound : IsSound sys) (budget : ℕ) (waits : Bool) (x :
       by step.Point mid (same, t) is =
           inside-takes t.g mid w.told (ap (λ u. u.told) is) t.grows
           (point-inside sys h.d h.chart its.some waits v.told h.es h.points h.ev h.e h.left h.c h.records.1 (due level y mid w is same t) (config_of y.lasting) t.g
-          (as-known (λ s a ev e left c. Advances s a ev e left c (tell t.g ++ Point ∷ []) (due level y mid w is same t) (config_of y.lasting)) t.advances) (ready-due level y mid w is same t)).0
+          (as-known (λ s a ev e left c. StepAdvances s a ev e left c (tell t.g ++ Point ∷ []) (due level y mid w is same t) (config_of y.lasting)) t.advances) (ready-due level y mid w is same t)).0
       by step.Done mid (same, t) is =
           inside-takes t.1.g mid w.told (ap (λ u. u.told) is) t.1.grows
           (done-inside t.1.g

@@ -19,10 +19,10 @@ use Rattle.qp_port_law.specs.SourcesLeft.{SourceLeaves}
 use Rattle.qp_calls_stimulus.specs.declared.doing.Stimulated.TheVariants as stimulated
 use Rattle.qp_calls.specs.Halting.{HaltsFull}
 use Rattle.qp_kernel_turns.specs.Lanes.{HandsCode, HasFound, SameLane}
-use Rattle.qp_calls_stimulus.specs.Stimulating.{Stimulates, Asserts, Spills, Happens, begun, Exhausts}
+use Rattle.qp_calls_stimulus.specs.Stimulating.{Stimulates, StimulusAsserts, Spills, StimulusHappens, begun_records, Exhausts}
 use Rattle.qp_port_lanes.specs.declared.cursor.Cursor.{Cursor}
 use Rattle.qp_port_lanes.specs.CursorAt.{IsCursorAt, IsSourceAt, at_settle_in, begins_settle, left_in, mine}
-use Rattle.qp_port_lanes.specs.SourceTurning.{BreaksOff, CursorGoes, DoesNoSettle, EndsIn, SourceIdles, SourceStops, SourceTurns, BreaksOffUnlessIdle, DoesNext, SourceStarves}
+use Rattle.qp_port_lanes.specs.SourceTurning.{SourceBreaksOff, CursorGoes, DoesNoSettle, StimulusBreaksOff, SourceIdles, SourceHasStopped, SourceTurns, BreaksOffUnlessIdle, DoesNext, SourceStarves}
 use Rattle.qp_port_lanes.proofs.Going.{same-gains, same-stops, went, failed, spilled, full, elsewhere, few-done, unspilled-told}
 
 same-none : (v : LaneView) → SameLane v v
@@ -152,17 +152,17 @@ module _ (sys : System) (x : Cursor) (v : LaneView) (at : IsCursorAt sys x v) (c
     is-bare other = ap begins_settle next-is ∙ no-settle s (drop (x.begun + 1) (mine x)) other
 
     -- the turn ends here
-    pub breaks-here : (t : Turn) (w : LaneView) → (s ≡ stim.Settle → ⊥) → EndsIn sys s (x.begun + 1) v w t → BreaksOffUnlessIdle sys x x v w t
+    pub breaks-here : (t : Turn) (w : LaneView) → (s ≡ stim.Settle → ⊥) → StimulusBreaksOff sys s (x.begun + 1) v w t → BreaksOffUnlessIdle sys x x v w t
     breaks-here t w other ends = by t ends
       where
-        its-end : (u : Turn) → EndsIn sys s (x.begun + 1) v w u → BreaksOff sys x x v w u
+        its-end : (u : Turn) → StimulusBreaksOff sys s (x.begun + 1) v w u → SourceBreaksOff sys x x v w u
         its-end u k = record { before = v; goes = goes-none sys x v at; stands = rw (calm, next-is, no-settle s (drop (x.begun + 1) (mine x)) other) refl; s = s; next = next-is; ends = k }
 
-        by : (u : Turn) → EndsIn sys s (x.begun + 1) v w u → BreaksOffUnlessIdle sys x x v w u
+        by : (u : Turn) → StimulusBreaksOff sys s (x.begun + 1) v w u → BreaksOffUnlessIdle sys x x v w u
         by turn.Idle k = absurd k
         by u k = its-end u k
 
-    pub finds-stop : (code : ℕ) (w : LaneView) → w ≡ record v { answered = code ∷ v.answered; asked = suc v.asked } → SourceStops sys x x v w
+    pub finds-stop : (code : ℕ) (w : LaneView) → w ≡ record v { answered = code ∷ v.answered; asked = suc v.asked } → SourceHasStopped sys x x v w
     finds-stop code w e = record {
       leaves = λ kernel end try early. elsewhere sys (mine x) x.begun v w here s s lt is kernel end try early (ap (λ u. u.told) e);
       why = inr (record { found = rw e (omega arith); stops = ap (λ u. u.stops) e });
@@ -172,11 +172,11 @@ module _ (sys : System) (x : Cursor) (v : LaneView) (at : IsCursorAt sys x v) (c
     }
 
     module _ (place : ℕ) (next : place ≡ x.begun + 1) (w : LaneView) where
-      pub goes-on : (s ≡ stim.Settle → ⊥) → place ≤ v.asked → Happens sys s place 0 v w → DoesNext sys x (record x { begun = place }) v w None
+      pub goes-on : (s ≡ stim.Settle → ⊥) → place ≤ v.asked → StimulusHappens sys s place 0 v w → DoesNext sys x (record x { begun = place }) v w None
       goes-on other more h =
-          let h2 = subst (λ p. Happens sys s p 0 v w) next h in
+          let h2 = subst (λ p. StimulusHappens sys s p 0 v w) next h in
           let gone = went sys (mine x) x.begun v w here s s lt is h2 in
-          let g : GrowsOf 0 (begun place 0 h.one) v w = subst (λ o. GrowsOf o (begun place 0 h.one) v w) here.none h.grows in
+          let g : GrowsOf 0 (begun_records place 0 h.one) v w = subst (λ o. GrowsOf o (begun_records place 0 h.one) v w) here.none h.grows in
           record {
             goes = record {
               at = record {
@@ -193,7 +193,7 @@ module _ (sys : System) (x : Cursor) (v : LaneView) (at : IsCursorAt sys x v) (c
               settling = refl;
               further = omega (arith, next);
               bare = λ k low high. subst (λ i. begins_settle (drop i (mine x)) ≡ false) (omega (arith, low, high, next)) (is-bare other);
-              ts = map (for_object 0) (begun place 0 h.one);
+              ts = map (for_object 0) (begun_records place 0 h.one);
               told = g.told;
               hands = h.hands;
               stops = g.stops;
@@ -203,32 +203,32 @@ module _ (sys : System) (x : Cursor) (v : LaneView) (at : IsCursorAt sys x v) (c
             one = next;
           }
 
-      pub stops-asserted : Asserts sys s place 0 v w → SourceStops sys x x v w
+      pub stops-asserted : StimulusAsserts sys s place 0 v w → SourceHasStopped sys x x v w
       stops-asserted h =
-          let h2 = subst (λ p. Asserts sys s p 0 v w) next h in
-          let g : GrowsOf 0 (begun place 0 h.one) v h.mid = subst (λ o. GrowsOf o (begun place 0 h.one) v h.mid) here.none h.grows in
+          let h2 = subst (λ p. StimulusAsserts sys s p 0 v w) next h in
+          let g : GrowsOf 0 (begun_records place 0 h.one) v h.mid = subst (λ o. GrowsOf o (begun_records place 0 h.one) v h.mid) here.none h.grows in
           record {
             leaves = λ kernel end try early. failed sys (mine x) x.begun v w here s s lt is kernel end try early h2;
             why = inl (handed h.code v h.mid w h.some h.last g.stops h.stops);
-            ts = map (for_object 0) (begun place 0 h.one);
+            ts = map (for_object 0) (begun_records place 0 h.one);
             told = ap (λ u. u.told) h.stops ∙ g.told;
             keeps = same-stops h.code v h.mid w (same-gains _ v h.mid g) h.stops;
           }
 
-      pub stops-spilled : Spills sys s place 0 v w → SourceStops sys x x v w
+      pub stops-spilled : Spills sys s place 0 v w → SourceHasStopped sys x x v w
       stops-spilled h =
           let h2 = subst (λ p. Spills sys s p 0 v w) next h in
-          let g : GrowsOf 0 (begun place 0 h.one) v h.mid = subst (λ o. GrowsOf o (begun place 0 h.one) v h.mid) here.none h.grows in
+          let g : GrowsOf 0 (begun_records place 0 h.one) v h.mid = subst (λ o. GrowsOf o (begun_records place 0 h.one) v h.mid) here.none h.grows in
           let told : w.told ≡ h.mid.told ++ for_object 0 (plain (body.Spill (length h.mid.told))) ∷ [] = ap (λ u. u.told) h.halts.stops ∙ h.halts.spills.told in
           record {
             leaves = λ kernel end try early. spilled sys (mine x) x.begun v w here s s lt is kernel end try early h2;
             why = inl (handed 6 v h.halts.full w (omega arith) (spill-code h.mid h.halts.full (length h.mid.told) h.halts.spills.told) (h.halts.spills.stops ∙ g.stops) h.halts.stops);
-            ts = map (for_object 0) (begun place 0 h.one) ++ for_object 0 (plain (body.Spill (length h.mid.told))) ∷ [];
-            told = told ∙ ap (λ ts. ts ++ for_object 0 (plain (body.Spill (length h.mid.told))) ∷ []) g.told ∙ append_assoc v.told (map (for_object 0) (begun place 0 h.one)) (for_object 0 (plain (body.Spill (length h.mid.told))) ∷ []);
+            ts = map (for_object 0) (begun_records place 0 h.one) ++ for_object 0 (plain (body.Spill (length h.mid.told))) ∷ [];
+            told = told ∙ ap (λ ts. ts ++ for_object 0 (plain (body.Spill (length h.mid.told))) ∷ []) g.told ∙ append_assoc v.told (map (for_object 0) (begun_records place 0 h.one)) (for_object 0 (plain (body.Spill (length h.mid.told))) ∷ []);
             keeps = same-stops 6 v h.halts.full w (same-then v h.mid h.halts.full (same-gains _ v h.mid g) (same-gains _ h.mid h.halts.full h.halts.spills)) h.halts.stops;
           }
 
-      pub stops-full : HaltsFull v w → SourceStops sys x x v w
+      pub stops-full : HaltsFull v w → SourceHasStopped sys x x v w
       stops-full h =
           let told : w.told ≡ v.told ++ for_object 0 (plain (body.Spill (length v.told))) ∷ [] = ap (λ u. u.told) h.stops ∙ h.spills.told in
           record {
@@ -239,7 +239,7 @@ module _ (sys : System) (x : Cursor) (v : LaneView) (at : IsCursorAt sys x v) (c
             keeps = same-stops 6 v h.full w (same-gains _ v h.full h.spills) h.stops;
           }
 
-      pub stops-here : Stimulates sys s place 0 v w stimulated.Stopped → SourceStops sys x x v w
+      pub stops-here : Stimulates sys s place 0 v w stimulated.Stopped → SourceHasStopped sys x x v w
       stops-here (inl h) = stops-asserted h
       stops-here (inr (inl h)) = stops-spilled h
       stops-here (inr (inr h)) = stops-full h

@@ -27,8 +27,8 @@ use Rattle.qp_kernel_turns.specs.declared.halting.Halt.{Halt}
 use Rattle.qp_kernel_turns.specs.declared.halting.Halt.TheVariants as halt
 use Rattle.qp_kernel_turns.specs.Halting.{FindsStop, TurnHalts, asked_once}
 use Rattle.qp_port_lanes.specs.declared.cursor.Cursor.{Cursor}
-use Rattle.qp_port_lanes.specs.CursorAt.{IsKnownTry, IsSourceAt, IsCursorAt, tries_in, mine, done, at_settle_in, begins_settle}
-use Rattle.qp_port_lanes.specs.SourceTurning.{SourceStarves, SourceStops}
+use Rattle.qp_port_lanes.specs.CursorAt.{IsKnownTry, IsSourceAt, IsCursorAt, tries_in, mine, stimuli_done, at_settle_in, begins_settle}
+use Rattle.qp_port_lanes.specs.SourceTurning.{SourceStarves, SourceHasStopped}
 use Rattle.qp_port_lanes.specs.Passing.{FindsEntry, FindsNone, Glances, GoesAlong, IsClear, ShowsEntry, StarvesThere, StopsThere}
 use Rattle.qp_port_lanes.proofs.Leaving.{Calm, still, full-lane, alone-append, no-look}
 use Rattle.qp_port_lanes.proofs.Going.{known-later, done-at, same-gains, same-stops}
@@ -55,7 +55,7 @@ source-glanced sys ss n b v w at g = record {
 }
 
 pub cursor-glanced : (sys : System) (x : Cursor) (v w : LaneView) → IsCursorAt sys x v → Glances v w → IsCursorAt sys x w
-cursor-glanced sys x v w at g = record { fits = at.fits; some = at.some; there = at.there; begun = at.begun; at = source-glanced sys (mine x) (done x) x.settling v w at.at g; asked = let had = at.asked in let same = g.asked in omega (arith, had, same) }
+cursor-glanced sys x v w at g = record { fits = at.fits; some = at.some; there = at.there; begun = at.begun; at = source-glanced sys (mine x) (stimuli_done x) x.settling v w at.at g; asked = let had = at.asked in let same = g.asked in omega (arith, had, same) }
 
 -- a look found an entry
 pub found-here : (sys : System) (x : Cursor) (v w : LaneView) (p : ℕ) (c : counts.Counts) → IsCursorAt sys x v → at_settle_in x ≡ true → Glances v w → ShowsEntry sys p c w → FindsEntry sys p c x x v w
@@ -139,7 +139,7 @@ may-stop-at sys x v at stands = by x.settling refl
         }
 
 -- it stops behind what it was
-pub stops-behind : (sys : System) (x : Cursor) (u v w : LaneView) → GoesAlong u v → SourceStops sys x x v w → SourceStops sys x x u w
+pub stops-behind : (sys : System) (x : Cursor) (u v w : LaneView) → GoesAlong u v → SourceHasStopped sys x x v w → SourceHasStopped sys x x u w
 stops-behind sys x u v w a h = record {
   leaves = h.leaves;
   why = by h.why;
@@ -161,7 +161,7 @@ starves-behind u v w a h = record {
 }
 
 -- a full lane stops
-pub full-stops : (sys : System) (x : Cursor) (u w : LaneView) → ((kernel end : ℕ) → may_try kernel ≡ true → may_cut end ≡ true → SourceLeaves sys kernel end (mine x) w.told) → HaltsFull u w → SourceStops sys x x u w
+pub full-stops : (sys : System) (x : Cursor) (u w : LaneView) → ((kernel end : ℕ) → may_try kernel ≡ true → may_cut end ≡ true → SourceLeaves sys kernel end (mine x) w.told) → HaltsFull u w → SourceHasStopped sys x x u w
 full-stops sys x u w leaves f =
     let last : List ToldItem = for_object 0 (plain (body.Spill (length u.told))) ∷ [] in
     record {
@@ -177,10 +177,10 @@ full-hands : (v w : LaneView) → HaltsFull v w → w.hands ≡ v.hands
 unfolding hands_after hands_by
 full-hands v w f = ap (λ y. y.hands) f.stops ∙ f.spills.hands
 
-pub full-there : (sys : System) (x y : Cursor) (u v w : LaneView) → GoesAlong u v → FindsNone sys u v → HaltsFull v w → done y ≡ done x → SourceStops sys x y u w → StopsThere sys x y u w
+pub full-there : (sys : System) (x y : Cursor) (u v w : LaneView) → GoesAlong u v → FindsNone sys u v → HaltsFull v w → stimuli_done y ≡ stimuli_done x → SourceHasStopped sys x y u w → StopsThere sys x y u w
 full-there sys x y u v w a none f same stops = record { stops = stops; hands = full-hands v w f ∙ a.hands; same = same; finds = finds-full sys u v w none f }
 
-pub starves-there : (sys : System) (x y : Cursor) (u v w : LaneView) → GoesAlong u v → FindsNone sys u v → HaltsDry v w → done y ≡ done x → StarvesThere sys x y u w
+pub starves-there : (sys : System) (x y : Cursor) (u v w : LaneView) → GoesAlong u v → FindsNone sys u v → HaltsDry v w → stimuli_done y ≡ stimuli_done x → StarvesThere sys x y u w
 starves-there sys x y u v w a none h same = record { starves = starves-behind u v w a h; hands = ap (λ z. z.hands) h.stops ∙ a.hands; same = same; finds = finds-dry sys u v w none h }
 
 -- `ready` has stopped the turn
@@ -205,7 +205,7 @@ halts-stop sys x v u w h at stands g clear is halts = by (subst (TurnHalts u w) 
     by (inl f) = record {
       stops = stops-behind sys x v u w so_far
           (record {
-            leaves = λ kernel end may early. stops-still sys (mine x) (done x) u here.stop here.may_stop here.calm here.runs w kernel end may early (ap (λ y. y.told) f.answered);
+            leaves = λ kernel end may early. stops-still sys (mine x) (stimuli_done x) u here.stop here.may_stop here.calm here.runs w kernel end may early (ap (λ y. y.told) f.answered);
             why = inr (record { found = rw f.answered (omega arith); stops = ap (λ y. y.stops) f.answered });
             ts = [];
             told = ap (λ y. y.told) f.answered ∙ sym (append-nil u.told);
@@ -218,7 +218,7 @@ halts-stop sys x v u w h at stands g clear is halts = by (subst (TurnHalts u w) 
     by (inr f) =
         full-there sys x x v (asked_once u) w once (finds-once sys v u none) f refl
         (stops-behind sys x v (asked_once u) w once
-        (full-stops sys x (asked_once u) w (λ kernel end may early. stops-full sys (mine x) (done x) (asked_once u) here.stop here.may_stop here.calm here.runs w kernel end may early f) f))
+        (full-stops sys x (asked_once u) w (λ kernel end may early. stops-full sys (mine x) (stimuli_done x) (asked_once u) here.stop here.may_stop here.calm here.runs w kernel end may early f) f))
 
 pub halts-starve : (sys : System) (x : Cursor) (v u w : LaneView) (h : Halt) → Glances v u → AllByRecursion (IsClear u) (priorities sys) → h ≡ halt.Memory → TurnHalts u w h → StarvesThere sys x x v w
 halts-starve sys x v u w h g clear is halts =

@@ -16,15 +16,15 @@ use Rattle.qp_calls.specs.Deferring.{is_named}
 use Rattle.qp_calls.specs.LaneView.{LaneView, ceiling_in}
 use Rattle.qp_calls.specs.Notes.{spills_told}
 use Rattle.qp_chart_compiled.specs.Compiled.{IsCompiled}
-use Rattle.qp_dispatch.specs.Objects.{IsNew, home_of}
+use Rattle.qp_dispatch.specs.Objects.{IsNewObject, setting_for}
 use Rattle.qp_dispatch.specs.Resume.{held_in}
 use Rattle.qp_kernel_turns.specs.Knowing.{IsAtRest, IsInTurn, own_count}
 use Rattle.qp_port_law.specs.HomeLaws.{IsBusy, HomeRests}
 use Rattle.qp_port_lanes.specs.declared.home.Home.{Home}
 
 -- the object of this priority before its start
-pub record IsMade (sys : System) (priority : ℕ) (x : Home) : Type 0 where
-  pub object : IsNew sys priority x.object
+pub record IsUnstartedHome (sys : System) (priority : ℕ) (x : Home) : Type 0 where
+  pub object : IsNewObject sys priority x.object
   pub me : x.me ≡ priority
   pub ceiling : x.ceiling ≡ 0
   pub unseen : x.looked ≡ false
@@ -86,7 +86,7 @@ pub record IsBusyHome (sys : System) (budget : ℕ) (waits : Bool) (x : Home) (v
   pub c : Config
   pub busy : x.busy ≡ true
   pub unseen : x.looked ≡ false
-  pub turn : IsInTurn (home_of sys chart x.object) ev e left c x.object v
+  pub turn : IsInTurn (setting_for sys chart x.object) ev e left c x.object v
   pub taken : x.object.taken ≡ length es
   pub records : IsBusy sys d chart budget (v.own d.priority) false waits v.told es points ev e left c
   pub asked : x.object.taken + points ≤ v.asked + owed waits

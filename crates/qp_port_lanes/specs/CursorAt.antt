@@ -37,15 +37,15 @@ pub record IsTrying (sys : System) (left : List Stim) (place : ℕ) (behind : Li
   pub fits : Tries (priorities sys) (suc n) tries
 
 -- A source's lane between two turns: whole stimuli, and perhaps a `settle` under way with tries. It holds for both kernels with threads.
-pub record IsSourceAt (sys : System) (ss : List Stim) (done : ℕ) (settling : Bool) (v : LaneView) : Type 0 where
+pub record IsSourceAt (sys : System) (ss : List Stim) (stimuli_done : ℕ) (settling : Bool) (v : LaneView) : Type 0 where
   pub of : v.sys ≡ sys
   pub none : v.by ≡ 0
   pub front : List ToldItem
   pub behind : List Told
   pub told : v.told ≡ front ++ map (for_object 0) behind
-  pub runs : (kernel : ℕ) → may_try kernel ≡ true → SourceRuns sys kernel 1 (take done ss) AllDone (told_alone front)
-  pub few : done ≤ length ss
-  pub under_way : MatchBool settling (IsTrying sys (drop done ss) (done + 1) behind) (behind ≡ [])
+  pub runs : (kernel : ℕ) → may_try kernel ≡ true → SourceRuns sys kernel 1 (take stimuli_done ss) AllDone (told_alone front)
+  pub few : stimuli_done ≤ length ss
+  pub under_way : MatchBool settling (IsTrying sys (drop stimuli_done ss) (stimuli_done + 1) behind) (behind ≡ [])
   pub alone : list_all (λ i. i.of == 0) (untold_all v.told) ≡ true
   pub calm : list_any (λ i. is_end i.body) (untold_all v.told) ≡ false
   pub tries : none_twice (tries_in v.told) ≡ true
@@ -57,8 +57,8 @@ abbrev pub mine : Cursor → List Stim
 mine x = get_or x.stim.now (x.source - 1) []
 
 -- how many of them are done
-abbrev pub done : Cursor → ℕ
-done x = cond x.settling (x.begun - 1) x.begun
+abbrev pub stimuli_done : Cursor → ℕ
+stimuli_done x = cond x.settling (x.begun - 1) x.begun
 
 abbrev pub begins_settle : List Stim → Bool
 begins_settle (stim.Settle ∷ ss) = true
@@ -81,5 +81,5 @@ pub record IsCursorAt (sys : System) (x : Cursor) (v : LaneView) : Type 0 where
   pub some : 0 < x.source
   pub there : x.source ≤ length x.stim.now
   pub begun : x.settling ≡ true → 0 < x.begun
-  pub at : IsSourceAt sys (mine x) (done x) x.settling v
+  pub at : IsSourceAt sys (mine x) (stimuli_done x) x.settling v
   pub asked : x.begun ≤ v.asked

@@ -23,7 +23,7 @@ abbrev pub NewCursorsStand : Type 0
 NewCursorsStand = (sys : System) (x : Cursor) (v : LaneView) → HasBegunNothing sys x → v.sys ≡ sys → IsNew v → IsCursorAt sys x v
 
 -- nothing changed but what the lane has seen and how often it asked, and of queues it has seen no less
-pub record SeesMore (v w : LaneView) : Type 0 where
+pub record LaneSeesMore (v w : LaneView) : Type 0 where
   pub sys : w.sys ≡ v.sys
   pub told : w.told ≡ v.told
   pub by : w.by ≡ v.by
@@ -34,7 +34,7 @@ pub record SeesMore (v w : LaneView) : Type 0 where
 
 -- so the cursor stands there as well
 abbrev pub CursorsStay : Type 0
-CursorsStay = (sys : System) (x : Cursor) (v w : LaneView) → IsCursorAt sys x v → SeesMore v w → IsCursorAt sys x w
+CursorsStay = (sys : System) (x : Cursor) (v w : LaneView) → IsCursorAt sys x v → LaneSeesMore v w → IsCursorAt sys x w
 
 -- the run stops early in another lane, and this one ends where the cursor stands
 abbrev pub CursorsMayStop : Type 0

@@ -24,8 +24,8 @@ use Rattle.qp_port_lanes.specs.declared.cursor.Cursor.{Cursor}
 use Rattle.qp_port_phases.specs.declared.lanes.Passed.{Passed}
 use Rattle.qp_port_phases.specs.declared.lanes.Passed.TheVariants as passed
 use Rattle.qp_port_phases.specs.Passing.{AddsLook}
-use Rattle.qp_port_lanes.specs.CursorAt.{IsCursorAt, IsKnownTry, at_settle_in, done, mine, tries_in}
-use Rattle.qp_port_lanes.specs.SourceTurning.{SourceStarves, SourceStops}
+use Rattle.qp_port_lanes.specs.CursorAt.{IsCursorAt, IsKnownTry, at_settle_in, stimuli_done, mine, tries_in}
+use Rattle.qp_port_lanes.specs.SourceTurning.{SourceStarves, SourceHasStopped}
 
 -- looks that add nothing
 pub record Glances (v w : LaneView) : Type 0 where
@@ -70,7 +70,7 @@ pub record GoesAlong (v w : LaneView) : Type 0 where
   pub keeps : SameLane v w
 
 -- A source's lane within a `settle`: whole stimuli, the `stim` of the `settle`, and so many tries of it.
-pub record IsOpen (sys : System) (ss : List Stim) (n : ℕ) (v : LaneView) : Type 0 where
+pub record IsInSettle (sys : System) (ss : List Stim) (n : ℕ) (v : LaneView) : Type 0 where
   pub of : v.sys ≡ sys
   pub none : v.by ≡ 0
   pub front : List ToldItem
@@ -89,13 +89,13 @@ pub record IsOpen (sys : System) (ss : List Stim) (n : ℕ) (v : LaneView) : Typ
 
 -- the `stim` of the `settle`, where it isn't under way
 abbrev pub opening_of : Cursor → List Told
-opening_of x = cond x.settling [] (plain (body.Stim (done x + 1) 0) ∷ [])
+opening_of x = cond x.settling [] (plain (body.Stim (stimuli_done x + 1) 0) ∷ [])
 
 -- the `settle` is under way, and what was seen empty is still known so
 pub record Opens (sys : System) (x y : Cursor) (v w : LaneView) : Type 0 where
-  pub cursor : y ≡ record x { begun = done x + 1; settling = true }
+  pub cursor : y ≡ record x { begun = stimuli_done x + 1; settling = true }
   pub opened : w.told ≡ v.told ++ map (for_object 0) (opening_of x)
-  pub here : IsOpen sys (mine x) (done x) w
+  pub here : IsInSettle sys (mine x) (stimuli_done x) w
   pub along : GoesAlong v w
   pub clear : (p : ℕ) → IsClear v p → IsClear w p
 
@@ -121,7 +121,7 @@ pub record SeesAllEmpty (sys : System) (v : LaneView) : Type 0 where
 pub record HasPassed (sys : System) (x y : Cursor) (v w : LaneView) : Type 0 where
   pub stays : StaysAt sys x y v w
   pub calm : y.settling ≡ false
-  pub one : done y ≡ done x + 1
+  pub one : stimuli_done y ≡ stimuli_done x + 1
   pub first : SeesAllEmpty sys v
   pub adds : AddsLook (SeesEmpty (priorities sys)) (opening_of x) v w
   pub settled : settles_of v.told + 1 ≤ settles_of w.told
@@ -135,7 +135,7 @@ pub record TriedOnce (sys : System) (x y : Cursor) (v w : LaneView) : Type 0 whe
 -- The queue of p showed an entry at these counts, and they are what the lane knows of it. A look that added nothing showed it, or one try.
 pub record FindsEntry (sys : System) (p : ℕ) (c : counts.Counts) (x y : Cursor) (v w : LaneView) : Type 0 where
   pub stays : StaysAt sys x y v w
-  pub same : done y ≡ done x
+  pub same : stimuli_done y ≡ stimuli_done x
   pub stands : at_settle_in y ≡ true
   pub shows : ShowsEntry sys p c w
   pub told : ((w.told ≡ v.told) × (y ≡ x)) ⊎ TriedOnce sys x y v w
@@ -158,23 +158,23 @@ pub record FindsNone (sys : System) (v w : LaneView) : Type 0 where
 
 -- It stopped as a turn does, with the hands as they were, and the `settle` isn't done. No look showed an entry.
 pub record StopsThere (sys : System) (x y : Cursor) (v w : LaneView) : Type 0 where
-  pub stops : SourceStops sys x y v w
+  pub stops : SourceHasStopped sys x y v w
   pub hands : w.hands ≡ v.hands
-  pub same : done y ≡ done x
+  pub same : stimuli_done y ≡ stimuli_done x
   pub finds : FindsNone sys v w
 
 -- so it did for want of memory
 pub record StarvesThere (sys : System) (x y : Cursor) (v w : LaneView) : Type 0 where
   pub starves : SourceStarves v w
   pub hands : w.hands ≡ v.hands
-  pub same : done y ≡ done x
+  pub same : stimuli_done y ≡ stimuli_done x
   pub finds : FindsNone sys v w
 
-abbrev pub Passes : System → Cursor → Cursor → LaneView → LaneView → Passed → Type 0
-Passes sys x y v w passed.Yes = HasPassed sys x y v w
-Passes sys x y v w (passed.Found p now) = FindsEntry sys p now x y v w
-Passes sys x y v w passed.Stopped = StopsThere sys x y v w
-Passes sys x y v w passed.Memory = StarvesThere sys x y v w
+abbrev pub CursorPasses : System → Cursor → Cursor → LaneView → LaneView → Passed → Type 0
+CursorPasses sys x y v w passed.Yes = HasPassed sys x y v w
+CursorPasses sys x y v w (passed.Found p now) = FindsEntry sys p now x y v w
+CursorPasses sys x y v w passed.Stopped = StopsThere sys x y v w
+CursorPasses sys x y v w passed.Memory = StarvesThere sys x y v w
 
 -- No `settle` is passed but where the stop word was found unset by the lane, behind the looks that add nothing. The lane had handed in no code and found none.
 abbrev pub PassesUnset : LaneView → Passed → Type 0

@@ -47,7 +47,7 @@ pub record SourceIdles (sys : System) (x y : Cursor) (v w : LaneView) : Type 0 w
   pub rests : (at_settle_in y || not (left_in y)) ≡ true
 
 -- It stopped where a lane may. It has just handed in the code of its last record, or found the stop word set.
-pub record SourceStops (sys : System) (x y : Cursor) (v w : LaneView) : Type 0 where
+pub record SourceHasStopped (sys : System) (x y : Cursor) (v w : LaneView) : Type 0 where
   pub leaves : (kernel end : ℕ) → may_try kernel ≡ true → may_cut end ≡ true → SourceLeaves sys kernel end (mine x) w.told
   pub why : HandsCode v w ⊎ HasFound v w
   pub ts : List ToldItem
@@ -63,29 +63,29 @@ pub record SourceStarves (v w : LaneView) : Type 0 where
 
 abbrev pub SourceTurns : System → Cursor → Cursor → LaneView → LaneView → Turn → Type 0
 SourceTurns sys x y v w turn.Idle = SourceIdles sys x y v w
-SourceTurns sys x y v w turn.Stopped = SourceStops sys x y v w
+SourceTurns sys x y v w turn.Stopped = SourceHasStopped sys x y v w
 SourceTurns sys x y v w turn.Memory = SourceStarves v w
 
 -- The turn stopped where the stop word was found set, or this stimulus stopped the lane, or memory was refused in it.
-abbrev pub EndsIn : System → Stim → ℕ → LaneView → LaneView → Turn → Type 0
-EndsIn sys s place v w turn.Idle = ⊥
-EndsIn sys s place v w turn.Stopped = FindsStop v w ⊎ Stimulates sys s place 0 v w stimulated.Stopped
-EndsIn sys s place v w turn.Memory = Stimulates sys s place 0 v w stimulated.Memory
+abbrev pub StimulusBreaksOff : System → Stim → ℕ → LaneView → LaneView → Turn → Type 0
+StimulusBreaksOff sys s place v w turn.Idle = ⊥
+StimulusBreaksOff sys s place v w turn.Stopped = FindsStop v w ⊎ Stimulates sys s place 0 v w stimulated.Stopped
+StimulusBreaksOff sys s place v w turn.Memory = Stimulates sys s place 0 v w stimulated.Memory
 
 -- Stimuli were done up to one that is no `settle`, before which the cursor stands, and it ended there.
-pub record BreaksOff (sys : System) (x y : Cursor) (v w : LaneView) (answer : Turn) : Type 0 where
+pub record SourceBreaksOff (sys : System) (x y : Cursor) (v w : LaneView) (answer : Turn) : Type 0 where
   pub before : LaneView
   pub goes : CursorGoes sys x y v before
   pub stands : (at_settle_in y || not (left_in y)) ≡ false
   pub s : Stim
   pub next : drop y.begun (mine y) ≡ s ∷ drop (y.begun + 1) (mine y)
-  pub ends : EndsIn sys s (y.begun + 1) before w answer
+  pub ends : StimulusBreaksOff sys s (y.begun + 1) before w answer
 
 -- a turn breaks off at a stimulus that is no `settle`, or is Idle
 abbrev pub BreaksOffUnlessIdle : System → Cursor → Cursor → LaneView → LaneView → Turn → Type 0
 BreaksOffUnlessIdle sys x y v w turn.Idle = Unit {0}
-BreaksOffUnlessIdle sys x y v w turn.Stopped = BreaksOff sys x y v w turn.Stopped
-BreaksOffUnlessIdle sys x y v w turn.Memory = BreaksOff sys x y v w turn.Memory
+BreaksOffUnlessIdle sys x y v w turn.Stopped = SourceBreaksOff sys x y v w turn.Stopped
+BreaksOffUnlessIdle sys x y v w turn.Memory = SourceBreaksOff sys x y v w turn.Memory
 
 -- one stimulus more was done, or the turn ends
 pub record OneMore (sys : System) (x y : Cursor) (v w : LaneView) : Type 0 where

@@ -69,9 +69,9 @@ StartsAlone w step.Stopped = IsStartAlone 1 (untold_all w.told)
 StartsAlone w step.Memory = Unit {0}
 
 -- at the budget the queue was found empty, or an entry stopped the lane
-abbrev pub LooksTo : System → ℕ → ℕ → Home → LaneView → Result (Unit {0}) Halt → Type 0
-LooksTo sys budget me y w (Ok u) = HomeIdles sys budget y w
-LooksTo sys budget me y w (Err h) = HomeHalts sys budget me y w h
+abbrev pub HomeLooksTo : System → ℕ → ℕ → Home → LaneView → Result (Unit {0}) Halt → Type 0
+HomeLooksTo sys budget me y w (Ok u) = HomeIdles sys budget y w
+HomeLooksTo sys budget me y w (Err h) = HomeHalts sys budget me y w h
 
 -- a step has begun, or the turn is over
 abbrev pub NextTo : System → ℕ → ℕ → Home → LaneView → Result Bool Halt → Type 0
@@ -85,20 +85,20 @@ UnsetFirst v (Ok b) = is_unset v ≡ true
 UnsetFirst v (Err h) = Unit {0}
 
 -- the step is done
-abbrev pub StepsTo : System → ℕ → ℕ → Home → LaneView → Result (Unit {0}) Halt → Type 0
-StepsTo sys budget me y w (Ok u) = IsHome sys budget y w
-StepsTo sys budget me y w (Err h) = HomeHalts sys budget me y w h
+abbrev pub HomeStepsTo : System → ℕ → ℕ → Home → LaneView → Result (Unit {0}) Halt → Type 0
+HomeStepsTo sys budget me y w (Ok u) = IsHome sys budget y w
+HomeStepsTo sys budget me y w (Err h) = HomeHalts sys budget me y w h
 
 -- a look that showed an entry
-abbrev pub is_entry : ℕ × ℕ × ℕ → Bool
-is_entry x = nat_lt x.2 (x.0 + x.1)
+abbrev pub shows_entry : ℕ × ℕ × ℕ → Bool
+shows_entry x = nat_lt x.2 (x.0 + x.1)
 
 -- No look of which the lane has told since found the queue empty: no `nil` came, and each look in the place of a take showed an entry.
 pub record NeverEmpty (v w : LaneView) : Type 0 where
   pub ts : List ToldItem
   pub told : w.told ≡ v.told ++ ts
   pub nils : nils_in ts ≡ []
-  pub looks : list_all is_entry (looks_in ts) ≡ true
+  pub looks : list_all shows_entry (looks_in ts) ≡ true
 
 -- so it is where the turn didn't find the queue empty, or nothing says so yet
 abbrev pub NeverEmptyUnlessIdle : LaneView → LaneView → Turn → Type 0

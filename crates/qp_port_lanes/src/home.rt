@@ -3,7 +3,7 @@
 ghost use Rattle.std.specs.Prelude.{◌≡◌, IfOk, not, ◌&&◌};
 ghost use Rattle.qp_model.specs.Sound.{IsSound};
 ghost use Rattle.qp_kernel_turns.specs.Lanes.{LaneStarts};
-ghost use Rattle.qp_port_lanes.specs.At.{HasEmptyLane, IsMade};
+ghost use Rattle.qp_port_lanes.specs.At.{HasEmptyLane, IsUnstartedHome};
 ghost use Rattle.qp_port_lanes.specs.Turning.{HomeStarts, StartsAlone};
 
 use qp_base::Memory;
@@ -27,7 +27,7 @@ impl Home {
     /// The object of this priority before its start, for a lane that serves it and no other. A system that lacks it, or its chart,
     /// gets the answer of a want of memory.
     pub fn new(alloc: Global, sys: &System, priority: u8) -> Result<Home, Memory>
-        ensures { IfOk result (λ home. IsMade sys.now priority home) }
+        ensures { IfOk result (λ home. IsUnstartedHome sys.now priority home) }
     {
         let object = Object::new(alloc, sys, priority)?;
         Ok(Home {
@@ -43,7 +43,7 @@ impl Home {
     /// and never answers Point.
     pub fn start<O: Ops>(&mut self, ops: &mut O, sys: &System) -> Step
         requires sound { IsSound sys.now }
-        requires made { IsMade sys.now self.old.me self.old }
+        requires made { IsUnstartedHome sys.now self.old.me self.old }
         requires empty { HasEmptyLane sys.now self.old.me (O.lane ops.old) }
         ensures goes { HomeStarts sys.now self.old.me self.new (O.lane ops.new) result }
         ensures alone { StartsAlone (O.lane ops.new) result }

@@ -3,7 +3,7 @@
 ghost use Rattle.std.specs.Prelude.{◌≡◌, ◌<◌, true};
 ghost use Rattle.qp_model.specs.Sound.{IsSound};
 ghost use Rattle.qp_port_lanes.specs.CursorAt.{IsCursorAt, at_settle_in};
-ghost use Rattle.qp_port_lanes.specs.Passing.{Glimpses, Opens, Passes, PassesUnset};
+ghost use Rattle.qp_port_lanes.specs.Passing.{Glimpses, Opens, CursorPasses, PassesUnset};
 ghost use Rattle.qp_port_lanes.specs.SourceTurning.{IsSameSource};
 
 use crate::cursor::Cursor;
@@ -50,7 +50,7 @@ pub fn pass_settle<O: Ops>(ops: &mut O, sys: &System, source: &mut Cursor<'_>) -
     requires sound { IsSound sys.now }
     requires knows { IsCursorAt sys.now source.old (O.lane ops.old) }
     requires stands { at_settle_in source.old ≡ true }
-    ensures passes { Passes sys.now source.old source.new (O.lane ops.old) (O.lane ops.new) result }
+    ensures passes { CursorPasses sys.now source.old source.new (O.lane ops.old) (O.lane ops.new) result }
     ensures same { IsSameSource source.old source.new }
     ensures unset { PassesUnset (O.lane ops.old) result }
 {

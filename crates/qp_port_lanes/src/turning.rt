@@ -6,7 +6,7 @@ ghost use Rattle.qp_kernel_turns.specs.Lanes.{LaneTo, LaneTurns};
 ghost use Rattle.qp_told.specs.Steps.{TellsSteps};
 ghost use Rattle.qp_port_lanes.specs.At.{IsBusyHome, IsHome};
 ghost use Rattle.qp_port_lanes.specs.Takes.{BeginTakes, FinishTakes, LookTakes};
-ghost use Rattle.qp_port_lanes.specs.Turning.{HomeTurns, LooksTo, NeverEmpty, NextTo, StaysEmpty, StepsTo, UnlessFound, NeverEmptyUnlessIdle, UnlessOver, UnsetFirst};
+ghost use Rattle.qp_port_lanes.specs.Turning.{HomeTurns, HomeLooksTo, NeverEmpty, NextTo, StaysEmpty, HomeStepsTo, UnlessFound, NeverEmptyUnlessIdle, UnlessOver, UnsetFirst};
 
 use crate::home::Home;
 use qp_base::Tells;
@@ -38,7 +38,7 @@ fn look_only<O: Ops>(ops: &mut O, sys: &System, home: &mut Home, budget: u32) ->
     requires knows { IsHome sys.now budget home.old (O.lane ops.old) }
     requires full { budget ≤ home.old.object.taken }
     requires room { 8 ≤ (O.lane ops.old).spare }
-    ensures goes { LooksTo sys.now budget home.old.me home.new (O.lane ops.new) result }
+    ensures goes { HomeLooksTo sys.now budget home.old.me home.new (O.lane ops.new) result }
     ensures never { UnlessFound (O.lane ops.old) (O.lane ops.new) result }
     ensures lane { LaneTo false (O.lane ops.old) (O.lane ops.new) result }
     ensures same { home.new.me ≡ home.old.me }
@@ -108,7 +108,7 @@ pub fn finish_step<R: Wait, O: Ops>(
 ) -> Result<(), Halt>
     requires sound { IsSound sys.now }
     requires knows { IsBusyHome sys.now budget false home.old (O.lane ops.old) }
-    ensures goes { StepsTo sys.now budget home.old.me home.new (O.lane ops.new) result }
+    ensures goes { HomeStepsTo sys.now budget home.old.me home.new (O.lane ops.new) result }
     ensures never { NeverEmpty (O.lane ops.old) (O.lane ops.new) }
     ensures lane { LaneTo false (O.lane ops.old) (O.lane ops.new) result }
     ensures same { home.new.me ≡ home.old.me }
@@ -147,7 +147,7 @@ fn rounds<R: Wait, O: Ops, G: Tells>(
     requires sound { IsSound sys.now }
     requires few { budget ≤ 1000000 }
     requires knows { IsHome sys.now budget home.old (O.lane ops.old) }
-    ensures goes { LooksTo sys.now budget home.old.me home.new (O.lane ops.new) result }
+    ensures goes { HomeLooksTo sys.now budget home.old.me home.new (O.lane ops.new) result }
     ensures never { UnlessFound (O.lane ops.old) (O.lane ops.new) result }
     ensures lane { LaneTo false (O.lane ops.old) (O.lane ops.new) result }
     ensures same { home.new.me ≡ home.old.me }

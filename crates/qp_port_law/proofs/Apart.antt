@@ -8,7 +8,7 @@ use Rattle.qp_model.specs.Record.{Item}
 use Rattle.qp_model.specs.Told.{ToldItem}
 use Rattle.qp_model_order.specs.SourceRun.{untold, untold_all}
 use Rattle.qp_calls.specs.LaneView.{Advances, AreBetween, IsBetween, LaneView}
-use Rattle.qp_kernel.specs.Starts.{AreStarts, IsStartAlone, behind, up_to}
+use Rattle.qp_kernel.specs.Starts.{AreStarts, IsStartAlone, behind_starts, up_to}
 use Rattle.qp_model.specs.OutputSummary.{is_done_record}
 use Rattle.qp_kernel.proofs.StartsLemmas.{starts-split}
 use Rattle.qp_port_phases.specs.Turns.{AreReady}

@@ -17,14 +17,14 @@ use Rattle.qp_model.specs.ObjectShape.{FindsEmpty, LooksOnly}
 use Rattle.qp_kernel.specs.Turning.{seen_told}
 use Rattle.qp_kernel.proofs.TurnLemmas.{done-form, start-form}
 use Rattle.qp_kernel.proofs.ZeroLemmas.{ends-told}
-use Rattle.qp_port_law.specs.HomeLaws.{HasMore, OwnRises, RestingHomeLeaves, HomeStarts, NilIsTold, LookIsTold, HomeStepBegins, HomeStepPauses, HomeStepEnds, UnstartedHomeEnds, HomeStartFails, HomeStartIsCut, RestingHomeEnds, FullHomeEnds, SpentHomeEnds, WaitingHomeEnds, HomeStepFails, HomeStepIsCut}
+use Rattle.qp_port_law.specs.HomeLaws.{HasMore, OwnRises, RestingHomeLeaves, HomeStartCompletes, NilIsTold, LookIsTold, HomeStepBegins, HomeStepPauses, HomeStepEnds, UnstartedHomeEnds, HomeStartFails, HomeStartIsCut, RestingHomeEnds, FullHomeEnds, SpentHomeEnds, WaitingHomeEnds, HomeStepFails, HomeStepIsCut}
 use Rattle.qp_port_law.specs.HomeLanes.{IsHomeLane}
 use Rattle.qp_port_law.proofs.HomeRecords.{dispatched-append, home-of, own-of, other-zero, same-number}
 use Rattle.qp_port_law.proofs.HomeGrows.{home-inside, home-look, home-new, home-nil, home-took, not-looked}
 use Rattle.qp_port_law.proofs.HomeSteps.{done-calm, done-inside, part-done, part-point, part-took, point-inside, started-calm, started-inside, whole-mark, whole-started}
 use Rattle.qp_port_law.proofs.HomeEnding.{full-ends, spent-ends, start-fails, start-is_cut, step-fails, step-is_cut, step-stops, unstarted-ends, waiting-ends}
 
-pub home_starts : HomeStarts
+pub home_starts : HomeStartCompletes
 home_starts sys d chart budget own g c at starts =
     let form = start-form sys (actor d chart) (first_config d) g c starts in
     (home-inside d.priority budget own own [] [] g (omega arith) (omega arith) (home-new d.priority budget own) (started-inside g form) (ends-told d.priority g (started-calm g form)), whole-started sys d chart at.some g c starts)

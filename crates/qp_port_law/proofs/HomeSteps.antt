@@ -13,7 +13,7 @@ use Rattle.qp_model.specs.Able.{chart_able}
 use Rattle.qp_model.specs.Ends.{is_end}
 use Rattle.qp_model.specs.Step.{Remainder, StepGoesOn, Step, StepBehind, DoesLeft, whole_step}
 use Rattle.qp_model.specs.Course.{actor, first_config, Starts, Course}
-use Rattle.qp_model.specs.Standing.{Advances, Leaves}
+use Rattle.qp_model.specs.Standing.{StepAdvances, Leaves}
 use Rattle.qp_model.specs.Lawful.{dispatched}
 use Rattle.qp_model.specs.ObjectShape.{StartGroup, StepGroup, IsTurn}
 use Rattle.qp_model.proofs.CourseLemmas.{course-snoc}
@@ -184,18 +184,18 @@ module _ (sys : System) (d : ObjectDef) (chart : Chart) (some : 0 < d.priority) 
         (course-snoc sys (actor d chart) (first_config d) part.others e part.first part.whole.ps (part.step ++ qs) end part.whole.comes.0 (part.goes qs end goes))
 
     -- The step comes to its next scheduling point.
-    pub point-inside : (later : Remainder) (after : Config) (g : List Told) → Advances sys (actor d chart) ev e left c (tell g ++ Point ∷ []) later after → IsReady sys (actor d chart) later after
+    pub point-inside : (later : Remainder) (after : Config) (g : List Told) → StepAdvances sys (actor d chart) ev e left c (tell g ++ Point ∷ []) later after → IsReady sys (actor d chart) later after
         → AreInside g × (list_any (λ t. is_end t.body) g ≡ false)
-    unfolding Advances
+    unfolding StepAdvances
     point-inside later after g goes ready =
         let rest = goes_on-completes sys (actor d chart) ev e later after ready.able ready.room in
         let inner = point-inner sys (actor d chart) ev e left c part.ready.closing g rest.0 rest.1
         (subst (λ x. StepGoesOn sys (actor d chart) ev e left c x rest.1) (append_assoc (tell g) (Point ∷ []) rest.0) (goes rest.0 rest.1 rest.2)) in
         (own-inside g (inner-own g inner), inner-calm g inner)
 
-    pub part-point : (later : Remainder) (after : Config) (g : List Told) → Advances sys (actor d chart) ev e left c (tell g ++ Point ∷ []) later after → IsReady sys (actor d chart) later after
+    pub part-point : (later : Remainder) (after : Config) (g : List Told) → StepAdvances sys (actor d chart) ev e left c (tell g ++ Point ∷ []) later after → IsReady sys (actor d chart) later after
         → IsPartHome sys d chart true (told ++ of_it d.priority g) es (suc points) ev e later after
-    unfolding Advances records_in
+    unfolding StepAdvances records_in
     part-point later after g goes ready =
         let inside = (point-inside later after g goes ready).0 in
         let bare-step : records_in (part.step ++ (tell g ++ Point ∷ [])) ≡ records_in part.step ++ g =

@@ -22,7 +22,7 @@ use Rattle.qp_port_law.proofs.Resting.{quiet_runs_rest}
 use Rattle.qp_port_law.specs.QkRun.{most_idle, IsQkRun}
 use Rattle.qp_port_law.proofs.QkBlind.{qk-blind}
 use Rattle.qp_port_law.proofs.QkLawful.{lawful}
-use Rattle.qp_port_law.specs.SealedLaws.{SealedQkRunsAreLawful}
+use Rattle.qp_port_law.specs.SealedLaws.{SealedQkLanesAreLawful}
 use Rattle.qp_port_law.specs.QkLanes.{AreQkLanes, QkRests}
 use Rattle.qp_port_law.proofs.LaneLemmas.{flat-none, none-in, settles-all, sources-count, sources-leave}
 
@@ -74,5 +74,5 @@ module _ (sys : System) (stimuli : List (List Stim)) (budget : ℕ) (first : Lan
     blocks = λ end. (rest (are.rests end)).1;
   }
 
-pub sealed-qk : SealedQkRunsAreLawful
+pub sealed-qk : SealedQkLanesAreLawful
 sealed-qk sys stimuli budget first sources j are = lawful sys stimuli j (is-run sys stimuli budget first sources j are)

@@ -16,7 +16,7 @@ use Rattle.qp_model_order.specs.SourceRun.{untold_all}
 use Rattle.qp_model_order.proofs.SourceLanes.{untold-lane}
 use Rattle.qp_calls.specs.LaneView.{LaneView}
 use Rattle.qp_port_law.specs.Sealed.{SealsLanes}
-use Rattle.qp_kernel.specs.Starts.{behind, up_to}
+use Rattle.qp_kernel.specs.Starts.{behind_starts, up_to}
 use Rattle.qp_port_law.specs.SealedLaws.{HomesThatStartFirst, ZeroThatStartsFirst}
 use Rattle.qp_port_law.specs.StartsFirst.{AreApart, HomesStartFirst, IsAmong, IsApart, StartsFirst, ZeroStartsFirst, draws, starts_at_home, starts_in, starts_in_first}
 
@@ -29,7 +29,7 @@ among-all P (x ∷ ks) k all (inr h) = among-all P ks k all.1 h
 pub floors-first : (sys : System) (j : Journal) (floor : Word → ℕ) → ((n : ℕ) → IsApart floor (starts_in (length sys.objects) j n) (lane_items (lane_at j n))) → StartsFirst sys j
 floors-first sys j floor apart n m mark later w one two =
     let a = among-all (λ k. k ≤ floor w) (draws w (up_to (starts_in (length sys.objects) j n) (lane_items (lane_at j n)))) mark ((apart n).below w) one in
-    let b = among-all (λ k. floor w ≤ k) (marks w (behind (starts_in (length sys.objects) j m) (lane_items (lane_at j m)))) later ((apart m).above w) two in
+    let b = among-all (λ k. floor w ≤ k) (marks w (behind_starts (starts_in (length sys.objects) j m) (lane_items (lane_at j m)))) later ((apart m).above w) two in
     omega (arith, a, b)
 
 no-items : (floor : Word → ℕ) (n : ℕ) → IsApart floor n []

@@ -13,7 +13,7 @@ use Rattle.qp_model.specs.Acts.{Config}
 use Rattle.qp_model.specs.Able.{chart_able}
 use Rattle.qp_model.specs.Ends.{is_end, may_cut}
 use Rattle.qp_model.specs.Step.{Remainder, StepGoesOn, whole_step}
-use Rattle.qp_model.specs.Standing.{Advances}
+use Rattle.qp_model.specs.Standing.{StepAdvances}
 use Rattle.qp_model.specs.Course.{actor, first_config, chart_at, Starts}
 use Rattle.qp_model.specs.Lawful.{dispatched}
 use Rattle.qp_model.specs.OutputSummary.{CourseLeaves}
@@ -49,8 +49,8 @@ abbrev pub OwnRises : Type 0
 OwnRises = (a : ℕ) (own : Own) (ts : List ToldItem) → HasMore own (own_after a own ts)
 
 -- the object's start comes to its `done`
-abbrev pub HomeStarts : Type 0
-HomeStarts =
+abbrev pub HomeStartCompletes : Type 0
+HomeStartCompletes =
     (sys : System) (d : ObjectDef) (chart : Chart) (budget : ℕ) (own : Own) (g : List Told) (c : Config) → IsHomeOf sys d chart
     → Starts sys (actor d chart) (first_config d) (tell g) (Some c) → HomeRests sys d chart budget own false (map (for_object d.priority) g) [] 0 c
 
@@ -80,7 +80,7 @@ abbrev pub HomeStepPauses : Type 0
 HomeStepPauses =
     (sys : System) (d : ObjectDef) (chart : Chart) (budget : ℕ) (own more : Own) (waits : Bool) (told : List ToldItem) (es : List Entry) (points : ℕ) (ev : Event) (e : Entry) (left later : Remainder)
     (c after : Config) (g : List Told)
-    → IsHomeOf sys d chart → HasMore own more → Advances sys (actor d chart) ev e left c (tell g ++ Point ∷ []) later after → IsReady sys (actor d chart) later after
+    → IsHomeOf sys d chart → HasMore own more → StepAdvances sys (actor d chart) ev e left c (tell g ++ Point ∷ []) later after → IsReady sys (actor d chart) later after
     → IsBusy sys d chart budget own false waits told es points ev e left c → IsBusy sys d chart budget more false true (told ++ map (for_object d.priority) g) es (suc points) ev e later after
 
 -- its step comes to its end, with the release of its entry, and the object rests

@@ -20,11 +20,11 @@ use Rattle.qp_plain_sound.specs.Sound.{Sound}
 use Rattle.qp_plain_sound.specs.View.{shown_in}
 
 -- a word of the event table
-abbrev pub is_on_table : Word → Bool
-is_on_table (word.Pool p) = true
-is_on_table (word.Block p b) = true
-is_on_table (word.Queue a) = true
-is_on_table _ = false
+abbrev pub is_event_table_word : Word → Bool
+is_event_table_word (word.Pool p) = true
+is_event_table_word (word.Block p b) = true
+is_event_table_word (word.Queue a) = true
+is_event_table_word _ = false
 
 -- none of the records has a greater mark than the lane has seen
 abbrev pub is_behind : Word → ℕ → List ToldItem → Bool
@@ -49,9 +49,9 @@ pub record SealsLanes (sys : System) (kernel budget : ℕ) (vs : List LaneView) 
   pub room : list_all (λ lane. has_room (lane_items lane)) j.lanes ≡ true
   pub told : (n : ℕ) (v : LaneView) → IsLaneAt vs n v → told_lane (facts_of sys j) 0 (lane_items (lane_at j n)) ≡ v.told
   pub sound : Sound sys j.lanes (hands_of_all vs)
-  pub known : (n : ℕ) (v : LaneView) (x : Word) → IsLaneAt vs n v → is_on_table x ≡ true → v.mark x ≤ total x (all_items j.lanes)
-  pub says : (n : ℕ) (v : LaneView) (x : Word) → IsLaneAt vs n v → is_on_table x ≡ true → v.mark x ≡ total x (all_items j.lanes) → v.shown x ≡ shown_in sys j.lanes x
-  pub behind : (n : ℕ) (v : LaneView) (x : Word) → IsLaneAt vs n v → is_on_table x ≡ true → is_behind x (v.mark x) v.told ≡ true
+  pub known : (n : ℕ) (v : LaneView) (x : Word) → IsLaneAt vs n v → is_event_table_word x ≡ true → v.mark x ≤ total x (all_items j.lanes)
+  pub says : (n : ℕ) (v : LaneView) (x : Word) → IsLaneAt vs n v → is_event_table_word x ≡ true → v.mark x ≡ total x (all_items j.lanes) → v.shown x ≡ shown_in sys j.lanes x
+  pub behind : (n : ℕ) (v : LaneView) (x : Word) → IsLaneAt vs n v → is_event_table_word x ≡ true → is_behind x (v.mark x) v.told ≡ true
   pub events : (n : ℕ) (v : LaneView) (e : Entry) → IsLaneAt vs n v → IsTrue (is_known v e) → event_of_entry (facts_of sys j) e ≡ Some (v.event e)
   pub handed : (n code : ℕ) (v : LaneView) → IsLaneAt vs n v → has v.answered code ≡ true → (m : ℕ) × (u : LaneView) × IsLaneAt vs m u × (has u.stops code ≡ true)
   pub one_code : (n m code other : ℕ) (v u : LaneView) → IsLaneAt vs n v → IsLaneAt vs m u → has v.answered code ≡ true → has u.answered other ≡ true → code ≡ other

@@ -23,8 +23,8 @@ SealedPortRunsAreLawful =
     → ArePortLanes sys stimuli budget first homes sources j → Lawful sys stimuli j
 
 -- so do the kernel's lane and those of sources
-abbrev pub SealedQkRunsAreLawful : Type 0
-SealedQkRunsAreLawful =
+abbrev pub SealedQkLanesAreLawful : Type 0
+SealedQkLanesAreLawful =
     (sys : System) (stimuli : List (List Stim)) (budget : ℕ) (first : LaneView) (sources : List LaneView) (j : Journal)
     → AreQkLanes sys stimuli budget first sources j → Lawful sys stimuli j
 

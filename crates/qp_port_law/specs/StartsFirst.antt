@@ -12,7 +12,7 @@ use Rattle.qp_model.specs.Kernels.{port}
 use Rattle.qp_model.specs.Record.{Item}
 use Rattle.qp_model_order.specs.SourceRun.{untold_all}
 use Rattle.qp_calls.specs.LaneView.{LaneView}
-use Rattle.qp_kernel.specs.Starts.{behind, up_to}
+use Rattle.qp_kernel.specs.Starts.{behind_starts, up_to}
 
 -- How many of so many objects start in lane n: under `port` one in each home, and under `qk` all in the first; none in the lane of a source
 abbrev pub starts_at_home : ℕ → ℕ → ℕ
@@ -42,7 +42,7 @@ IsAmong n (m ∷ ms) = (n ≡ m) ⊎ IsAmong n ms
 -- On each word: what a start did to it stands before all that any lane did to it, or saw of it, behind its own starts.
 abbrev pub SoManyStartFirst : ℕ → Journal → Type 0
 SoManyStartFirst many j =
-    (n m mark later : ℕ) (w : Word) → IsAmong mark (draws w (up_to (starts_in many j n) (lane_items (lane_at j n)))) → IsAmong later (marks w (behind (starts_in many j m) (lane_items (lane_at j m)))) → mark ≤ later
+    (n m mark later : ℕ) (w : Word) → IsAmong mark (draws w (up_to (starts_in many j n) (lane_items (lane_at j n)))) → IsAmong later (marks w (behind_starts (starts_in many j m) (lane_items (lane_at j m)))) → mark ≤ later
 
 abbrev pub StartsFirst : System → Journal → Type 0
 StartsFirst sys j = SoManyStartFirst (length sys.objects) j
@@ -50,7 +50,7 @@ StartsFirst sys j = SoManyStartFirst (length sys.objects) j
 -- Of a lane with so many starts, by a floor of each word: no number drawn in a start is above it, and no mark behind them below.
 pub record IsApart (floor : Word → ℕ) (starts : ℕ) (items : List Item) : Type 0 where
   pub below : (w : Word) → AllByRecursion (λ k. k ≤ floor w) (draws w (up_to starts items))
-  pub above : (w : Word) → AllByRecursion (λ k. floor w ≤ k) (marks w (behind starts items))
+  pub above : (w : Word) → AllByRecursion (λ k. floor w ≤ k) (marks w (behind_starts starts items))
 
 abbrev pub AreApart : (Word → ℕ) → ℕ → List LaneView → Type 0
 AreApart floor starts vs = AllByRecursion (λ v. IsApart floor starts (untold_all v.told)) vs

@@ -1,10 +1,10 @@
 //! Laws of a home lane, from its first record to its end. Each function here does nothing: its contract is the law.
 
-ghost use Rattle.qp_port_law.specs.HomeLaws.{FullHomeEnds, HomeStartFails, HomeStartIsCut, HomeStarts, HomeStepBegins, HomeStepEnds, HomeStepFails, HomeStepIsCut, HomeStepPauses, LookIsTold, NilIsTold, OwnRises, RestingHomeEnds, RestingHomeLeaves, SpentHomeEnds, UnstartedHomeEnds, WaitingHomeEnds};
+ghost use Rattle.qp_port_law.specs.HomeLaws.{FullHomeEnds, HomeStartFails, HomeStartIsCut, HomeStartCompletes, HomeStepBegins, HomeStepEnds, HomeStepFails, HomeStepIsCut, HomeStepPauses, LookIsTold, NilIsTold, OwnRises, RestingHomeEnds, RestingHomeLeaves, SpentHomeEnds, UnstartedHomeEnds, WaitingHomeEnds};
 
 /// The object's start comes to its `done`, and its lane has a whole group.
 pub fn home_starts()
-    ensures { HomeStarts }
+    ensures { HomeStartCompletes }
 {}
 
 /// The queue is found empty, and the lane tells so.

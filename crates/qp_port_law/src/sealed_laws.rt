@@ -1,6 +1,6 @@
 //! Laws of runs with threads that have ended. Each function here does nothing: its contract is the law.
 
-ghost use Rattle.qp_port_law.specs.SealedLaws.{HomesThatStartFirst, PortRestsAreTold, QkRestsAreTold, SealedPortRunsAreLawful, SealedQkRunsAreLawful, ZeroThatStartsFirst};
+ghost use Rattle.qp_port_law.specs.SealedLaws.{HomesThatStartFirst, PortRestsAreTold, QkRestsAreTold, SealedPortRunsAreLawful, SealedQkLanesAreLawful, ZeroThatStartsFirst};
 
 /// Lanes that were sealed, one for each object and each source, left a lawful journal of `port`.
 pub fn sealed_port_runs_are_lawful()
@@ -9,7 +9,7 @@ pub fn sealed_port_runs_are_lawful()
 
 /// Lanes that were sealed, lane 0 for all objects and one for each source, left a lawful journal of `qk`.
 pub fn sealed_qk_runs_are_lawful()
-    ensures { SealedQkRunsAreLawful }
+    ensures { SealedQkLanesAreLawful }
 {}
 
 /// Where each object starts in a lane of its own before any source acts, all starts come first.

@@ -4,7 +4,7 @@ use Rattle.std.specs.Prelude.{IsTrue}
 use Rattle.qp_model.specs.WordLaw.{is_object}
 use Rattle.qp_calls.specs.LaneView.{LaneView}
 use Rattle.qp_port_phases.specs.Lanes.{KeepEach}
-use Rattle.qp_port_phases.specs.Rows.{CountsBy, CountsOn, HasCause, HasFewRows, Numbers, SeesEntry, TriesCount, all_settles, any_lost, one_where}
+use Rattle.qp_port_phases.specs.Rows.{CountsBy, CountsOn, PhaseHasCause, HasFewRows, Numbers, LaneSeesEntry, TriesCount, all_settles, any_lost, one_where}
 use Rattle.qp_port_phases.specs.Turns.{TurnEach}
 
 or-none : (a b : Bool) → (a || b) ≡ false → (a ≡ false) × (b ≡ false)
@@ -62,9 +62,9 @@ module _ {T : Type 0} (numbers : T → Numbers) where
   few-same more x y xs same few = subst (λ (n : Numbers). (n.lost || any_lost numbers xs) ≡ false → n.rows ≤ (n.settles + all_settles numbers xs) + more) (sym same) few
 
   -- the first has the same numbers, and sees what it saw
-  pub cause-same : (view : T → LaneView) (objects : List ℕ) (x y : T) (xs : List T) → numbers y ≡ numbers x → view y ≡ view x → HasCause numbers view objects (x ∷ xs) → HasCause numbers view objects (y ∷ xs)
+  pub cause-same : (view : T → LaneView) (objects : List ℕ) (x y : T) (xs : List T) → numbers y ≡ numbers x → view y ≡ view x → PhaseHasCause numbers view objects (x ∷ xs) → PhaseHasCause numbers view objects (y ∷ xs)
   cause-same view objects x y xs same still (inl few) = inl (few-same 0 x y xs same few)
-  cause-same view objects x y xs same still (inr (few, sees)) = inr (few-same 1 x y xs same few, subst (λ (v : LaneView). (p : ℕ) × IsTrue (is_object v.sys p) × SeesEntry v p) (sym still) sees)
+  cause-same view objects x y xs same still (inr (few, sees)) = inr (few-same 1 x y xs same few, subst (λ (v : LaneView). (p : ℕ) × IsTrue (is_object v.sys p) × LaneSeesEntry v p) (sym still) sees)
 
   -- tries to pass a `settle`
   pub tries-none : TriesCount numbers false [] []
@@ -103,8 +103,8 @@ module _ {T : Type 0} (numbers : T → Numbers) where
 
   -- there is cause for a phase: a `settle` was passed, none has been run, or an entry was seen
   pub caused : (view : T → LaneView) (objects : List ℕ) (some begun empty : Bool) (x y : T) (xs ys zs : List T) → numbers y ≡ numbers x → TriesCount numbers some xs ys → all_settles numbers zs ≡ all_settles numbers ys
-      → any_lost numbers zs ≡ any_lost numbers ys → HasFewRows numbers (one_where begun) (x ∷ xs) → (empty ≡ false → (p : ℕ) × IsTrue (is_object (view y).sys p) × SeesEntry (view y) p)
-      → (some || not begun || not empty) ≡ true → HasCause numbers view objects (y ∷ zs)
+      → any_lost numbers zs ≡ any_lost numbers ys → HasFewRows numbers (one_where begun) (x ∷ xs) → (empty ≡ false → (p : ℕ) × IsTrue (is_object (view y).sys p) × LaneSeesEntry (view y) p)
+      → (some || not begun || not empty) ≡ true → PhaseHasCause numbers view objects (y ∷ zs)
   caused view objects true begun empty x y xs ys zs same tries settles lost few sees cause =
       inl (λ none. let all = tried (one_where begun) true x y xs ys zs same tries settles lost few none in let one = few-one begun in omega (arith, all, one))
   caused view objects false false empty x y xs ys zs same tries settles lost few sees cause = inl (tried-few 0 false x y xs ys zs same tries settles lost few)
@@ -137,7 +137,7 @@ module _ {T : Type 0} (numbers : T → Numbers) where
     went-settles [] (y ∷ ys) h none = absurd h
     went-settles (x ∷ xs) [] h none = absurd h
 
-    pub went-few : (objects : List ℕ) (xs ys : List T) → TurnEach Turned xs ys → HasCause numbers view objects xs → HasFewRows numbers 1 ys
+    pub went-few : (objects : List ℕ) (xs ys : List T) → TurnEach Turned xs ys → PhaseHasCause numbers view objects xs → HasFewRows numbers 1 ys
     unfolding all_settles
     went-few objects [] [] h cause = tt
     went-few objects (x ∷ xs) (y ∷ ys) h (inl few) = λ none.

@@ -5,8 +5,8 @@ use Rattle.qp_calls.specs.LaneView.{LaneView}
 use Rattle.qp_port_phases.specs.declared.lanes.Passed.{Passed}
 use Rattle.qp_port_phases.specs.declared.lanes.Passed.TheVariants as passed
 use Rattle.qp_port_phases.specs.Lanes.{Kept}
-use Rattle.qp_port_phases.specs.Rows.{CountsBy, CountsOn, Numbers, PassCounts, SeesEntry}
-use Rattle.qp_port_phases.specs.Staying.{FirstIs, GoesOn, Stays}
+use Rattle.qp_port_phases.specs.Rows.{CountsBy, CountsOn, Numbers, PassCounts, LaneSeesEntry}
+use Rattle.qp_port_phases.specs.Staying.{FirstIs, GoesOn, WorkerStays}
 
 by-none : (m n : Numbers) → n ≡ m → CountsBy 0 m n
 by-none m n same = record {
@@ -53,11 +53,11 @@ module _ {T : Type 0} (Ready : T → Type 0) (Same : T → T → Type 0) (number
   goes-pass p x y ready same counts = record { ready = ready; same = same; counts = by-pass (numbers x) (numbers y) p counts }
 
   module _ (view : T → LaneView) where
-    pub stays-then : ((a b c : T) → Same a b → Same b c → Same a c) → (x y z : T) → Stays Ready Same view numbers x y → GoesOn Ready Same numbers y z → Stays Ready Same view numbers x z
+    pub stays-then : ((a b c : T) → Same a b → Same b c → Same a c) → (x y z : T) → WorkerStays Ready Same view numbers x y → GoesOn Ready Same numbers y z → WorkerStays Ready Same view numbers x z
     stays-then still x y z h k = record { ready = k.ready; same = still x y z h.same k.same; counts = on-then (view x) (numbers x) (numbers y) (numbers z) h.counts k.counts }
 
     -- a turn behind an entry that was just seen, or one that ends no row
-    pub goes-turn : (rowless : T → Bool) (y z : T) → (rowless y ≡ true) ⊎ ((p : ℕ) × IsTrue (is_object (view y).sys p) × SeesEntry (view y) p) → Ready z → Same y z → CountsOn (view y) (numbers y) (numbers z)
+    pub goes-turn : (rowless : T → Bool) (y z : T) → (rowless y ≡ true) ⊎ ((p : ℕ) × IsTrue (is_object (view y).sys p) × LaneSeesEntry (view y) p) → Ready z → Same y z → CountsOn (view y) (numbers y) (numbers z)
         → (rowless y ≡ true → (numbers z).lost ≡ false → (numbers z).rows ≤ (numbers y).rows) → GoesOn Ready Same numbers y z
     goes-turn rowless y z cause ready same on none = record {
       ready = ready;
@@ -65,7 +65,7 @@ module _ {T : Type 0} (Ready : T → Type 0) (Same : T → T → Type 0) (number
       counts = record { lost = on.lost; settles = λ l. omega (arith, on.settles l); rows = λ l. few cause l };
     }
       where
-        few : (rowless y ≡ true) ⊎ ((p : ℕ) × IsTrue (is_object (view y).sys p) × SeesEntry (view y) p) → (numbers z).lost ≡ false → (numbers z).rows ≤ (numbers y).rows
+        few : (rowless y ≡ true) ⊎ ((p : ℕ) × IsTrue (is_object (view y).sys p) × LaneSeesEntry (view y) p) → (numbers z).lost ≡ false → (numbers z).rows ≤ (numbers y).rows
         few (inl is) l = none is l
         few (inr (p, is, sees)) l = on.pending l p is sees
 

@@ -9,7 +9,7 @@ use Rattle.qp_calls.specs.LaneView.{LaneView, is_codeless}
 use Rattle.qp_calls_log.specs.Meeting.{IsTogether}
 use Rattle.qp_port_phases.specs.Lanes.{AreObjects, AreOneTable, AreTogether, IsTable, KeepEach, Kept, SameEach}
 use Rattle.qp_port_phases.specs.Rows.{Numbers}
-use Rattle.qp_port_phases.specs.Quiet.{AllBelow, FirstFound, HasFound, IsCodeOf, IsUnstopped}
+use Rattle.qp_port_phases.specs.Quiet.{AllBelow, FirstFound, HasFoundCode, IsCodeOf, IsUnstopped}
 use Rattle.qp_port_phases.specs.Stopping.{Hears, SameCodes}
 use Rattle.qp_port_phases.specs.Turns.{AreReady, TurnEach}
 
@@ -119,7 +119,7 @@ one-table view objects [] h = tt
 one-table view objects (x ∷ xs) h = h.0
 
 -- what was heard of before is heard of still
-pub found-since : (memory : Bool) (u v w : LaneView) → Hears u v → HasFound memory v w → HasFound memory u w
+pub found-since : (memory : Bool) (u v w : LaneView) → Hears u v → HasFoundCode memory v w → HasFoundCode memory u w
 found-since memory u v w before h =
     let a = before.handed in
     let b = h.handed in
@@ -138,17 +138,17 @@ first-since view Same hears memory xs [] zs same h = absurd h
 first-since view Same hears memory (x ∷ xs) (y ∷ ys) [] same h = absurd h
 
 -- a code was found in the stop word
-found : (memory : Bool) (u v w : LaneView) (code : ℕ) → SameCodes u v → Stopped v w (Some code) → IsCodeOf memory code → HasFound memory u w
+found : (memory : Bool) (u v w : LaneView) (code : ℕ) → SameCodes u v → Stopped v w (Some code) → IsCodeOf memory code → HasFoundCode memory u w
 found memory u v w code same h which =
     let handed : w.stops ≡ u.stops = ap (λ x. x.stops) h.0 ∙ same.0 in
     let long = ap length handed in
     let heard = ap length same.1 in
     record { code = code; others = v.answered; answered = ap (λ x. x.answered) h.0; which = which; handed = omega (arith, long); now = inl (omega (arith, heard)) }
 
-pub found-seven : (u v w : LaneView) (code : ℕ) → SameCodes u v → Stopped v w (Some code) → code ≡ 7 → HasFound true u w
+pub found-seven : (u v w : LaneView) (code : ℕ) → SameCodes u v → Stopped v w (Some code) → code ≡ 7 → HasFoundCode true u w
 found-seven u v w code same h is = found true u v w code same h is
 
-pub found-other : (u v w : LaneView) (code : ℕ) → SameCodes u v → Stopped v w (Some code) → (code ≡ 7 → ⊥) → HasFound false u w
+pub found-other : (u v w : LaneView) (code : ℕ) → SameCodes u v → Stopped v w (Some code) → (code ≡ 7 → ⊥) → HasFoundCode false u w
 found-other u v w code same h other = let some = h.1 in let few = h.2 in found false u v w code same h (some, grind (arith, nat_tests, other, some, few))
 
 -- none was found, and the looks behind that are no words with it

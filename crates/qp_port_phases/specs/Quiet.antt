@@ -41,7 +41,7 @@ IsCodeOf true code = code ≡ 7
 IsCodeOf false code = (0 < code) × (code ≤ 6)
 
 -- The lane has just found a code in the stop word, in this call: it found more codes than before, or has handed in one since.
-pub record HasFound (memory : Bool) (v w : LaneView) : Type 0 where
+pub record HasFoundCode (memory : Bool) (v w : LaneView) : Type 0 where
   pub code : ℕ
   pub others : List ℕ
   pub answered : w.answered ≡ code ∷ others
@@ -50,5 +50,5 @@ pub record HasFound (memory : Bool) (v w : LaneView) : Type 0 where
   pub now : (length v.answered ≤ length others) ⊎ (length v.stops < length w.stops)
 
 abbrev pub FirstFound : {T : Type 0} → (T → LaneView) → Bool → List T → List T → Type 0
-FirstFound view memory (x ∷ xs) (y ∷ ys) = HasFound memory (view x) (view y)
+FirstFound view memory (x ∷ xs) (y ∷ ys) = HasFoundCode memory (view x) (view y)
 FirstFound view memory _ _ = ⊥

@@ -16,7 +16,7 @@ pub record Numbers : Type 0 where
   pub lost : Bool
 
 -- the lane has just seen the queue of p with an entry
-pub record SeesEntry (v : LaneView) (p : ℕ) : Type 0 where
+pub record LaneSeesEntry (v : LaneView) (p : ℕ) : Type 0 where
   pub f : ℕ
   pub l : ℕ
   pub m : ℕ
@@ -30,7 +30,7 @@ pub record CountsOn (v : LaneView) (m n : Numbers) : Type 0 where
   pub lost : n.lost ≡ false → m.lost ≡ false
   pub settles : n.lost ≡ false → m.settles ≤ n.settles
   pub rows : n.lost ≡ false → n.rows ≤ m.rows + 1
-  pub pending : n.lost ≡ false → (p : ℕ) → IsTrue (is_object v.sys p) → SeesEntry v p → n.rows ≤ m.rows
+  pub pending : n.lost ≡ false → (p : ℕ) → IsTrue (is_object v.sys p) → LaneSeesEntry v p → n.rows ≤ m.rows
 
 -- what a try to pass a `settle` may change, where so many are passed
 pub record CountsBy (k : ℕ) (m n : Numbers) : Type 0 where
@@ -67,8 +67,8 @@ HasFewRows numbers more (first ∷ others) = any_lost numbers (first ∷ others)
 -- the first has just seen a queue with an entry
 abbrev pub FirstSees : {T : Type 0} → (T → LaneView) → List ℕ → List T → Type 0
 FirstSees view objects [] = ⊥
-FirstSees view objects (first ∷ others) = (p : ℕ) × IsTrue (is_object (view first).sys p) × SeesEntry (view first) p
+FirstSees view objects (first ∷ others) = (p : ℕ) × IsTrue (is_object (view first).sys p) × LaneSeesEntry (view first) p
 
 -- there is cause for a phase: one row more is allowed, or the first lane sees an entry
-abbrev pub HasCause : {T : Type 0} → (T → Numbers) → (T → LaneView) → List ℕ → List T → Type 0
-HasCause numbers view objects xs = HasFewRows numbers 0 xs ⊎ (HasFewRows numbers 1 xs × FirstSees view objects xs)
+abbrev pub PhaseHasCause : {T : Type 0} → (T → Numbers) → (T → LaneView) → List ℕ → List T → Type 0
+PhaseHasCause numbers view objects xs = HasFewRows numbers 0 xs ⊎ (HasFewRows numbers 1 xs × FirstSees view objects xs)

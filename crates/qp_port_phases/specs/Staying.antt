@@ -10,7 +10,7 @@ pub record GoesOn {T : Type 0} (Ready : T → Type 0) (Same : T → T → Type 0
   pub counts : CountsBy 0 (numbers a) (numbers b)
 
 -- the same lane, which may take another turn, and came to the end of what one turn may come to
-pub record Stays {T : Type 0} (Ready : T → Type 0) (Same : T → T → Type 0) (view : T → LaneView) (numbers : T → Numbers) (a b : T) : Type 0 where
+pub record WorkerStays {T : Type 0} (Ready : T → Type 0) (Same : T → T → Type 0) (view : T → LaneView) (numbers : T → Numbers) (a b : T) : Type 0 where
   pub ready : Ready b
   pub same : Same a b
   pub counts : CountsOn (view a) (numbers a) (numbers b)

@@ -5,7 +5,7 @@ ghost use Rattle.qp_model.specs.WordLaw.{is_object};
 ghost use Rattle.qp_model.specs.declared.words.Word.{Word};
 ghost use Rattle.qp_port_phases.specs.Lanes.{AreObjects, Kept};
 ghost use Rattle.qp_port_phases.specs.Quiet.{AreEmpty, IsEmpty};
-ghost use Rattle.qp_port_phases.specs.Rows.{SeesEntry};
+ghost use Rattle.qp_port_phases.specs.Rows.{LaneSeesEntry};
 ghost use Rattle.qp_port_phases.specs.Stopping.{SameCodes};
 
 use crate::lanes::PhaseLane;
@@ -18,7 +18,7 @@ pub(crate) fn is_empty<T: PhaseLane>(lane: &mut T, p: u8) -> bool
     ensures rises { (w : Word) → (T.view lane.old).mark w ≤ (T.view lane.new).mark w }
     ensures codes { SameCodes (T.view lane.old) (T.view lane.new) }
     ensures empty { result ≡ true → IsEmpty (T.view lane.new) p }
-    ensures entry { result ≡ false → SeesEntry (T.view lane.new) p }
+    ensures entry { result ≡ false → LaneSeesEntry (T.view lane.new) p }
     ensures others { result ≡ true → (q : ℕ) → IsEmpty (T.view lane.old) q → IsEmpty (T.view lane.new) q }
 {
     let c = lane.counts(p);
@@ -33,7 +33,7 @@ pub(crate) fn are_empty<T: PhaseLane>(lane: &mut T, objects: &[u8]) -> bool
     ensures rises { (w : Word) → (T.view lane.old).mark w ≤ (T.view lane.new).mark w }
     ensures codes { SameCodes (T.view lane.old) (T.view lane.new) }
     ensures empty { result ≡ true → AreEmpty objects.now (T.view lane.new) }
-    ensures entry { result ≡ false → (p : ℕ) × IsTrue (is_object (T.view lane.new).sys p) × SeesEntry (T.view lane.new) p }
+    ensures entry { result ≡ false → (p : ℕ) × IsTrue (is_object (T.view lane.new).sys p) × LaneSeesEntry (T.view lane.new) p }
     ensures others { result ≡ true → (q : ℕ) → IsEmpty (T.view lane.old) q → IsEmpty (T.view lane.new) q }
 {
     let Some((one, rest)) = objects.split_first() else {

@@ -9,9 +9,9 @@ ghost use Rattle.qp_model.specs.declared.words.Word.{Word};
 ghost use Rattle.qp_calls_log.specs.Meeting.{IsTogether};
 ghost use Rattle.qp_port_phases.specs.Floors.{AllOver, HasFloor, IsLevel, SameTold};
 ghost use Rattle.qp_port_phases.specs.Lanes.{AreObjects, AreOneTable, AreTogether, IsTable, KeepEach, Kept, SameEach};
-ghost use Rattle.qp_port_phases.specs.Quiet.{AllBelow, AreEmpty, FirstFound, HasEnded, HasFound, IsEmpty, IsQuiet};
+ghost use Rattle.qp_port_phases.specs.Quiet.{AllBelow, AreEmpty, FirstFound, HasEnded, HasFoundCode, IsEmpty, IsQuiet};
 ghost use Rattle.qp_port_phases.specs.Stopping.{SameCodes};
-ghost use Rattle.qp_port_phases.specs.Rows.{CountsBy, HasCause, HasFewRows, SeesEntry, TriesCount, one_where};
+ghost use Rattle.qp_port_phases.specs.Rows.{CountsBy, PhaseHasCause, HasFewRows, LaneSeesEntry, TriesCount, one_where};
 ghost use Rattle.qp_port_phases.specs.Turns.{AreReady};
 
 use crate::lanes::{Passed, PhaseLane};
@@ -164,8 +164,8 @@ fn look<T: PhaseLane>(first: &mut T, others: &mut [T], objects: &[u8]) -> Option
     ensures first { Kept T.ready T.same T.waits T.remains T.numbers first.old first.new }
     ensures others { KeepEach T.ready T.same T.waits T.remains T.numbers others.old others.new }
     ensures idle { result ≡ Some ended.Idle → IsQuiet T.view T.remains objects.now first.new others.new }
-    ensures stopped { result ≡ Some ended.Stopped → HasFound false (T.view first.old) (T.view first.new) }
-    ensures memory { result ≡ Some ended.Memory → HasFound true (T.view first.old) (T.view first.new) }
+    ensures stopped { result ≡ Some ended.Stopped → HasFoundCode false (T.view first.old) (T.view first.new) }
+    ensures memory { result ≡ Some ended.Memory → HasFoundCode true (T.view first.old) (T.view first.new) }
 {
     meet_all(first, others);
     match first.stopped() {
@@ -228,7 +228,7 @@ fn prepare<T: PhaseLane>(first: &mut T, others: &mut [T], objects: &[u8], begun:
     ensures ready { AreReady T.ready others.new }
     ensures others { SameEach T.same others.old others.new }
     ensures few { HasFewRows T.numbers (one_where begun) (first.new ∷ others.new) }
-    ensures cause { result ≡ true → HasCause T.numbers T.view objects.now (first.new ∷ others.new) }
+    ensures cause { result ≡ true → PhaseHasCause T.numbers T.view objects.now (first.new ∷ others.new) }
 {
     let passed = pass_all(first, others);
     meet_all(first, others);
@@ -245,7 +245,7 @@ fn between<T: PhaseLane>(objects: &[u8], workers: &mut [T], begun: bool) -> Next
     ensures ready { AreReady T.ready workers.new }
     ensures same { SameEach T.same workers.old workers.new }
     ensures few { HasFewRows T.numbers (one_where begun) workers.new }
-    ensures cause { result ≡ next.Phase → HasCause T.numbers T.view objects.now workers.new }
+    ensures cause { result ≡ next.Phase → PhaseHasCause T.numbers T.view objects.now workers.new }
     ensures idle { result ≡ next.Over ended.Idle → HasEnded T.view T.remains objects.now workers.new }
     ensures stopped { result ≡ next.Over ended.Stopped → FirstFound T.view false workers.old workers.new }
     ensures memory { result ≡ next.Over ended.Memory → FirstFound T.view true workers.old workers.new }

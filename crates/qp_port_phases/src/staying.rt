@@ -3,8 +3,8 @@
 ghost use Rattle.std.specs.Prelude.{ℕ, ◌≡◌, ◌⊎◌, IsTrue, true};
 ghost use Rattle.qp_model.specs.WordLaw.{is_object};
 ghost use Rattle.qp_port_phases.specs.Lanes.{AreObjects, KeepEach, Kept};
-ghost use Rattle.qp_port_phases.specs.Rows.{HasCause, SeesEntry};
-ghost use Rattle.qp_port_phases.specs.Staying.{FirstIs, GoesOn, Stays};
+ghost use Rattle.qp_port_phases.specs.Rows.{PhaseHasCause, LaneSeesEntry};
+ghost use Rattle.qp_port_phases.specs.Staying.{FirstIs, GoesOn, WorkerStays};
 ghost use Rattle.qp_port_phases.specs.Turns.{AreReady};
 
 use crate::lanes::PhaseLane;
@@ -31,7 +31,7 @@ impl<'a> Staying<'a> {
         ensures objects { result.objects.now ≡ objects.now }
         ensures called { FirstIs (T.called rounds.now.sources) workers.old workers.new }
         ensures kept { KeepEach T.ready T.same T.waits T.remains T.numbers workers.old workers.new }
-        ensures cause { HasCause T.numbers T.view objects.now workers.old → HasCause T.numbers T.view objects.now workers.new }
+        ensures cause { PhaseHasCause T.numbers T.view objects.now workers.old → PhaseHasCause T.numbers T.view objects.now workers.new }
     {
         rounds.on_phase();
         let manner = Staying { objects, rounds };
@@ -46,7 +46,7 @@ impl<'a> Staying<'a> {
 impl<T: PhaseLane> Manner<T> for Staying<'_> {
     ghost ready = { λ how w. T.ready w × AreObjects (T.view w) how.objects.now };
 
-    ghost turned = { λ how v w. Stays T.ready T.same T.view T.numbers v w };
+    ghost turned = { λ how v w. WorkerStays T.ready T.same T.view T.numbers v w };
 
     fn turn<R: Wait>(&self, rt: &R, lane: &mut T) {
         stay(rt, lane, self.objects, self.rounds);
@@ -99,7 +99,7 @@ fn may_go<T: PhaseLane>(lane: &mut T, objects: &[u8]) -> bool
     requires ready { T.ready lane.old }
     requires objects { AreObjects (T.view lane.old) objects.now }
     ensures kept { Kept T.ready T.same T.waits T.remains T.numbers lane.old lane.new }
-    ensures cause { result ≡ true → (T.rowless lane.new ≡ true) ⊎ ((p : ℕ) × IsTrue (is_object (T.view lane.new).sys p) × SeesEntry (T.view lane.new) p) }
+    ensures cause { result ≡ true → (T.rowless lane.new ≡ true) ⊎ ((p : ℕ) × IsTrue (is_object (T.view lane.new).sys p) × LaneSeesEntry (T.view lane.new) p) }
 {
     lane.is_rowless() || !are_empty(lane, objects)
 }
@@ -190,7 +190,7 @@ fn go_on<R: Wait, T: PhaseLane>(
 pub(crate) fn stay<R: Wait, T: PhaseLane>(rt: &R, lane: &mut T, objects: &[u8], rounds: &Rounds)
     requires ready { T.ready lane.old }
     requires objects { AreObjects (T.view lane.old) objects.now }
-    ensures { Stays T.ready T.same T.view T.numbers lane.old lane.new }
+    ensures { WorkerStays T.ready T.same T.view T.numbers lane.old lane.new }
 {
     match rounds.begin(rt, lane.serves()) {
         Some(place) => {

@@ -3,7 +3,7 @@ use Rattle.std.proofs.Common.{◌≡◌, ℕ, suc, ◌+◌, ◌<◌, List, [], �
 use Rattle.std.specs.List.{remove}
 use Rattle.std.proofs.lemmas.List.{length-map}
 use Rattle.qp_model.specs.declared.stimulus.Stim.{Stim}
-use Rattle.qp_port_qk.specs.Making.{AddsAll, AreAllMade, SourcesMade}
+use Rattle.qp_port_qk.specs.Making.{AddsAll, AreAllQkMade, SourcesMade}
 
 -- the first of a list is taken out
 pub first-taken : {A : Type 0} → (xs : List A) (r : A) → 0 < length xs → r ≡ slice_index_or xs 0 r → xs ≡ r ∷ remove xs 0
@@ -27,7 +27,7 @@ module _ {T L : Type 0} (lane : T → L) where
   -- a first one and the sources, and no lane is left over
   pub all-made : (Kernel : T → Type 0) (Source : ℕ → T → Type 0) (stimuli sources : List (List Stim)) (ls ms cs : List L) (one : T) (none us ws : List T)
       → Kernel one → none ≡ [] → us ≡ none ++ one ∷ [] → ls ≡ lane one ∷ ms → sources ≡ stimuli → AddsAll lane (SourcesMade Source 1 sources) ms us cs ws → length ls ≡ 1 + length stimuli
-      → AreAllMade lane Kernel Source stimuli ls ws
+      → AreAllQkMade lane Kernel Source stimuli ls ws
   all-made Kernel Source stimuli sources ls ms cs one none us ws made empty pushed taken same more many =
       let workers : ws ≡ one ∷ more.all = more.now_are ∙ ap (λ xs. xs ++ more.all) (pushed ∙ ap (λ xs. xs ++ one ∷ []) empty) in
       let left : cs ≡ [] = nothing cs rest in

@@ -25,9 +25,9 @@ use Rattle.qp_port_qk.proofs.Turned.{turned_kernels_end}
 use Rattle.qp_port_lanes.proofs.Standing.{may-stop}
 use Rattle.qp_port_qk.specs.declared.job.QkJob.{QkJob}
 use Rattle.qp_port_qk.specs.declared.job.QkJob.TheVariants as job
-use Rattle.qp_port_qk.specs.Jobs.{JobEnds, JobMayEnd, JobRests, JobStands, JobStarts, JobStops}
+use Rattle.qp_port_qk.specs.Jobs.{QkJobEnds, JobMayEnd, QkJobRests, QkJobStands, JobStarts, QkJobStops}
 use Rattle.qp_port_qk.specs.KernelRests.{KernelBegins, KernelEnds, KernelRests}
-use Rattle.qp_port_qk.specs.Workers.{MayEnd, MayTurn}
+use Rattle.qp_port_qk.specs.Workers.{QkMayEnd, QkMayTurn}
 
 pub has-turned : (sys : System) (budget : ℕ) (sound : IsSound sys) (xs : Objects) (k : Kernel) (v : LaneView) (h : KernelRests sys budget xs k v) → HasTurned sys budget h.first h.start (stand_of k xs v)
 has-turned sys budget sound xs k v h = record { sound = sound; made = h.made; none = h.none; follows = h.follows; rests = h.rests }
@@ -35,28 +35,28 @@ has-turned sys budget sound xs k v h = record { sound = sound; made = h.made; no
 pub kernel-ends : (sys : System) (budget : ℕ) (sound : IsSound sys) (xs : Objects) (k : Kernel) (v : LaneView) → KernelRests sys budget xs k v → KernelEnds sys budget v
 kernel-ends sys budget sound xs k v h end early = turned_kernels_end sys budget h.first h.start (stand_of k xs v) end (has-turned sys budget sound xs k v h) (inr early)
 
-rests-end : (sys : System) (budget : ℕ) (sound : IsSound sys) (x : QkJob) (v : LaneView) → JobRests sys budget x v → JobMayEnd sys budget x v
+rests-end : (sys : System) (budget : ℕ) (sound : IsSound sys) (x : QkJob) (v : LaneView) → QkJobRests sys budget x v → JobMayEnd sys budget x v
 rests-end sys budget sound (job.Kernel xs k) v h = kernel-ends sys budget sound xs k v h
 rests-end sys budget sound (job.Source x) v h = λ kernel end may early. may-stop sys x v kernel end h may early
 
-stops-end : (sys : System) (budget : ℕ) (x : QkJob) (v : LaneView) → JobStops sys budget x v → JobMayEnd sys budget x v
+stops-end : (sys : System) (budget : ℕ) (x : QkJob) (v : LaneView) → QkJobStops sys budget x v → JobMayEnd sys budget x v
 stops-end sys budget (job.Kernel xs k) v h = h.ends
 stops-end sys budget (job.Source x) v h = h
 
-pub turns-end : (acts : Bool) (sys : System) (budget : ℕ) (t : Turn) (x : QkJob) (v : LaneView) → MayTurn acts sys budget t x v → MayEnd sys budget t x v
+pub turns-end : (acts : Bool) (sys : System) (budget : ℕ) (t : Turn) (x : QkJob) (v : LaneView) → QkMayTurn acts sys budget t x v → QkMayEnd sys budget t x v
 turns-end acts sys budget t x v h = record { sound = h.sound; ends = by t h.stands; fed = h.fed }
   where
-    by : (t : Turn) → JobStands sys budget t x v → JobEnds sys budget t x v
+    by : (t : Turn) → QkJobStands sys budget t x v → QkJobEnds sys budget t x v
     by turn.Idle k = rests-end sys budget h.sound x v k
     by turn.Stopped k = (stops-end sys budget x v k.0, k.1)
     by turn.Memory k = k
 
 -- one that may take turns, or has ended
-pub either-end : (acts : Bool) (sys : System) (budget : ℕ) (t : Turn) (x : QkJob) (v : LaneView) → MayTurn acts sys budget t x v ⊎ MayEnd sys budget t x v → MayEnd sys budget t x v
+pub either-end : (acts : Bool) (sys : System) (budget : ℕ) (t : Turn) (x : QkJob) (v : LaneView) → QkMayTurn acts sys budget t x v ⊎ QkMayEnd sys budget t x v → QkMayEnd sys budget t x v
 either-end acts sys budget t x v (inl h) = turns-end acts sys budget t x v h
 either-end acts sys budget t x v (inr h) = h
 
-pub starts-end : (sys : System) (budget : ℕ) (sound : IsSound sys) (t : Turn) (x : QkJob) (v : LaneView) → JobStarts sys budget t x v → JobEnds sys budget t x v
+pub starts-end : (sys : System) (budget : ℕ) (sound : IsSound sys) (t : Turn) (x : QkJob) (v : LaneView) → JobStarts sys budget t x v → QkJobEnds sys budget t x v
 starts-end sys budget sound turn.Idle x v h = rests-end sys budget sound x v h
 starts-end sys budget sound turn.Stopped x v h = h
 starts-end sys budget sound turn.Memory x v h = h

@@ -24,7 +24,7 @@ use Rattle.qp_kernel_turns.specs.Objects.{leaf_there, vars_there}
 use Rattle.qp_kernel_turns.specs.Turning.{Stand, stand_of}
 use Rattle.qp_kernel_turns.proofs.Resting.{rests-still}
 use Rattle.qp_port_qk.specs.KernelRests.{KernelRests}
-use Rattle.qp_port_qk.specs.Resting.{KernelShows, IsShown}
+use Rattle.qp_port_qk.specs.Resting.{KernelShows, KernelShowsOne}
 
 leaf-shown : (slot : Slot) (n : ℕ) → leaf_there (Some (Some slot)) ≡ Some n → n ≡ slot.object.lasting.leaf
 leaf-shown slot n h = by slot.object.started h
@@ -34,7 +34,7 @@ leaf-shown slot n h = by slot.object.started h
     by false h = absurd (cc)
 
 module _ (sys : System) (sound : IsSound sys) (s : Stand) (rest : OthersRest sys s) where
-  shown-rest : (d : ObjectDef) → object_at sys d.priority ≡ Some d → (x : Rest) → IsShown s.objects s.stack x → IsRestOf sys d (own_told d.priority s.lane.told) x
+  shown-rest : (d : ObjectDef) → object_at sys d.priority ≡ Some d → (x : Rest) → KernelShowsOne s.objects s.stack x → IsRestOf sys d (own_told d.priority s.lane.told) x
   unfolding IsRestOf
   shown-rest d found x is same chart its =
       let free : has s.stack d.priority ≡ false = ap (has s.stack) (sym same) ∙ is.free in

@@ -16,10 +16,10 @@ use Rattle.qp_port_lanes.specs.Passing.{settles_of}
 use Rattle.qp_port_qk.specs.declared.job.QkJob.{QkJob}
 use Rattle.qp_port_qk.specs.declared.job.QkJob.TheVariants as job
 use Rattle.qp_port_lanes.specs.Answers.{is_idle, is_short}
-use Rattle.qp_port_qk.specs.Jobs.{IsSameJob, JobEnds, JobMayEnd, JobRests, JobStands}
+use Rattle.qp_port_qk.specs.Jobs.{IsSameQkJob, QkJobEnds, JobMayEnd, QkJobRests, QkJobStands}
 use Rattle.qp_port_qk.specs.Numbers.{numbers_of}
-use Rattle.qp_port_qk.specs.Rows.{AreSameLanes, AreSources, IsKernel, IsRow, IsSourceOf}
-use Rattle.qp_port_qk.specs.Workers.{MayEnd, MayTurn}
+use Rattle.qp_port_qk.specs.Rows.{AreSameLanes, AreSources, IsKernel, IsQkRow, IsQkSourceOf}
+use Rattle.qp_port_qk.specs.Workers.{QkMayEnd, QkMayTurn}
 
 pub ready-map : {T : Type 0} (P Q : T → Type 0) → ((w : T) → P w → Q w) → (ws : List T) → AreReady P ws → AreReady Q ws
 ready-map P Q f [] h = tt
@@ -45,17 +45,17 @@ ready-same Same P f (x ∷ xs) [] same h = absurd same
 
 -- The same workers are for the same sources.
 
-kernel-still : (i j : QkJob) → IsSameJob i j → IsKernel i → IsKernel j
+kernel-still : (i j : QkJob) → IsSameQkJob i j → IsKernel i → IsKernel j
 kernel-still (job.Kernel xs k) (job.Kernel ys l) same h = tt
 kernel-still (job.Kernel xs k) (job.Source y) same h = absurd same
 kernel-still (job.Source x) j same h = absurd h
 
-source-still : (ss : List Stim) (i j : QkJob) → IsSameJob i j → IsSourceOf ss i → IsSourceOf ss j
+source-still : (ss : List Stim) (i j : QkJob) → IsSameQkJob i j → IsQkSourceOf ss i → IsQkSourceOf ss j
 source-still ss (job.Source x) (job.Source y) same h = same ∙ h
 source-still ss (job.Source x) (job.Kernel ys l) same h = absurd same
 source-still ss (job.Kernel xs k) j same h = absurd h
 
-module _ {T : Type 0} (work : T → QkJob) (Same : T → T → Type 0) (jobs : (a b : T) → Same a b → IsSameJob (work a) (work b)) where
+module _ {T : Type 0} (work : T → QkJob) (Same : T → T → Type 0) (jobs : (a b : T) → Same a b → IsSameQkJob (work a) (work b)) where
   sources-still : (more : List (List Stim)) (xs ys : List T) → SameEach Same xs ys → AreSources work more xs → AreSources work more ys
   sources-still [] [] [] same h = tt
   sources-still (ss ∷ more) (x ∷ xs) (y ∷ ys) same h = (source-still ss (work x) (work y) (jobs x y same.0) h.0, sources-still more xs ys same.1 h.1)
@@ -64,7 +64,7 @@ module _ {T : Type 0} (work : T → QkJob) (Same : T → T → Type 0) (jobs : (
   sources-still (ss ∷ more) [] ys same h = absurd h
   sources-still (ss ∷ more) (x ∷ xs) [] same h = absurd same
 
-  pub row-still : (more : List (List Stim)) (xs ys : List T) → SameEach Same xs ys → IsRow work more xs → IsRow work more ys
+  pub row-still : (more : List (List Stim)) (xs ys : List T) → SameEach Same xs ys → IsQkRow work more xs → IsQkRow work more ys
   row-still more (x ∷ xs) (y ∷ ys) same h = (kernel-still (work x) (work y) (jobs x y same.0) h.0, sources-still more xs ys same.1 h.1)
   row-still more [] ys same h = absurd h
   row-still more (x ∷ xs) [] same h = absurd same
@@ -77,18 +77,18 @@ lanes-still view Same lanes (x ∷ xs) [] same = absurd same
 
 -- What is known of one that ended, or rests.
 
-pub ends-so : (sys : System) (budget : ℕ) (t : Turn) (x : QkJob) (v : LaneView) → is_short t ≡ false → MayEnd sys budget t x v → JobMayEnd sys budget x v
+pub ends-so : (sys : System) (budget : ℕ) (t : Turn) (x : QkJob) (v : LaneView) → is_short t ≡ false → QkMayEnd sys budget t x v → JobMayEnd sys budget x v
 ends-so sys budget t x v long h = by t long h.ends
   where
-    by : (t : Turn) → is_short t ≡ false → JobEnds sys budget t x v → JobMayEnd sys budget x v
+    by : (t : Turn) → is_short t ≡ false → QkJobEnds sys budget t x v → JobMayEnd sys budget x v
     by turn.Idle long h = h
     by turn.Stopped long h = h.0
     by turn.Memory long h = absurd (cc)
 
-pub turns-rest : (acts : Bool) (sys : System) (budget : ℕ) (t : Turn) (x : QkJob) (v : LaneView) → is_idle t ≡ true → MayTurn acts sys budget t x v → JobRests sys budget x v
+pub turns-rest : (acts : Bool) (sys : System) (budget : ℕ) (t : Turn) (x : QkJob) (v : LaneView) → is_idle t ≡ true → QkMayTurn acts sys budget t x v → QkJobRests sys budget x v
 turns-rest acts sys budget t x v idle h = by t idle h.stands
   where
-    by : (t : Turn) → is_idle t ≡ true → JobStands sys budget t x v → JobRests sys budget x v
+    by : (t : Turn) → is_idle t ≡ true → QkJobStands sys budget t x v → QkJobRests sys budget x v
     by turn.Idle idle h = h
     by turn.Stopped idle h = absurd (cc)
     by turn.Memory idle h = absurd (cc)

@@ -46,20 +46,20 @@ use Rattle.qp_port_law.specs.QkLanes.{QkRests}
 use Rattle.qp_port_lanes.proofs.Standing.{done-end}
 use Rattle.qp_port_qk.specs.declared.job.QkJob.{QkJob}
 use Rattle.qp_port_qk.specs.declared.job.QkJob.TheVariants as job
-use Rattle.qp_port_qk.specs.Ends.{HasRun, is_over}
+use Rattle.qp_port_qk.specs.Ends.{HasQkRun, has_ended_idle}
 use Rattle.qp_port_lanes.specs.Answers.{IsFed, is_idle, is_short}
 use Rattle.qp_model_order.specs.SourceRun.{untold_all}
 use Rattle.qp_kernel.specs.Starts.{AreStarts}
 use Rattle.qp_port_phases.specs.Starting.{StartFirst}
 use Rattle.qp_port_law.specs.StartsFirst.{AreApart, IsApart}
 use Rattle.qp_port_law.proofs.Apart.{AreAllApart, apart-each}
-use Rattle.qp_port_qk.specs.Alone.{same-starts}
-use Rattle.qp_port_qk.specs.Jobs.{JobMayEnd, JobRests, JobStands, is_left_in, JobIsAlone, starts_of}
+use Rattle.qp_port_qk.specs.Alone.{qk-same-starts}
+use Rattle.qp_port_qk.specs.Jobs.{JobMayEnd, QkJobRests, QkJobStands, qk_is_left_in, QkJobIsAlone, qk_starts_of}
 use Rattle.qp_port_qk.specs.KernelRests.{KernelEnds}
 use Rattle.qp_port_qk.specs.Numbers.{job_rows, numbers_of}
 use Rattle.qp_port_qk.specs.Resting.{AreLeft, AreShownBy, AreShownFirst}
-use Rattle.qp_port_qk.specs.Rows.{AreSameLanes, AreSources, IsKernel, IsRow, IsSourceOf}
-use Rattle.qp_port_qk.specs.Workers.{IsSameWorker, MayBegin, MayEnd, MayTurn, FirstBegins, IsBlank, OthersAre}
+use Rattle.qp_port_qk.specs.Rows.{AreSameLanes, AreSources, IsKernel, IsQkRow, IsQkSourceOf}
+use Rattle.qp_port_qk.specs.Workers.{IsSameQkWorker, QkMayBegin, QkMayEnd, QkMayTurn, FirstBegins, IsBlank, OthersAre}
 use Rattle.qp_port_qk.proofs.Beginning.{AreReadyAll}
 use Rattle.qp_port_qk.proofs.Ending.{has-turned}
 use Rattle.qp_port_qk.proofs.Resting.{based-rest, no-rests, shown-rests}
@@ -80,11 +80,11 @@ first-ends : (sys : System) (budget : ℕ) (x : QkJob) (v : LaneView) → IsKern
 first-ends sys budget (job.Kernel xs k) v is h = h
 first-ends sys budget (job.Source x) v is h = absurd is
 
-source-early : (sys : System) (budget end : ℕ) (ss : List Stim) (v : LaneView) → may_cut end ≡ true → (x : QkJob) → IsSourceOf ss x → JobMayEnd sys budget x v → SourceLeaves sys qk end ss v.told
+source-early : (sys : System) (budget end : ℕ) (ss : List Stim) (v : LaneView) → may_cut end ≡ true → (x : QkJob) → IsQkSourceOf ss x → JobMayEnd sys budget x v → SourceLeaves sys qk end ss v.told
 source-early sys budget end ss v early (job.Source x) is h = subst (λ xs. SourceLeaves sys qk end xs v.told) is (h qk end refl early)
 source-early sys budget end ss v early (job.Kernel xs k) is h = absurd is
 
-source-quiet : (sys : System) (budget : ℕ) (ss : List Stim) (v : LaneView) (x : QkJob) → IsSourceOf ss x → is_left_in x ≡ false → JobRests sys budget x v → SourceLeaves sys qk quiet ss v.told × (v.hands ≡ [])
+source-quiet : (sys : System) (budget : ℕ) (ss : List Stim) (v : LaneView) (x : QkJob) → IsQkSourceOf ss x → qk_is_left_in x ≡ false → QkJobRests sys budget x v → SourceLeaves sys qk quiet ss v.told × (v.hands ≡ [])
 source-quiet sys budget ss v (job.Source x) is none h = (subst (λ xs. SourceLeaves sys qk quiet xs v.told) is (done-end sys x v qk quiet h refl none), h.at.hands)
 source-quiet sys budget ss v (job.Kernel xs k) is none h = absurd is
 
@@ -92,7 +92,7 @@ first-rows : (sys : System) (budget : ℕ) (x : QkJob) (v : LaneView) → IsKern
 first-rows sys budget (job.Kernel xs k) v is = refl
 first-rows sys budget (job.Source x) v is = absurd is
 
-first-quiet : (sys : System) (budget : ℕ) → IsSound sys → (x : QkJob) (v : LaneView) (sources : List LaneView) → IsKernel x → JobRests sys budget x v → ((a : ℕ) → IsTrue (is_object sys a) → IsLastLook (v ∷ sources) a v) → HaveNone sources
+first-quiet : (sys : System) (budget : ℕ) → IsSound sys → (x : QkJob) (v : LaneView) (sources : List LaneView) → IsKernel x → QkJobRests sys budget x v → ((a : ℕ) → IsTrue (is_object sys a) → IsLastLook (v ∷ sources) a v) → HaveNone sources
     → EndsSo sys (under_qk budget) quiet v.told (has_stim (lanes_of v)) × QkRests sys budget v sources
 first-quiet sys budget sound (job.Kernel xs k) v sources is h looks none = (
   turned_kernels_end sys budget h.first h.start (stand_of k xs v) quiet (has-turned sys budget sound xs k v h) (inl refl),
@@ -100,7 +100,7 @@ first-quiet sys budget sound (job.Kernel xs k) v sources is h looks none = (
 )
 first-quiet sys budget sound (job.Source x) v sources is h looks none = absurd is
 
-first-told : (acts : Bool) (sys : System) (budget : ℕ) (t : Turn) (x : QkJob) (v : LaneView) (rests : List Rest) → IsSound sys → is_short t ≡ false → JobStands sys budget t x v → AreShownBy x rests → AreRests sys (λ o. own_told o v.told) rests
+first-told : (acts : Bool) (sys : System) (budget : ℕ) (t : Turn) (x : QkJob) (v : LaneView) (rests : List Rest) → IsSound sys → is_short t ≡ false → QkJobStands sys budget t x v → AreShownBy x rests → AreRests sys (λ o. own_told o v.told) rests
 first-told acts sys budget t (job.Source x) v rests sound long h shown = subst (AreRests sys (λ o. own_told o v.told)) (sym shown) (no-rests sys (λ o. own_told o v.told))
 first-told acts sys budget turn.Idle (job.Kernel xs k) v rests sound long h shown = shown-rests sys sound (stand_of k xs v) (based-rest sys budget sound xs k v h) rests shown
 first-told acts sys budget turn.Stopped (job.Kernel xs k) v rests sound long h shown = shown-rests sys sound (stand_of k xs v) h.0.others rests shown
@@ -142,7 +142,7 @@ module _ {T : Type 0} (work : T → QkJob) (view : T → LaneView) (sys : System
   sources-early end early [] (w ∷ ws) row h = absurd row
   sources-early end early (ss ∷ more) [] row h = absurd row
 
-  sources-quiet : (more : List (List Stim)) (ws : List T) → AreSources work more ws → AreReady (λ w. JobRests sys budget (work w) (view w)) ws → AreReady (λ w. is_left_in (work w) ≡ false) ws
+  sources-quiet : (more : List (List Stim)) (ws : List T) → AreSources work more ws → AreReady (λ w. QkJobRests sys budget (work w) (view w)) ws → AreReady (λ w. qk_is_left_in (work w) ≡ false) ws
       → SourcesAre sys qk quiet more (map view ws) × HaveNone (map view ws)
   sources-quiet [] [] row h none = (tt, tt)
   sources-quiet (ss ∷ more) (w ∷ ws) row h none =
@@ -152,23 +152,23 @@ module _ {T : Type 0} (work : T → QkJob) (view : T → LaneView) (sys : System
   sources-quiet [] (w ∷ ws) row h none = absurd row
   sources-quiet (ss ∷ more) [] row h none = absurd row
 
-  sources-apart : (floor : Word → ℕ) (more : List (List Stim)) (ws : List T) → AreSources work more ws → AreReady (λ w. IsApart floor (starts_of sys (work w)) (untold_all (view w).told)) ws → AreApart floor 0 (map view ws)
+  sources-apart : (floor : Word → ℕ) (more : List (List Stim)) (ws : List T) → AreSources work more ws → AreReady (λ w. IsApart floor (qk_starts_of sys (work w)) (untold_all (view w).told)) ws → AreApart floor 0 (map view ws)
   sources-apart floor [] [] row h = tt
   sources-apart floor (ss ∷ more) (w ∷ ws) row h = (by (work w) row.0 h.0, sources-apart floor more ws row.1 h.1)
     where
-      by : (x : QkJob) → IsSourceOf ss x → IsApart floor (starts_of sys x) (untold_all (view w).told) → IsApart floor 0 (untold_all (view w).told)
+      by : (x : QkJob) → IsQkSourceOf ss x → IsApart floor (qk_starts_of sys x) (untold_all (view w).told) → IsApart floor 0 (untold_all (view w).told)
       by (job.Source x) is apart = apart
       by (job.Kernel xs k) is apart = absurd is
   sources-apart floor [] (w ∷ ws) row h = absurd row
   sources-apart floor (ss ∷ more) [] row h = absurd row
 
-  first-apart : (floor : Word → ℕ) (x : QkJob) (v : LaneView) → IsKernel x → IsApart floor (starts_of sys x) (untold_all v.told) → IsApart floor (length sys.objects) (untold_all v.told)
+  first-apart : (floor : Word → ℕ) (x : QkJob) (v : LaneView) → IsKernel x → IsApart floor (qk_starts_of sys x) (untold_all v.told) → IsApart floor (length sys.objects) (untold_all v.told)
   first-apart floor (job.Kernel xs k) v is apart = apart
   first-apart floor (job.Source x) v is apart = absurd is
 
-  pub ends-all : (sound : IsSound sys) (stimuli : List (List Stim)) (done : Bool) (rests : List Rest) (w : T) (ws : List T) → IsRow work stimuli (w ∷ ws) → AreReady (λ w. JobMayEnd sys budget (work w) (view w)) (w ∷ ws)
-      → (done ≡ true → AreReady (λ w. JobRests sys budget (work w) (view w)) (w ∷ ws) × HasEnded view (λ w. is_left_in (work w)) (priorities sys) (w ∷ ws))
-      → job_rows sys budget (work w) (view w) ≤ settles_in (map view (w ∷ ws)) + 1 → AreRests sys (λ o. own_told o (view w).told) rests → AreAllApart (λ u. starts_of sys (work u)) view (w ∷ ws) → HasRun sys stimuli budget done rests (map view (w ∷ ws))
+  pub ends-all : (sound : IsSound sys) (stimuli : List (List Stim)) (done : Bool) (rests : List Rest) (w : T) (ws : List T) → IsQkRow work stimuli (w ∷ ws) → AreReady (λ w. JobMayEnd sys budget (work w) (view w)) (w ∷ ws)
+      → (done ≡ true → AreReady (λ w. QkJobRests sys budget (work w) (view w)) (w ∷ ws) × HasEnded view (λ w. qk_is_left_in (work w)) (priorities sys) (w ∷ ws))
+      → job_rows sys budget (work w) (view w) ≤ settles_in (map view (w ∷ ws)) + 1 → AreRests sys (λ o. own_told o (view w).told) rests → AreAllApart (λ u. qk_starts_of sys (work u)) view (w ∷ ws) → HasQkRun sys stimuli budget done rests (map view (w ∷ ws))
   ends-all sound stimuli done rests w ws row h quietly few told apart = record {
     first = view w;
     sources = map view ws;
@@ -176,7 +176,7 @@ module _ {T : Type 0} (work : T → QkJob) (view : T → LaneView) (sys : System
     early = λ end early. record { zero = first-ends sys budget (work w) (view w) row.0 h.0 end early; leave = sources-early end early stimuli ws row.1 h.1 };
     quietly = λ is.
         let all = quietly is in
-        let none = sources-quiet stimuli ws row.1 all.0.1 (ready-none (λ w. is_left_in (work w)) ws all.1.none) in
+        let none = sources-quiet stimuli ws row.1 all.0.1 (ready-none (λ w. qk_is_left_in (work w)) ws all.1.none) in
         let first = first-quiet sys budget sound (work w) (view w) (map view ws) row.0 all.0.0 (last-look view sys w ws all.1.below all.1.empty) none.1 in
         record { ends = record { zero = first.0; leave = none.0 }; rests = first.1 };
     rows = subst (λ n. n ≤ settles_in (map view (w ∷ ws)) + 1) (first-rows sys budget (work w) (view w) row.0) few;
@@ -190,66 +190,66 @@ module _ (acts : Bool) (alone : acts ≡ false) (sys : System) (stimuli : List (
   one-table objects are = rw all.are (all.together_are, subst (AreObjects (view all.first)) (sym are) (objects-from sys sound (view all.first) all.of sys.objects (named sys sound)))
 
   abbrev Same : T → T → Type 0
-  Same x y = IsSameWorker (s x) (s y) (b x) (b y) (work x) (work y) (view x) (view y)
+  Same x y = IsSameQkWorker (s x) (s y) (b x) (b y) (work x) (work y) (view x) (view y)
 
   module _ (ys : List T) (same : SameEach Same xs ys) where
     pub same-lanes : AreSameLanes (map view xs) (map view ys)
     same-lanes = lanes-still view Same (λ x y h. h.lane) xs ys same
 
-    row : IsRow work stimuli ys
+    row : IsQkRow work stimuli ys
     row = row-still work Same (λ x y h. h.job) stimuli xs ys same all.row
 
     terms : AreReady (λ w. (s w ≡ sys) × (b w ≡ budget)) ys
     terms = ready-same Same (λ w. (s w ≡ sys) × (b w ≡ budget)) (λ x y h k. (h.sys ∙ k.0, h.budget ∙ k.1)) xs ys same all.terms
 
-    ends-may : AreReady (λ w. MayEnd (s w) (b w) (t w) (work w) (view w)) ys → list_any (λ w. is_short (t w)) ys ≡ false → AreReady (λ w. JobMayEnd sys budget (work w) (view w)) ys
+    ends-may : AreReady (λ w. QkMayEnd (s w) (b w) (t w) (work w) (view w)) ys → list_any (λ w. is_short (t w)) ys ≡ false → AreReady (λ w. JobMayEnd sys budget (work w) (view w)) ys
     ends-may ends long =
-        ready-map (λ w. (MayEnd (s w) (b w) (t w) (work w) (view w) × (is_short (t w) ≡ false)) × ((s w ≡ sys) × (b w ≡ budget))) (λ w. JobMayEnd sys budget (work w) (view w))
+        ready-map (λ w. (QkMayEnd (s w) (b w) (t w) (work w) (view w) × (is_short (t w) ≡ false)) × ((s w ≡ sys) × (b w ≡ budget))) (λ w. JobMayEnd sys budget (work w) (view w))
         (λ w h. subst (λ n. JobMayEnd sys n (work w) (view w)) h.1.1 (subst (λ u. JobMayEnd u (b w) (work w) (view w)) h.1.0 (ends-so (s w) (b w) (t w) (work w) (view w) h.0.1 h.0.0)))
         ys
-        (ready-both (λ w. MayEnd (s w) (b w) (t w) (work w) (view w) × (is_short (t w) ≡ false)) (λ w. (s w ≡ sys) × (b w ≡ budget)) ys
-        (ready-both (λ w. MayEnd (s w) (b w) (t w) (work w) (view w)) (λ w. is_short (t w) ≡ false) ys ends (ready-none (λ w. is_short (t w)) ys long)) terms)
+        (ready-both (λ w. QkMayEnd (s w) (b w) (t w) (work w) (view w) × (is_short (t w) ≡ false)) (λ w. (s w ≡ sys) × (b w ≡ budget)) ys
+        (ready-both (λ w. QkMayEnd (s w) (b w) (t w) (work w) (view w)) (λ w. is_short (t w) ≡ false) ys ends (ready-none (λ w. is_short (t w)) ys long)) terms)
 
-    rests-all : AreReady (λ w. MayTurn acts (s w) (b w) (t w) (work w) (view w)) ys → list_all (λ w. is_idle (t w)) ys ≡ true → AreReady (λ w. JobRests sys budget (work w) (view w)) ys
+    rests-all : AreReady (λ w. QkMayTurn acts (s w) (b w) (t w) (work w) (view w)) ys → list_all (λ w. is_idle (t w)) ys ≡ true → AreReady (λ w. QkJobRests sys budget (work w) (view w)) ys
     rests-all ready idle =
-        ready-map (λ w. (MayTurn acts (s w) (b w) (t w) (work w) (view w) × (is_idle (t w) ≡ true)) × ((s w ≡ sys) × (b w ≡ budget))) (λ w. JobRests sys budget (work w) (view w))
-        (λ w h. subst (λ n. JobRests sys n (work w) (view w)) h.1.1 (subst (λ u. JobRests u (b w) (work w) (view w)) h.1.0 (turns-rest acts (s w) (b w) (t w) (work w) (view w) h.0.1 h.0.0)))
+        ready-map (λ w. (QkMayTurn acts (s w) (b w) (t w) (work w) (view w) × (is_idle (t w) ≡ true)) × ((s w ≡ sys) × (b w ≡ budget))) (λ w. QkJobRests sys budget (work w) (view w))
+        (λ w h. subst (λ n. QkJobRests sys n (work w) (view w)) h.1.1 (subst (λ u. QkJobRests u (b w) (work w) (view w)) h.1.0 (turns-rest acts (s w) (b w) (t w) (work w) (view w) h.0.1 h.0.0)))
         ys
-        (ready-both (λ w. MayTurn acts (s w) (b w) (t w) (work w) (view w) × (is_idle (t w) ≡ true)) (λ w. (s w ≡ sys) × (b w ≡ budget)) ys
-        (ready-both (λ w. MayTurn acts (s w) (b w) (t w) (work w) (view w)) (λ w. is_idle (t w) ≡ true) ys ready (ready-all (λ w. is_idle (t w)) ys idle)) terms)
+        (ready-both (λ w. QkMayTurn acts (s w) (b w) (t w) (work w) (view w) × (is_idle (t w) ≡ true)) (λ w. (s w ≡ sys) × (b w ≡ budget)) ys
+        (ready-both (λ w. QkMayTurn acts (s w) (b w) (t w) (work w) (view w)) (λ w. is_idle (t w) ≡ true) ys ready (ready-all (λ w. is_idle (t w)) ys idle)) terms)
 
-    pub ran : (how : Option PhasesEnd) (done : Bool) (rests : List Rest) (objects : List ℕ) → objects ≡ priorities sys → AreReady (λ w. MayEnd (s w) (b w) (t w) (work w) (view w)) ys
-        → ((e : PhasesEnd) → how ≡ Some e → AreReady (λ w. MayTurn acts (s w) (b w) (t w) (work w) (view w)) ys) → HasFewRows (λ w. numbers_of (s w) (b w) (t w) (work w) (view w)) 1 ys
-        → (how ≡ Some ended.Idle → HasEnded view (λ w. is_left_in (work w)) objects ys)
+    pub ran : (how : Option PhasesEnd) (done : Bool) (rests : List Rest) (objects : List ℕ) → objects ≡ priorities sys → AreReady (λ w. QkMayEnd (s w) (b w) (t w) (work w) (view w)) ys
+        → ((e : PhasesEnd) → how ≡ Some e → AreReady (λ w. QkMayTurn acts (s w) (b w) (t w) (work w) (view w)) ys) → HasFewRows (λ w. numbers_of (s w) (b w) (t w) (work w) (view w)) 1 ys
+        → (how ≡ Some ended.Idle → HasEnded view (λ w. qk_is_left_in (work w)) objects ys)
         → AreLeft work how ys rests → list_any (λ w. is_short (t w)) ys ≡ false → (done ≡ true → (how ≡ Some ended.Idle) × (list_all (λ w. is_idle (t w)) ys ≡ true))
-        → StartFirst view (λ w. JobIsAlone (s w) (t w) (work w) (view w)) (λ w. AreStarts (starts_of (s w) (work w)) (untold_all (view w).told)) Same xs ys → HasRun sys stimuli budget done rests (map view ys)
+        → StartFirst view (λ w. QkJobIsAlone (s w) (t w) (work w) (view w)) (λ w. AreStarts (qk_starts_of (s w) (work w)) (untold_all (view w).told)) Same xs ys → HasQkRun sys stimuli budget done rests (map view ys)
     ran how done rests objects are ends ready rows idle shown long quietly starts = by ys refl
       where
         nothing-told : AreReady (λ w. (view w).told ≡ []) xs
         nothing-told = subst (AreReady (λ w. (view w).told ≡ [])) (sym all.are) (
-          (subst (FirstBegins (λ w. MayBegin acts (s w) (b w) (t w) (work w) (view w)) (λ w. MayTurn acts (s w) (b w) (t w) (work w) (view w))) all.are all.begin).0.none,
+          (subst (FirstBegins (λ w. QkMayBegin acts (s w) (b w) (t w) (work w) (view w)) (λ w. QkMayTurn acts (s w) (b w) (t w) (work w) (view w))) all.are all.begin).0.none,
           ready-map (λ w. IsBlank (s w) (work w) (view w)) (λ w. (view w).told ≡ []) (λ w h. h.none) all.others (subst (OthersAre (λ w. IsBlank (s w) (work w) (view w))) all.are all.blank),
         )
 
         -- of the system of all
-        apart-at : (zs : List T) (floor : Word → ℕ) → AreReady (λ w. (s w ≡ sys) × (b w ≡ budget)) zs → AreReady (λ w. IsApart floor (starts_of (s w) (work w)) (untold_all (view w).told)) zs → AreReady (λ w. IsApart floor (starts_of sys (work w)) (untold_all (view w).told)) zs
+        apart-at : (zs : List T) (floor : Word → ℕ) → AreReady (λ w. (s w ≡ sys) × (b w ≡ budget)) zs → AreReady (λ w. IsApart floor (qk_starts_of (s w) (work w)) (untold_all (view w).told)) zs → AreReady (λ w. IsApart floor (qk_starts_of sys (work w)) (untold_all (view w).told)) zs
         apart-at [] floor at h = tt
-        apart-at (z ∷ zs) floor at h = (subst (λ u. IsApart floor (starts_of u (work z)) (untold_all (view z).told)) at.0.0 h.0, apart-at zs floor at.1 h.1)
+        apart-at (z ∷ zs) floor at h = (subst (λ u. IsApart floor (qk_starts_of u (work z)) (untold_all (view z).told)) at.0.0 h.0, apart-at zs floor at.1 h.1)
 
-        apart : AreAllApart (λ u. starts_of sys (work u)) view ys
+        apart : AreAllApart (λ u. qk_starts_of sys (work u)) view ys
         apart =
-            let a = apart-each (λ w. starts_of (s w) (work w)) (λ w. is_short (t w)) view Same (λ x y h. same-starts (s x) (s y) (work x) (work y) h.sys h.job) (λ x y h. h.lane.advances) xs ys nothing-told same (ready-none (λ w. is_short (t w)) ys long) starts in
+            let a = apart-each (λ w. qk_starts_of (s w) (work w)) (λ w. is_short (t w)) view Same (λ x y h. qk-same-starts (s x) (s y) (work x) (work y) h.sys h.job) (λ x y h. h.lane.advances) xs ys nothing-told same (ready-none (λ w. is_short (t w)) ys long) starts in
             record { floor = a.floor; each = apart-at ys a.floor terms a.each }
 
         told-by : (h : Option PhasesEnd) → how ≡ h → (w : T) (ws : List T) → ys ≡ w ∷ ws → is_short (t w) ≡ false → s w ≡ sys → AreRests sys (λ o. own_told o (view w).told) rests
         told-by None is w ws at free of = subst (AreRests sys (λ o. own_told o (view w).told)) (sym (subst (λ h. AreLeft work h ys rests) is shown)) (no-rests sys (λ o. own_told o (view w).told))
         told-by (Some e) is w ws at free of =
-            let turns = subst (AreReady (λ w. MayTurn acts (s w) (b w) (t w) (work w) (view w))) at (ready e is) in
+            let turns = subst (AreReady (λ w. QkMayTurn acts (s w) (b w) (t w) (work w) (view w))) at (ready e is) in
             let mine : AreShownFirst work (w ∷ ws) rests = subst (λ us. AreShownFirst work us rests) at (subst (λ h. AreLeft work h ys rests) is shown) in
-            first-told acts sys (b w) (t w) (work w) (view w) rests sound free (subst (λ u. JobStands u (b w) (t w) (work w) (view w)) of turns.0.stands) mine
+            first-told acts sys (b w) (t w) (work w) (view w) rests sound free (subst (λ u. QkJobStands u (b w) (t w) (work w) (view w)) of turns.0.stands) mine
 
-        by : (zs : List T) → ys ≡ zs → HasRun sys stimuli budget done rests (map view ys)
-        by [] at = absurd (subst (IsRow work stimuli) at row)
+        by : (zs : List T) → ys ≡ zs → HasQkRun sys stimuli budget done rests (map view ys)
+        by [] at = absurd (subst (IsQkRow work stimuli) at row)
         by (w ∷ ws) at =
             let long-here = ready-none (λ w. is_short (t w)) (w ∷ ws) (subst (λ us. list_any (λ w. is_short (t w)) us ≡ false) at long) in
             let here = subst (AreReady (λ w. (s w ≡ sys) × (b w ≡ budget))) at terms in
@@ -259,18 +259,18 @@ module _ (acts : Bool) (alone : acts ≡ false) (sys : System) (stimuli : List (
             subst (λ n. job_rows sys n (work w) (view w) ≤ settles_in (map view (w ∷ ws)) + 1) here.0.1
             (subst (λ u. job_rows u (b w) (work w) (view w) ≤ settles_in (map view (w ∷ ws)) + 1) here.0.0
             (subst (λ n. job_rows (s w) (b w) (work w) (view w) ≤ n + 1) settles count)) in
-            subst (λ us. HasRun sys stimuli budget done rests (map view us)) (sym at)
-            (ends-all work view sys budget sound stimuli done rests w ws (subst (IsRow work stimuli) at row)
+            subst (λ us. HasQkRun sys stimuli budget done rests (map view us)) (sym at)
+            (ends-all work view sys budget sound stimuli done rests w ws (subst (IsQkRow work stimuli) at row)
             (subst (AreReady (λ w. JobMayEnd sys budget (work w) (view w))) at (ends-may ends long))
             (λ is. (
-              subst (AreReady (λ w. JobRests sys budget (work w) (view w))) at (rests-all (ready ended.Idle (quietly is).0) (quietly is).1),
-              subst (HasEnded view (λ w. is_left_in (work w)) (priorities sys)) at (subst (λ os. HasEnded view (λ w. is_left_in (work w)) os ys) are (idle (quietly is).0)),
+              subst (AreReady (λ w. QkJobRests sys budget (work w) (view w))) at (rests-all (ready ended.Idle (quietly is).0) (quietly is).1),
+              subst (HasEnded view (λ w. qk_is_left_in (work w)) (priorities sys)) at (subst (λ os. HasEnded view (λ w. qk_is_left_in (work w)) os ys) are (idle (quietly is).0)),
             ))
-            mine (told-by how refl w ws at long-here.0 here.0.0) (subst (AreAllApart (λ u. starts_of sys (work u)) view) at apart))
+            mine (told-by how refl w ws at long-here.0 here.0.0) (subst (AreAllApart (λ u. qk_starts_of sys (work u)) view) at apart))
 
 -- Why something is left to be done.
 
-halted-one : (acts : Bool) (sys : System) (budget : ℕ) (t : Turn) (x : QkJob) (v : LaneView) → is_idle t ≡ false → is_short t ≡ false → MayTurn acts sys budget t x v ⊎ MayEnd sys budget t x v → HasStopped v
+halted-one : (acts : Bool) (sys : System) (budget : ℕ) (t : Turn) (x : QkJob) (v : LaneView) → is_idle t ≡ false → is_short t ≡ false → QkMayTurn acts sys budget t x v ⊎ QkMayEnd sys budget t x v → HasStopped v
 halted-one acts sys budget turn.Idle x v none long h = absurd (cc)
 halted-one acts sys budget turn.Stopped x v none long (inl h) = h.stands.1
 halted-one acts sys budget turn.Stopped x v none long (inr h) = h.ends.1
@@ -278,7 +278,7 @@ halted-one acts sys budget turn.Memory x v none long h = absurd (cc)
 
 module _ {T : Type 0} (acts : Bool) (s : T → System) (b : T → ℕ) (t : T → Turn) (work : T → QkJob) (view : T → LaneView) where
   any-halted : (ws : List T) → list_all (λ w. is_idle (t w)) ws ≡ false → list_any (λ w. is_short (t w)) ws ≡ false
-      → AreReady (λ w. MayTurn acts (s w) (b w) (t w) (work w) (view w) ⊎ MayEnd (s w) (b w) (t w) (work w) (view w)) ws → AnyStopped (map view ws)
+      → AreReady (λ w. QkMayTurn acts (s w) (b w) (t w) (work w) (view w) ⊎ QkMayEnd (s w) (b w) (t w) (work w) (view w)) ws → AnyStopped (map view ws)
   any-halted [] none long h = absurd (cc)
   any-halted (w ∷ ws) none long h =
       let parts = or_parts (is_short (t w)) (list_any (λ u. is_short (t u)) ws) long in
@@ -288,12 +288,12 @@ module _ {T : Type 0} (acts : Bool) (s : T → System) (b : T → ℕ) (t : T �
       by true e none more here = inr (more none)
       by false e none more here = inl (here e)
 
-  fed-either : (w : T) → is_short (t w) ≡ false → MayTurn acts (s w) (b w) (t w) (work w) (view w) ⊎ MayEnd (s w) (b w) (t w) (work w) (view w) → IsFed (view w)
+  fed-either : (w : T) → is_short (t w) ≡ false → QkMayTurn acts (s w) (b w) (t w) (work w) (view w) ⊎ QkMayEnd (s w) (b w) (t w) (work w) (view w) → IsFed (view w)
   fed-either w long (inl h) = h.fed long
   fed-either w long (inr h) = h.fed long
 
   -- none handed in 7
-  pub all-fed : (ws : List T) → list_any (λ w. is_short (t w)) ws ≡ false → AreReady (λ w. MayTurn acts (s w) (b w) (t w) (work w) (view w) ⊎ MayEnd (s w) (b w) (t w) (work w) (view w)) ws
+  pub all-fed : (ws : List T) → list_any (λ w. is_short (t w)) ws ≡ false → AreReady (λ w. QkMayTurn acts (s w) (b w) (t w) (work w) (view w) ⊎ QkMayEnd (s w) (b w) (t w) (work w) (view w)) ws
       → AllByRecursion IsFed (map view ws)
   all-fed [] long h = tt
   all-fed (w ∷ ws) long h = let parts = or_parts (is_short (t w)) (list_any (λ u. is_short (t u)) ws) long in (fed-either w parts.0 h.0, all-fed ws parts.1 h.1)
@@ -304,8 +304,8 @@ module _ {T : Type 0} (acts : Bool) (s : T → System) (b : T → ℕ) (t : T �
   first-halted memory (x ∷ xs) [] h = absurd h
 
   pub cause : (xs ys : List T) (how : Option PhasesEnd) → (how ≡ None → list_all (λ w. is_idle (t w)) ys ≡ false) → (how ≡ Some ended.Stopped → FirstFound view false xs ys) → (how ≡ Some ended.Memory → FirstFound view true xs ys)
-      → AreReady (λ w. MayTurn acts (s w) (b w) (t w) (work w) (view w) ⊎ MayEnd (s w) (b w) (t w) (work w) (view w)) ys → list_any (λ w. is_short (t w)) ys ≡ false
-      → (is_over how ≡ false) ⊎ (list_all (λ w. is_idle (t w)) ys ≡ false) → AnyStopped (map view ys)
+      → AreReady (λ w. QkMayTurn acts (s w) (b w) (t w) (work w) (view w) ⊎ QkMayEnd (s w) (b w) (t w) (work w) (view w)) ys → list_any (λ w. is_short (t w)) ys ≡ false
+      → (has_ended_idle how ≡ false) ⊎ (list_all (λ w. is_idle (t w)) ys ≡ false) → AnyStopped (map view ys)
   cause xs ys how none stopped memory each long (inr left) = any-halted ys left long each
   cause xs ys None none stopped memory each long (inl left) = any-halted ys (none refl) long each
   cause xs ys (Some ended.Idle) none stopped memory each long (inl left) = absurd (cc)
@@ -341,8 +341,8 @@ pub fed-left : {T L : Type 0} (lane : T → L) (see : L → LaneView) (ms : List
 fed-left lane see ms ys left all = subst (AllByRecursion IsFed) (sym (ap (map see) left ∙ seen-both lane see ys)) all
 
 pub run-left : {T L : Type 0} (lane : T → L) (see : L → LaneView) (sys : System) (stimuli : List (List Stim)) (budget : ℕ) (done : Bool) (rests : List Rest) (ms : List L) (ys : List T) → ms ≡ map lane ys
-    → HasRun sys stimuli budget done rests (map (λ w. see (lane w)) ys) → HasRun sys stimuli budget done rests (map see ms)
-run-left lane see sys stimuli budget done rests ms ys left run = subst (HasRun sys stimuli budget done rests) (sym (ap (map see) left ∙ seen-both lane see ys)) run
+    → HasQkRun sys stimuli budget done rests (map (λ w. see (lane w)) ys) → HasQkRun sys stimuli budget done rests (map see ms)
+run-left lane see sys stimuli budget done rests ms ys left run = subst (HasQkRun sys stimuli budget done rests) (sym (ap (map see) left ∙ seen-both lane see ys)) run
 
 -- A vector has all of what was written through it.
 

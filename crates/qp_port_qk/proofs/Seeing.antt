@@ -27,10 +27,10 @@ use Rattle.qp_port_lanes.proofs.Standing.{stay}
 use Rattle.qp_port_qk.specs.RestLaws.{IsAtBase}
 use Rattle.qp_port_qk.specs.declared.job.QkJob.{QkJob}
 use Rattle.qp_port_qk.specs.declared.job.QkJob.TheVariants as job
-use Rattle.qp_port_qk.specs.Jobs.{IsSameJob, JobRests, JobStands, JobStops}
+use Rattle.qp_port_qk.specs.Jobs.{IsSameQkJob, QkJobRests, QkJobStands, QkJobStops}
 use Rattle.qp_port_qk.specs.KernelRests.{KernelRests, KernelStops}
 use Rattle.qp_port_qk.specs.Numbers.{job_rows, numbers_of}
-use Rattle.qp_port_qk.specs.Workers.{IsSameWorker, MayTurn}
+use Rattle.qp_port_qk.specs.Workers.{IsSameQkWorker, QkMayTurn}
 
 module _ (v w : LaneView) (more : SeenMore v w) where
   lanes : lanes_of w ≡ lanes_of v
@@ -88,20 +88,20 @@ module _ (v w : LaneView) (more : SeenMore v w) where
         subst (λ ts. RestsAt sys d chart xs ts) (sym more.sees.told) r;
   }
 
-  job-rests : (sys : System) (budget : ℕ) (x : QkJob) → JobRests sys budget x v → JobRests sys budget x w
+  job-rests : (sys : System) (budget : ℕ) (x : QkJob) → QkJobRests sys budget x v → QkJobRests sys budget x w
   job-rests sys budget (job.Kernel xs k) h = kernel-rests sys budget xs k h
   job-rests sys budget (job.Source x) h = stay sys x v w h more.sees
 
-  job-stops : (sys : System) (budget : ℕ) (x : QkJob) → JobStops sys budget x v → JobStops sys budget x w
+  job-stops : (sys : System) (budget : ℕ) (x : QkJob) → QkJobStops sys budget x v → QkJobStops sys budget x w
   job-stops sys budget (job.Kernel xs k) h = kernel-stops sys budget xs k h
   job-stops sys budget (job.Source x) h = λ kernel end may early. subst (SourceLeaves sys kernel end (mine x)) (sym more.sees.told) (h kernel end may early)
 
-  job-stands : (sys : System) (budget : ℕ) (t : Turn) (x : QkJob) → JobStands sys budget t x v → JobStands sys budget t x w
+  job-stands : (sys : System) (budget : ℕ) (t : Turn) (x : QkJob) → QkJobStands sys budget t x v → QkJobStands sys budget t x w
   job-stands sys budget turn.Idle x h = job-rests sys budget x h
   job-stands sys budget turn.Stopped x h = (job-stops sys budget x h.0, stopped-seen v w more h.1)
   job-stands sys budget turn.Memory x h = starved-seen v w more h
 
-  pub may-turn_still : (acts : Bool) (sys : System) (budget : ℕ) (t : Turn) (x : QkJob) → MayTurn acts sys budget t x v → MayTurn acts sys budget t x w
+  pub may-turn_still : (acts : Bool) (sys : System) (budget : ℕ) (t : Turn) (x : QkJob) → QkMayTurn acts sys budget t x v → QkMayTurn acts sys budget t x w
   may-turn_still acts sys budget t x h = record {
     alone = h.alone;
     sound = h.sound;
@@ -120,9 +120,9 @@ module _ (v w : LaneView) (more : SeenMore v w) where
       job-still (job.Kernel xs k) = rows-still sys (under_qk budget)
       job-still (job.Source y) = refl
 
-pub same-job : (x : QkJob) → IsSameJob x x
+pub same-job : (x : QkJob) → IsSameQkJob x x
 same-job (job.Kernel xs k) = tt
 same-job (job.Source x) = refl
 
-pub same-worker : (s : System) (b : ℕ) (x : QkJob) (v w : LaneView) → SeenMore v w → IsSameWorker s s b b x x v w
+pub same-worker : (s : System) (b : ℕ) (x : QkJob) (v w : LaneView) → SeenMore v w → IsSameQkWorker s s b b x x v w
 same-worker s b x v w more = record { sys = refl; budget = refl; job = same-job x; lane = more.same; hears = hears-seen v w more }

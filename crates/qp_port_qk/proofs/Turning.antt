@@ -26,14 +26,14 @@ use Rattle.qp_kernel_turns.specs.declared.objects.Objects.{Objects}
 use Rattle.qp_kernel_turns.specs.AtRest.{StopsAtRest}
 use Rattle.qp_kernel_turns.specs.Counting.{TurnsCounted}
 use Rattle.qp_kernel_turns.specs.Knowing.{HasStack, KnowsAt, MayLook}
-use Rattle.qp_kernel_turns.specs.Lanes.{IsFront, KeepsLane, LaneTurns, SameLane}
+use Rattle.qp_kernel_turns.specs.Lanes.{IsFrontOf, KeepsLane, LaneTurns, SameLane}
 use Rattle.qp_kernel_turns.specs.Ordering.{InOrder, TurnsInOrder}
 use Rattle.qp_kernel_turns.specs.Pending.{Pending}
 use Rattle.qp_kernel_turns.specs.Turning.{TurnsTo, stand_of}
 use Rattle.qp_kernel_turns.specs.TurnRows.{TurnsRows, bare_row}
 use Rattle.qp_kernel_turns.proofs.Places.{follow-then}
 use Rattle.qp_kernel_turns.proofs.RoundRows.{object-there}
-use Rattle.qp_port_phases.specs.Rows.{CountsOn, SeesEntry}
+use Rattle.qp_port_phases.specs.Rows.{CountsOn, LaneSeesEntry}
 use Rattle.qp_port_law.specs.SourcesLeft.{SourceLeaves}
 use Rattle.qp_port_qk.specs.RestLaws.{IsAtBase}
 use Rattle.qp_port_lanes.specs.declared.cursor.Cursor.{Cursor}
@@ -43,14 +43,14 @@ use Rattle.qp_port_phases.specs.Passing.{PassesTo}
 use Rattle.qp_port_phases.specs.Stopping.{Hears}
 use Rattle.qp_port_lanes.proofs.Hearing.{passes-hands, passes-hear, passes-to, why-starved, why-stopped}
 use Rattle.qp_port_lanes.specs.CursorAt.{IsCursorAt, mine}
-use Rattle.qp_port_lanes.specs.Passing.{Passes, settles_of}
+use Rattle.qp_port_lanes.specs.Passing.{CursorPasses, settles_of}
 use Rattle.qp_port_lanes.specs.SourceTurning.{IsSameSource, SourceTurns}
 use Rattle.qp_port_qk.specs.declared.job.QkJob.TheVariants as job
 use Rattle.qp_port_lanes.specs.Answers.{Feeds, is_idle, turn_by}
 use Rattle.qp_port_lanes.proofs.Feeding.{idle-long}
 use Rattle.qp_port_qk.specs.declared.job.QkJob.{QkJob}
-use Rattle.qp_port_qk.specs.Jobs.{JobStands, JobStarts, KernelStands}
-use Rattle.qp_port_qk.specs.Workers.{MayBegin, MayTurn}
+use Rattle.qp_port_qk.specs.Jobs.{QkJobStands, JobStarts, KernelStands}
+use Rattle.qp_port_qk.specs.Workers.{QkMayBegin, QkMayTurn}
 use Rattle.qp_port_qk.specs.KernelRests.{KernelRests}
 use Rattle.qp_port_qk.specs.Numbers.{numbers_of}
 
@@ -123,7 +123,7 @@ settles-more xs ys = ap (count_by (λ i. is_settle i.body)) (map-append untold x
 settles-grow : (xs ys zs : List ToldItem) → zs ≡ xs ++ ys → settles_of xs ≤ settles_of zs
 settles-grow xs ys zs is = let more = settles-more xs ys in let same = ap settles_of is in omega (arith, more, same)
 
-settles-front : (xs zs : List ToldItem) → IsFront xs zs → settles_of xs ≤ settles_of zs
+settles-front : (xs zs : List ToldItem) → IsFrontOf xs zs → settles_of xs ≤ settles_of zs
 settles-front xs zs h = settles-grow xs h.0 zs h.1
 
 -- Rows.
@@ -144,7 +144,7 @@ bare-none sys p is = by sys.objects refl
     by (d ∷ ds) some = let long : (length (d ∷ ds) == 0) ≡ false = grind (arith, nat_tests) in rw (some, long) refl
 
 -- a queue that the lane has just seen with an entry is pending
-sees-pending : (sys : System) (budget : ℕ) (xs : Objects) (k : Kernel) (v : LaneView) (p : ℕ) → KernelRests sys budget xs k v → IsTrue (is_object sys p) → SeesEntry v p → Pending p v
+sees-pending : (sys : System) (budget : ℕ) (xs : Objects) (k : Kernel) (v : LaneView) (p : ℕ) → KernelRests sys budget xs k v → IsTrue (is_object sys p) → LaneSeesEntry v p → Pending p v
 sees-pending sys budget xs k v p h is sees =
     let o = object-there sys p is in
     let served : IsTrue (v.serves p) = subst (λ q. IsTrue (v.serves q)) o.2 (h.rests.knows.lane.serves o.0 o.1) in
@@ -189,7 +189,7 @@ kernel-counts acts sys budget xs ys k l v w turn.Memory alone h lane rows = reco
 mine-same : (x y : Cursor) → IsSameSource x y → mine y ≡ mine x
 mine-same x y same = ap (λ (p : List (List Stim)). get_or p (y.source - 1) []) (ap (λ s. s.now) same.0) ∙ ap (λ k. get_or x.stim.now (k - 1) []) same.1
 
-pub source-turned : (sys : System) (budget : ℕ) (x y : Cursor) (v w : LaneView) (t : Turn) → SourceTurns sys x y v w t → IsSameSource x y → JobStands sys budget t (job.Source y) w
+pub source-turned : (sys : System) (budget : ℕ) (x y : Cursor) (v w : LaneView) (t : Turn) → SourceTurns sys x y v w t → IsSameSource x y → QkJobStands sys budget t (job.Source y) w
 source-turned sys budget x y v w turn.Idle h same = h.goes.at
 source-turned sys budget x y v w turn.Stopped h same = (
   (λ kernel end may early. subst (λ ss. SourceLeaves sys kernel end ss w.told) (sym (mine-same x y same)) (h.leaves kernel end may early)),
@@ -209,7 +209,7 @@ source-counts sys budget x y v w turn.Memory h = record {
   pending = λ none p is sees. absurd (cc);
 }
 
-pub source-passed : (sys : System) (budget : ℕ) (x y : Cursor) (v w : LaneView) (p : Passed) → Passes sys x y v w p → IsSameSource x y → JobStands sys budget (turn_by p) (job.Source y) w
+pub source-passed : (sys : System) (budget : ℕ) (x y : Cursor) (v w : LaneView) (p : Passed) → CursorPasses sys x y v w p → IsSameSource x y → QkJobStands sys budget (turn_by p) (job.Source y) w
 source-passed sys budget x y v w passed.Yes h same = h.stays.at
 source-passed sys budget x y v w (passed.Found p now) h same = h.stays.at
 source-passed sys budget x y v w passed.Stopped h same = (
@@ -220,27 +220,27 @@ source-passed sys budget x y v w passed.Memory h same = why-starved v w h.starve
 
 -- What a turn leaves, whatever runs in the lane.
 
-pub may-turn : (acts : Bool) (sys : System) (budget : ℕ) (t u : Turn) (x y : QkJob) (v w : LaneView) → MayTurn acts sys budget t x v → is_idle t ≡ true → JobStands sys budget u y w → Feeds v w u → MayTurn acts sys budget u y w
+pub may-turn : (acts : Bool) (sys : System) (budget : ℕ) (t u : Turn) (x y : QkJob) (v w : LaneView) → QkMayTurn acts sys budget t x v → is_idle t ≡ true → QkJobStands sys budget u y w → Feeds v w u → QkMayTurn acts sys budget u y w
 may-turn acts sys budget t u x y v w h idle stands feeds = record { alone = h.alone; sound = h.sound; few = h.few; stands = stands; fed = λ long. feeds long (h.fed (idle-long t idle)) }
 
 -- the same behind a try with this answer
-pub may-pass : (acts : Bool) (sys : System) (budget : ℕ) (t u : Turn) (p : Passed) (x y : QkJob) (v w : LaneView) → MayTurn acts sys budget t x v → is_idle t ≡ true → JobStands sys budget (turn_by p) y w → Feeds v w (turn_by p) → u ≡ turn_by p
-    → MayTurn acts sys budget u y w
-may-pass acts sys budget t u p x y v w h idle stands feeds is = subst (λ a. MayTurn acts sys budget a y w) (sym is) (may-turn acts sys budget t (turn_by p) x y v w h idle stands feeds)
+pub may-pass : (acts : Bool) (sys : System) (budget : ℕ) (t u : Turn) (p : Passed) (x y : QkJob) (v w : LaneView) → QkMayTurn acts sys budget t x v → is_idle t ≡ true → QkJobStands sys budget (turn_by p) y w → Feeds v w (turn_by p) → u ≡ turn_by p
+    → QkMayTurn acts sys budget u y w
+may-pass acts sys budget t u p x y v w h idle stands feeds is = subst (λ a. QkMayTurn acts sys budget a y w) (sym is) (may-turn acts sys budget t (turn_by p) x y v w h idle stands feeds)
 
 -- and behind a start that came to its end
-pub may-start : (acts : Bool) (sys : System) (budget : ℕ) (t u : Turn) (x y : QkJob) (v w : LaneView) → MayBegin acts sys budget t x v → is_idle u ≡ true → JobStarts sys budget u y w → Feeds v w u → MayTurn acts sys budget u y w
+pub may-start : (acts : Bool) (sys : System) (budget : ℕ) (t u : Turn) (x y : QkJob) (v w : LaneView) → QkMayBegin acts sys budget t x v → is_idle u ≡ true → JobStarts sys budget u y w → Feeds v w u → QkMayTurn acts sys budget u y w
 may-start acts sys budget t turn.Idle x y v w h idle starts feeds = record { alone = h.alone; sound = h.sound; few = h.few; stands = starts; fed = λ long. feeds long h.fed }
 may-start acts sys budget t turn.Stopped x y v w h idle starts feeds = absurd (cc)
 may-start acts sys budget t turn.Memory x y v w h idle starts feeds = absurd (cc)
 
 -- What passing a `settle`, or a try, leaves.
 
-pub source-passed_hears : (sys : System) (x y : Cursor) (v w : LaneView) (p : Passed) → Passes sys x y v w p → Hears v w
+pub source-passed_hears : (sys : System) (x y : Cursor) (v w : LaneView) (p : Passed) → CursorPasses sys x y v w p → Hears v w
 source-passed_hears sys x y v w p h = passes-hear sys x y v w p h
 
-pub source-passed_to : (sys : System) (x y : Cursor) (v w : LaneView) (p : Passed) → IsCursorAt sys x v → Passes sys x y v w p → PassesTo v w p
+pub source-passed_to : (sys : System) (x y : Cursor) (v w : LaneView) (p : Passed) → IsCursorAt sys x v → CursorPasses sys x y v w p → PassesTo v w p
 source-passed_to sys x y v w p at h = passes-to sys x y v w p at.at.of h
 
-pub source-passed_hands : (sys : System) (x y : Cursor) (v w : LaneView) (p : Passed) → Passes sys x y v w p → w.hands ≡ v.hands
+pub source-passed_hands : (sys : System) (x y : Cursor) (v w : LaneView) (p : Passed) → CursorPasses sys x y v w p → w.hands ≡ v.hands
 source-passed_hands sys x y v w p h = passes-hands sys x y v w p h

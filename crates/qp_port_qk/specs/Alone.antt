@@ -11,36 +11,36 @@ use Rattle.qp_dispatch.specs.declared.objects.Turn.TheVariants as turn
 use Rattle.qp_port_lanes.specs.Answers.{is_idle}
 use Rattle.qp_port_qk.specs.declared.job.QkJob.{QkJob}
 use Rattle.qp_port_qk.specs.declared.job.QkJob.TheVariants as job
-use Rattle.qp_port_qk.specs.Jobs.{IsSameJob, JobIsAlone, JobStartsAlone, starts_of}
+use Rattle.qp_port_qk.specs.Jobs.{IsSameQkJob, QkJobIsAlone, QkJobStartsAlone, qk_starts_of}
 use Rattle.qp_port_qk.specs.Workers.{IsBlank}
 
 -- the same objects start
-pub same-starts : (s t : System) (x y : QkJob) → t ≡ s → IsSameJob x y → starts_of s x ≡ starts_of t y
-same-starts s t (job.Kernel xs k) (job.Kernel ys l) same h = ap (λ (u : System). length u.objects) (sym same)
-same-starts s t (job.Source x) (job.Source y) same h = refl
-same-starts s t (job.Kernel xs k) (job.Source y) same h = absurd h
-same-starts s t (job.Source x) (job.Kernel ys l) same h = absurd h
+pub qk-same-starts : (s t : System) (x y : QkJob) → t ≡ s → IsSameQkJob x y → qk_starts_of s x ≡ qk_starts_of t y
+qk-same-starts s t (job.Kernel xs k) (job.Kernel ys l) same h = ap (λ (u : System). length u.objects) (sym same)
+qk-same-starts s t (job.Source x) (job.Source y) same h = refl
+qk-same-starts s t (job.Kernel xs k) (job.Source y) same h = absurd h
+qk-same-starts s t (job.Source x) (job.Kernel ys l) same h = absurd h
 
 -- what a start answers
-pub start-alone : (sys : System) (t : Turn) (x : QkJob) (v : LaneView) → JobStartsAlone sys t x v → JobIsAlone sys t x v
-start-alone sys turn.Idle x v h long = starts-alone (starts_of sys x) (untold_all v.told) h
-start-alone sys turn.Stopped x v h long = h
-start-alone sys turn.Memory x v h long = absurd (cc)
+pub qk-start-alone : (sys : System) (t : Turn) (x : QkJob) (v : LaneView) → QkJobStartsAlone sys t x v → QkJobIsAlone sys t x v
+qk-start-alone sys turn.Idle x v h long = starts-alone (qk_starts_of sys x) (untold_all v.told) h
+qk-start-alone sys turn.Stopped x v h long = h
+qk-start-alone sys turn.Memory x v h long = absurd (cc)
 
-pub idle-started : (sys : System) (t : Turn) (x : QkJob) (v : LaneView) → JobStartsAlone sys t x v → is_idle t ≡ true → AreStarts (starts_of sys x) (untold_all v.told)
-idle-started sys turn.Idle x v h idle = h
-idle-started sys turn.Stopped x v h idle = absurd (cc)
-idle-started sys turn.Memory x v h idle = absurd (cc)
+pub qk-idle-started : (sys : System) (t : Turn) (x : QkJob) (v : LaneView) → QkJobStartsAlone sys t x v → is_idle t ≡ true → AreStarts (qk_starts_of sys x) (untold_all v.told)
+qk-idle-started sys turn.Idle x v h idle = h
+qk-idle-started sys turn.Stopped x v h idle = absurd (cc)
+qk-idle-started sys turn.Memory x v h idle = absurd (cc)
 
 -- where nothing starts
 nothing-starts : (n : ℕ) (is : List Item) → n ≡ 0 → is ≡ [] → AreStarts n is
 nothing-starts n is noughts none = subst (λ k. AreStarts k is) (sym noughts) (subst (AreStarts 0) (sym none) (refl, refl))
 
-pub none-starts : (sys : System) (x : QkJob) (v : LaneView) → starts_of sys x ≡ 0 → v.told ≡ [] → JobStartsAlone sys turn.Idle x v
-none-starts sys x v noughts none = nothing-starts (starts_of sys x) (untold_all v.told) noughts (ap untold_all none)
+pub qk-none-starts : (sys : System) (x : QkJob) (v : LaneView) → qk_starts_of sys x ≡ 0 → v.told ≡ [] → QkJobStartsAlone sys turn.Idle x v
+qk-none-starts sys x v noughts none = nothing-starts (qk_starts_of sys x) (untold_all v.told) noughts (ap untold_all none)
 
-pub blank-started : (sys : System) (x : QkJob) (v : LaneView) → IsBlank sys x v → AreStarts (starts_of sys x) (untold_all v.told)
-blank-started sys x v blank = none-starts sys x v blank.starts blank.none
+pub blank-started : (sys : System) (x : QkJob) (v : LaneView) → IsBlank sys x v → AreStarts (qk_starts_of sys x) (untold_all v.told)
+blank-started sys x v blank = qk-none-starts sys x v blank.starts blank.none
 
-pub blank-alone : (sys : System) (t : Turn) (x : QkJob) (v : LaneView) → IsBlank sys x v → JobIsAlone sys t x v
-blank-alone sys t x v blank long = starts-alone (starts_of sys x) (untold_all v.told) (blank-started sys x v blank)
+pub blank-alone : (sys : System) (t : Turn) (x : QkJob) (v : LaneView) → IsBlank sys x v → QkJobIsAlone sys t x v
+blank-alone sys t x v blank long = starts-alone (qk_starts_of sys x) (untold_all v.told) (blank-started sys x v blank)

@@ -21,11 +21,11 @@ use Rattle.qp_port_law.specs.QkLanes.{QkRests}
 use Rattle.qp_port_law.specs.StartsFirst.{ZeroStartsFirst}
 
 -- all starts came to their end, and the phases ended idle
-abbrev pub is_over : Option PhasesEnd → Bool
-is_over None = false
-is_over (Some ended.Idle) = true
-is_over (Some ended.Stopped) = false
-is_over (Some ended.Memory) = false
+abbrev pub has_ended_idle : Option PhasesEnd → Bool
+has_ended_idle None = false
+has_ended_idle (Some ended.Idle) = true
+has_ended_idle (Some ended.Stopped) = false
+has_ended_idle (Some ended.Memory) = false
 
 -- the lanes may end so
 pub record MayEndSo (sys : System) (stimuli : List (List Stim)) (budget end : ℕ) (first : LaneView) (sources : List LaneView) : Type 0 where
@@ -33,18 +33,18 @@ pub record MayEndSo (sys : System) (stimuli : List (List Stim)) (budget end : �
   pub leave : SourcesAre sys qk end stimuli sources
 
 -- nothing was left to be done
-pub record MayEndQuietly (sys : System) (stimuli : List (List Stim)) (budget : ℕ) (first : LaneView) (sources : List LaneView) : Type 0 where
+pub record QkMayEndQuietly (sys : System) (stimuli : List (List Stim)) (budget : ℕ) (first : LaneView) (sources : List LaneView) : Type 0 where
   pub ends : MayEndSo sys stimuli budget quiet first sources
   pub rests : QkRests sys budget first sources
 
 -- The lanes of such a run; where it tells that nothing was left, nothing was. The kernel's has at most one row of looks without a step more than all
 -- have `settle` records, and the rests are of its objects.
-pub record HasRun (sys : System) (stimuli : List (List Stim)) (budget : ℕ) (done : Bool) (rests : List Rest) (vs : List LaneView) : Type 0 where
+pub record HasQkRun (sys : System) (stimuli : List (List Stim)) (budget : ℕ) (done : Bool) (rests : List Rest) (vs : List LaneView) : Type 0 where
   pub first : LaneView
   pub sources : List LaneView
   pub are : vs ≡ first ∷ sources
   pub early : (end : ℕ) → may_cut end ≡ true → MayEndSo sys stimuli budget end first sources
-  pub quietly : done ≡ true → MayEndQuietly sys stimuli budget first sources
+  pub quietly : done ≡ true → QkMayEndQuietly sys stimuli budget first sources
   pub rows : idle_rows sys (under_qk budget) first ≤ settles_in vs + 1
   pub told : AreRests sys (λ o. own_told o first.told) rests
   pub starts : ZeroStartsFirst (length sys.objects) first sources

@@ -28,51 +28,51 @@ is_source (job.Kernel xs k) = false
 is_source (job.Source x) = true
 
 -- a source that stands at a `settle`
-abbrev pub stands_at_settle : QkJob → Bool
-stands_at_settle (job.Kernel xs k) = false
-stands_at_settle (job.Source x) = at_settle_in x
+abbrev pub qk_stands_at_settle : QkJob → Bool
+qk_stands_at_settle (job.Kernel xs k) = false
+qk_stands_at_settle (job.Source x) = at_settle_in x
 
 -- a source that has a stimulus left
-abbrev pub is_left_in : QkJob → Bool
-is_left_in (job.Kernel xs k) = false
-is_left_in (job.Source x) = left_in x
+abbrev pub qk_is_left_in : QkJob → Bool
+qk_is_left_in (job.Kernel xs k) = false
+qk_is_left_in (job.Source x) = left_in x
 
 -- the kernel, or a source of the same stimuli
-abbrev pub IsSameJob : QkJob → QkJob → Type 0
-IsSameJob (job.Kernel xs k) (job.Kernel ys l) = ⊤
-IsSameJob (job.Source x) (job.Source y) = mine y ≡ mine x
-IsSameJob _ _ = ⊥
+abbrev pub IsSameQkJob : QkJob → QkJob → Type 0
+IsSameQkJob (job.Kernel xs k) (job.Kernel ys l) = ⊤
+IsSameQkJob (job.Source x) (job.Source y) = mine y ≡ mine x
+IsSameQkJob _ _ = ⊥
 
 -- how many objects start in the lane
-abbrev pub starts_of : System → QkJob → ℕ
-starts_of sys (job.Kernel xs k) = length sys.objects
-starts_of sys (job.Source x) = 0
+abbrev pub qk_starts_of : System → QkJob → ℕ
+qk_starts_of sys (job.Kernel xs k) = length sys.objects
+qk_starts_of sys (job.Source x) = 0
 
 -- Its starts alone stand in the lane: to their end, where that is the answer, or as far as they came.
-abbrev pub JobStartsAlone : System → Turn → QkJob → LaneView → Type 0
-JobStartsAlone sys turn.Idle x v = AreStarts (starts_of sys x) (untold_all v.told)
-JobStartsAlone sys turn.Stopped x v = IsStartAlone (starts_of sys x) (untold_all v.told)
-JobStartsAlone sys turn.Memory x v = Unit {0}
+abbrev pub QkJobStartsAlone : System → Turn → QkJob → LaneView → Type 0
+QkJobStartsAlone sys turn.Idle x v = AreStarts (qk_starts_of sys x) (untold_all v.told)
+QkJobStartsAlone sys turn.Stopped x v = IsStartAlone (qk_starts_of sys x) (untold_all v.told)
+QkJobStartsAlone sys turn.Memory x v = Unit {0}
 
 -- or as far as they came, where memory wasn't refused
-abbrev pub JobIsAlone : System → Turn → QkJob → LaneView → Type 0
-JobIsAlone sys t x v = is_short t ≡ false → IsStartAlone (starts_of sys x) (untold_all v.told)
+abbrev pub QkJobIsAlone : System → Turn → QkJob → LaneView → Type 0
+QkJobIsAlone sys t x v = is_short t ≡ false → IsStartAlone (qk_starts_of sys x) (untold_all v.told)
 
 -- between two turns
-abbrev pub JobRests : System → ℕ → QkJob → LaneView → Type 0
-JobRests sys budget (job.Kernel xs k) v = KernelRests sys budget xs k v
-JobRests sys budget (job.Source x) v = IsCursorAt sys x v
+abbrev pub QkJobRests : System → ℕ → QkJob → LaneView → Type 0
+QkJobRests sys budget (job.Kernel xs k) v = KernelRests sys budget xs k v
+QkJobRests sys budget (job.Source x) v = IsCursorAt sys x v
 
 -- where the run stops early, the lane may end so
-abbrev pub JobStops : System → ℕ → QkJob → LaneView → Type 0
-JobStops sys budget (job.Kernel xs k) v = KernelStops sys budget xs k v
-JobStops sys budget (job.Source x) v = (kernel end : ℕ) → may_try kernel ≡ true → may_cut end ≡ true → SourceLeaves sys kernel end (mine x) v.told
+abbrev pub QkJobStops : System → ℕ → QkJob → LaneView → Type 0
+QkJobStops sys budget (job.Kernel xs k) v = KernelStops sys budget xs k v
+QkJobStops sys budget (job.Source x) v = (kernel end : ℕ) → may_try kernel ≡ true → may_cut end ≡ true → SourceLeaves sys kernel end (mine x) v.told
 
 -- behind a turn with this answer; where it isn't the end of the turn, the lane tells why
-abbrev pub JobStands : System → ℕ → Turn → QkJob → LaneView → Type 0
-JobStands sys budget turn.Idle x v = JobRests sys budget x v
-JobStands sys budget turn.Stopped x v = JobStops sys budget x v × HasStopped v
-JobStands sys budget turn.Memory x v = HasStarved v
+abbrev pub QkJobStands : System → ℕ → Turn → QkJob → LaneView → Type 0
+QkJobStands sys budget turn.Idle x v = QkJobRests sys budget x v
+QkJobStands sys budget turn.Stopped x v = QkJobStops sys budget x v × HasStopped v
+QkJobStands sys budget turn.Memory x v = HasStarved v
 
 abbrev pub KernelStands : System → ℕ → Turn → Objects → Kernel → LaneView → Type 0
 KernelStands sys budget turn.Idle xs k v = KernelRests sys budget xs k v
@@ -86,21 +86,21 @@ pub record KernelTurns (acts : Bool) (sys : System) (budget : ℕ) (xs : Objects
   pub lane : LaneTurns acts v w t
 
 -- the same of what runs in a lane
-abbrev pub JobTurns : Bool → System → ℕ → QkJob → QkJob → LaneView → LaneView → Turn → Type 0
-JobTurns acts sys budget (job.Kernel xs k) (job.Kernel ys l) v w t = KernelTurns acts sys budget xs k v ys l w t
-JobTurns acts sys budget (job.Source x) (job.Source y) v w t = SourceTurns sys x y v w t
-JobTurns acts sys budget _ _ v w t = ⊥
+abbrev pub QkJobTurns : Bool → System → ℕ → QkJob → QkJob → LaneView → LaneView → Turn → Type 0
+QkJobTurns acts sys budget (job.Kernel xs k) (job.Kernel ys l) v w t = KernelTurns acts sys budget xs k v ys l w t
+QkJobTurns acts sys budget (job.Source x) (job.Source y) v w t = SourceTurns sys x y v w t
+QkJobTurns acts sys budget _ _ v w t = ⊥
 
 -- A worker's turn: that of what runs in its lane. Where an earlier one has stopped, it does nothing, and leaves that answer.
-abbrev pub TurnsFrom : Bool → System → ℕ → Turn → QkJob → LaneView → Turn → QkJob → LaneView → Type 0
-TurnsFrom acts sys budget turn.Idle x v t y w = JobTurns acts sys budget x y v w t
-TurnsFrom acts sys budget turn.Stopped x v t y w = (t ≡ turn.Stopped) × (y ≡ x) × (w ≡ v)
-TurnsFrom acts sys budget turn.Memory x v t y w = (t ≡ turn.Memory) × (y ≡ x) × (w ≡ v)
+abbrev pub QkTurnsFrom : Bool → System → ℕ → Turn → QkJob → LaneView → Turn → QkJob → LaneView → Type 0
+QkTurnsFrom acts sys budget turn.Idle x v t y w = QkJobTurns acts sys budget x y v w t
+QkTurnsFrom acts sys budget turn.Stopped x v t y w = (t ≡ turn.Stopped) × (y ≡ x) × (w ≡ v)
+QkTurnsFrom acts sys budget turn.Memory x v t y w = (t ≡ turn.Memory) × (y ≡ x) × (w ≡ v)
 
 -- before the start
-abbrev pub JobBegins : System → QkJob → LaneView → Type 0
-JobBegins sys (job.Kernel xs k) v = KernelBegins sys xs k v
-JobBegins sys (job.Source x) v = IsCursorAt sys x v
+abbrev pub QkJobBegins : System → QkJob → LaneView → Type 0
+QkJobBegins sys (job.Kernel xs k) v = KernelBegins sys xs k v
+QkJobBegins sys (job.Source x) v = IsCursorAt sys x v
 
 -- where the run stopped early, the lane may end so; nothing is known of objects whose start broke off
 abbrev pub JobMayEnd : System → ℕ → QkJob → LaneView → Type 0
@@ -108,13 +108,13 @@ JobMayEnd sys budget (job.Kernel xs k) v = KernelEnds sys budget v
 JobMayEnd sys budget (job.Source x) v = (kernel end : ℕ) → may_try kernel ≡ true → may_cut end ≡ true → SourceLeaves sys kernel end (mine x) v.told
 
 -- where the run has ended, and why it did for one that doesn't rest
-abbrev pub JobEnds : System → ℕ → Turn → QkJob → LaneView → Type 0
-JobEnds sys budget turn.Idle x v = JobMayEnd sys budget x v
-JobEnds sys budget turn.Stopped x v = JobMayEnd sys budget x v × HasStopped v
-JobEnds sys budget turn.Memory x v = HasStarved v
+abbrev pub QkJobEnds : System → ℕ → Turn → QkJob → LaneView → Type 0
+QkJobEnds sys budget turn.Idle x v = JobMayEnd sys budget x v
+QkJobEnds sys budget turn.Stopped x v = JobMayEnd sys budget x v × HasStopped v
+QkJobEnds sys budget turn.Memory x v = HasStarved v
 
 -- behind the start
 abbrev pub JobStarts : System → ℕ → Turn → QkJob → LaneView → Type 0
-JobStarts sys budget turn.Idle x v = JobRests sys budget x v
+JobStarts sys budget turn.Idle x v = QkJobRests sys budget x v
 JobStarts sys budget turn.Stopped x v = JobMayEnd sys budget x v × HasStopped v
 JobStarts sys budget turn.Memory x v = HasStarved v

@@ -27,17 +27,17 @@ pub record IsAtBegin (stimuli : List (List Stim)) (source : ℕ) (x : Cursor) : 
   pub begun : x.begun ≡ 0
   pub settling : x.settling ≡ false
 
-abbrev pub IsSourceMade : List (List Stim) → ℕ → QkJob → Type 0
-IsSourceMade stimuli k (job.Source x) = IsAtBegin stimuli k x
-IsSourceMade stimuli k (job.Kernel xs l) = ⊥
+abbrev pub IsQkSourceMade : List (List Stim) → ℕ → QkJob → Type 0
+IsQkSourceMade stimuli k (job.Source x) = IsAtBegin stimuli k x
+IsQkSourceMade stimuli k (job.Kernel xs l) = ⊥
 
 pub record MadesKernel (sys : System) (budget : ℕ) (s : System) (b : ℕ) (t : Turn) (x : QkJob) : Type 0 where
   pub fresh : IsFreshWorker sys budget s b t
   pub its : IsKernelMade sys x
 
-pub record MadesSource (sys : System) (budget : ℕ) (stimuli : List (List Stim)) (k : ℕ) (s : System) (b : ℕ) (t : Turn) (x : QkJob) : Type 0 where
+pub record IsFreshQkSource (sys : System) (budget : ℕ) (stimuli : List (List Stim)) (k : ℕ) (s : System) (b : ℕ) (t : Turn) (x : QkJob) : Type 0 where
   pub fresh : IsFreshWorker sys budget s b t
-  pub its : IsSourceMade stimuli k x
+  pub its : IsQkSourceMade stimuli k x
 
 -- one for each of these sources, the first of which has this number
 abbrev pub SourcesMade : {T : Type 0} → (ℕ → T → Type 0) → ℕ → List (List Stim) → List T → Type 0
@@ -54,7 +54,7 @@ pub record AddsAll {T L : Type 0} (lane : T → L) (Made : List T → Type 0) (l
   pub lanes_are : lanes ≡ map lane all ++ rest
 
 -- the first has the kernel, then come the sources, and no lane is left over
-pub record AreAllMade {T L : Type 0} (lane : T → L) (Kernel : T → Type 0) (Source : ℕ → T → Type 0) (stimuli : List (List Stim)) (lanes : List L) (workers : List T) : Type 0 where
+pub record AreAllQkMade {T L : Type 0} (lane : T → L) (Kernel : T → Type 0) (Source : ℕ → T → Type 0) (stimuli : List (List Stim)) (lanes : List L) (workers : List T) : Type 0 where
   pub first : T
   pub sources : List T
   pub workers_are : workers ≡ first ∷ sources

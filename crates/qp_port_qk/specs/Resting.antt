@@ -11,13 +11,13 @@ use Rattle.qp_port_qk.specs.declared.job.QkJob.{QkJob}
 use Rattle.qp_port_qk.specs.declared.job.QkJob.TheVariants as job
 
 -- what an object shows whose step isn't under way
-pub record IsShown (xs : Objects) (stack : List ℕ) (x : Rest) : Type 0 where
+pub record KernelShowsOne (xs : Objects) (stack : List ℕ) (x : Rest) : Type 0 where
   pub free : has stack x.priority ≡ false
   pub leaf : leaf_in xs.slots.items x.priority ≡ Some x.leaf
   pub vars : x.vars.items ≡ vars_in xs.slots.items x.priority
 
 abbrev pub KernelShows : Objects → List ℕ → List Rest → Type 0
-KernelShows xs stack rests = AllByRecursion (IsShown xs stack) rests
+KernelShows xs stack rests = AllByRecursion (KernelShowsOne xs stack) rests
 
 -- the objects of the kernel show them
 abbrev pub AreShownBy : QkJob → List Rest → Type 0

@@ -16,17 +16,17 @@ pub record IsNewOf (sys : System) (world : List ℕ) (v : LaneView) : Type 0 whe
   pub of : v.sys ≡ sys
   pub world_is : v.world ≡ world
 
-abbrev pub AreNew : System → List ℕ → List (List Stim) → List LaneView → Type 0
-AreNew sys world [] [] = ⊤
-AreNew sys world (ss ∷ more) (v ∷ vs) = IsNewOf sys world v × AreNew sys world more vs
-AreNew sys world [] (v ∷ vs) = ⊥
-AreNew sys world (ss ∷ more) [] = ⊥
+abbrev pub AreNewSources : System → List ℕ → List (List Stim) → List LaneView → Type 0
+AreNewSources sys world [] [] = ⊤
+AreNewSources sys world (ss ∷ more) (v ∷ vs) = IsNewOf sys world v × AreNewSources sys world more vs
+AreNewSources sys world [] (v ∷ vs) = ⊥
+AreNewSources sys world (ss ∷ more) [] = ⊥
 
 -- All lanes of a table, before their run. The first serves all objects, and no stimuli stand in its plan.
-abbrev pub AreNewLanes : System → List (List Stim) → List LaneView → Type 0
-AreNewLanes sys stimuli [] = ⊥
-AreNewLanes sys stimuli (v ∷ vs) =
-    IsNewOf sys v.world v × ((d : ObjectDef) → object_at sys d.priority ≡ Some d → v.serves d.priority ≡ true) × (v.plan ≡ []) × AreNew sys v.world stimuli vs
+abbrev pub AreNewQkLanes : System → List (List Stim) → List LaneView → Type 0
+AreNewQkLanes sys stimuli [] = ⊥
+AreNewQkLanes sys stimuli (v ∷ vs) =
+    IsNewOf sys v.world v × ((d : ObjectDef) → object_at sys d.priority ≡ Some d → v.serves d.priority ≡ true) × (v.plan ≡ []) × AreNewSources sys v.world stimuli vs
 
 -- each is the same lane as before
 abbrev pub AreSameLanes : List LaneView → List LaneView → Type 0
@@ -39,18 +39,18 @@ abbrev pub IsKernel : QkJob → Type 0
 IsKernel (job.Kernel xs k) = ⊤
 IsKernel (job.Source x) = ⊥
 
-abbrev pub IsSourceOf : List Stim → QkJob → Type 0
-IsSourceOf ss (job.Source x) = mine x ≡ ss
-IsSourceOf ss (job.Kernel xs k) = ⊥
+abbrev pub IsQkSourceOf : List Stim → QkJob → Type 0
+IsQkSourceOf ss (job.Source x) = mine x ≡ ss
+IsQkSourceOf ss (job.Kernel xs k) = ⊥
 
 -- a worker for each of these sources
 abbrev pub AreSources : {T : Type 0} → (T → QkJob) → List (List Stim) → List T → Type 0
 AreSources work [] [] = ⊤
-AreSources work (ss ∷ more) (w ∷ ws) = IsSourceOf ss (work w) × AreSources work more ws
+AreSources work (ss ∷ more) (w ∷ ws) = IsQkSourceOf ss (work w) × AreSources work more ws
 AreSources work [] (w ∷ ws) = ⊥
 AreSources work (ss ∷ more) [] = ⊥
 
 -- the first has the kernel
-abbrev pub IsRow : {T : Type 0} → (T → QkJob) → List (List Stim) → List T → Type 0
-IsRow work more [] = ⊥
-IsRow work more (w ∷ ws) = IsKernel (work w) × AreSources work more ws
+abbrev pub IsQkRow : {T : Type 0} → (T → QkJob) → List (List Stim) → List T → Type 0
+IsQkRow work more [] = ⊥
+IsQkRow work more (w ∷ ws) = IsKernel (work w) × AreSources work more ws

@@ -15,46 +15,46 @@ use Rattle.qp_port_lanes.proofs.Hearing.{hears-itself, hears-then}
 use Rattle.qp_port_qk.specs.declared.job.QkJob.{QkJob}
 use Rattle.qp_port_qk.specs.declared.job.QkJob.TheVariants as job
 use Rattle.qp_dispatch.specs.declared.objects.Turn.TheVariants as turn
-use Rattle.qp_port_qk.specs.Jobs.{IsSameJob, JobBegins, JobEnds, JobStands, starts_of}
+use Rattle.qp_port_qk.specs.Jobs.{IsSameQkJob, QkJobBegins, QkJobEnds, QkJobStands, qk_starts_of}
 
 -- It may take a turn, or be met and looked at like another. Where its last turn stopped, it does nothing more. It has handed in 7 for want of memory
 -- alone. In the looks of its world nothing happens.
-pub record MayTurn (acts : Bool) (sys : System) (budget : ℕ) (t : Turn) (x : QkJob) (v : LaneView) : Type 0 where
+pub record QkMayTurn (acts : Bool) (sys : System) (budget : ℕ) (t : Turn) (x : QkJob) (v : LaneView) : Type 0 where
   pub alone : acts ≡ false
   pub sound : IsSound sys
   pub few : budget ≤ 1000000
-  pub stands : JobStands sys budget t x v
+  pub stands : QkJobStands sys budget t x v
   pub fed : is_short t ≡ false → IsFed v
 
 -- it hasn't started
-pub record MayBegin (acts : Bool) (sys : System) (budget : ℕ) (t : Turn) (x : QkJob) (v : LaneView) : Type 0 where
+pub record QkMayBegin (acts : Bool) (sys : System) (budget : ℕ) (t : Turn) (x : QkJob) (v : LaneView) : Type 0 where
   pub alone : acts ≡ false
   pub sound : IsSound sys
   pub few : budget ≤ 1000000
   pub idle : t ≡ turn.Idle
-  pub begins : JobBegins sys x v
+  pub begins : QkJobBegins sys x v
   pub none : v.told ≡ []
   pub fed : IsFed v
 
 -- the run has ended
-pub record MayEnd (sys : System) (budget : ℕ) (t : Turn) (x : QkJob) (v : LaneView) : Type 0 where
+pub record QkMayEnd (sys : System) (budget : ℕ) (t : Turn) (x : QkJob) (v : LaneView) : Type 0 where
   pub sound : IsSound sys
-  pub ends : JobEnds sys budget t x v
+  pub ends : QkJobEnds sys budget t x v
   pub fed : is_short t ≡ false → IsFed v
 
 -- the same worker, with the same lane, which forgets no code that it heard of
-pub record IsSameWorker (s t : System) (b c : ℕ) (i j : QkJob) (v w : LaneView) : Type 0 where
+pub record IsSameQkWorker (s t : System) (b c : ℕ) (i j : QkJob) (v w : LaneView) : Type 0 where
   pub sys : t ≡ s
   pub budget : c ≡ b
-  pub job : IsSameJob i j
+  pub job : IsSameQkJob i j
   pub lane : SameLane v w
   pub hears : Hears v w
 
-same-job : (x : QkJob) → IsSameJob x x
+same-job : (x : QkJob) → IsSameQkJob x x
 same-job (job.Kernel xs k) = tt
 same-job (job.Source x) = refl
 
-job-still : (x y z : QkJob) → IsSameJob x y → IsSameJob y z → IsSameJob x z
+job-still : (x y z : QkJob) → IsSameQkJob x y → IsSameQkJob y z → IsSameQkJob x z
 job-still (job.Kernel xs k) (job.Kernel ys l) (job.Kernel zs m) h i = tt
 job-still (job.Source x) (job.Source y) (job.Source z) h i = i ∙ h
 job-still (job.Kernel xs k) (job.Source y) z h i = absurd h
@@ -62,8 +62,8 @@ job-still (job.Source x) (job.Kernel ys l) z h i = absurd h
 job-still (job.Kernel xs k) (job.Kernel ys l) (job.Source z) h i = absurd i
 job-still (job.Source x) (job.Source y) (job.Kernel zs m) h i = absurd i
 
-pub same-itself : (s : System) (b : ℕ) (x : QkJob) (v : LaneView) → IsSameWorker s s b b x x v v
-same-itself s b x v = record {
+pub qk-same-itself : (s : System) (b : ℕ) (x : QkJob) (v : LaneView) → IsSameQkWorker s s b b x x v v
+qk-same-itself s b x v = record {
   sys = refl;
   budget = refl;
   job = same-job x;
@@ -71,8 +71,8 @@ same-itself s b x v = record {
   hears = hears-itself v;
 }
 
-pub same-still : (s t u : System) (b c d : ℕ) (x y z : QkJob) (v w m : LaneView) → IsSameWorker s t b c x y v w → IsSameWorker t u c d y z w m → IsSameWorker s u b d x z v m
-same-still s t u b c d x y z v w m h k = record {
+pub qk-same-still : (s t u : System) (b c d : ℕ) (x y z : QkJob) (v w m : LaneView) → IsSameQkWorker s t b c x y v w → IsSameQkWorker t u c d y z w m → IsSameQkWorker s u b d x z v m
+qk-same-still s t u b c d x y z v w m h k = record {
   sys = k.sys ∙ h.sys;
   budget = k.budget ∙ h.budget;
   job = job-still x y z h.job k.job;
@@ -88,12 +88,12 @@ same-still s t u b c d x y z v w m h k = record {
   hears = hears-then v w m h.hears k.hears;
 }
 
-pub same-table : (s t : System) (b c : ℕ) (x y : QkJob) (v w : LaneView) → IsSameWorker s t b c x y v w → IsTogether v w
-same-table s t b c x y v w h = record { world = h.lane.world; sys = h.lane.sys }
+pub qk-same-table : (s t : System) (b c : ℕ) (x y : QkJob) (v w : LaneView) → IsSameQkWorker s t b c x y v w → IsTogether v w
+qk-same-table s t b c x y v w h = record { world = h.lane.world; sys = h.lane.sys }
 
 -- nothing starts in its lane, and nothing stands there
 pub record IsBlank (sys : System) (x : QkJob) (v : LaneView) : Type 0 where
-  pub starts : starts_of sys x ≡ 0
+  pub starts : qk_starts_of sys x ≡ 0
   pub none : v.told ≡ []
 
 -- but for the first, these are so

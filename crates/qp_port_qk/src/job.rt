@@ -9,7 +9,7 @@ ghost use Rattle.qp_port_phases.specs.Passing.{PassesTo};
 ghost use Rattle.qp_port_phases.specs.Rows.{CountsOn, PassCounts};
 ghost use Rattle.qp_port_phases.specs.Stopping.{Hears};
 ghost use Rattle.qp_port_lanes.specs.Answers.{Feeds, is_short, turn_by};
-ghost use Rattle.qp_port_qk.specs.Jobs.{IsSameJob, JobBegins, JobRests, JobStands, JobStarts, JobStartsAlone, JobTurns, KernelStands, KernelTurns, is_left_in, is_source, stands_at_settle};
+ghost use Rattle.qp_port_qk.specs.Jobs.{IsSameQkJob, QkJobBegins, QkJobRests, QkJobStands, JobStarts, QkJobStartsAlone, QkJobTurns, KernelStands, KernelTurns, qk_is_left_in, is_source, qk_stands_at_settle};
 ghost use Rattle.qp_port_qk.specs.KernelRests.{KernelBegins, KernelRests};
 ghost use Rattle.qp_port_qk.specs.Numbers.{job_rows, numbers_of};
 
@@ -43,7 +43,7 @@ fn start_kernel<O: Ops>(
     requires sound { IsSound sys.now }
     requires begins { KernelBegins sys.now objects.old kernel.now (O.lane ops.old) }
     ensures starts { JobStarts sys.now budget result (job.Kernel objects.new kernel.now) (O.lane ops.new) }
-    ensures alone { JobStartsAlone sys.now result (job.Kernel objects.new kernel.now) (O.lane ops.new) }
+    ensures alone { QkJobStartsAlone sys.now result (job.Kernel objects.new kernel.now) (O.lane ops.new) }
     ensures lane { SameLane (O.lane ops.old) (O.lane ops.new) }
     ensures hears { Hears (O.lane ops.old) (O.lane ops.new) }
     ensures feeds { Feeds (O.lane ops.old) (O.lane ops.new) result }
@@ -62,11 +62,11 @@ fn start_kernel<O: Ops>(
 /// Starts what runs in the lane, if that has a start.
 pub(crate) fn start_job<O: Ops>(ops: &mut O, sys: &System, job: &mut QkJob<'_>, budget: u32) -> Turn
     requires sound { IsSound sys.now }
-    requires begins { JobBegins sys.now job.old (O.lane ops.old) }
+    requires begins { QkJobBegins sys.now job.old (O.lane ops.old) }
     requires none { (O.lane ops.old).told ≡ [] }
     ensures starts { JobStarts sys.now budget result job.new (O.lane ops.new) }
-    ensures alone { JobStartsAlone sys.now result job.new (O.lane ops.new) }
-    ensures same { IsSameJob job.old job.new }
+    ensures alone { QkJobStartsAlone sys.now result job.new (O.lane ops.new) }
+    ensures same { IsSameQkJob job.old job.new }
     ensures lane { SameLane (O.lane ops.old) (O.lane ops.new) }
     ensures hears { Hears (O.lane ops.old) (O.lane ops.new) }
     ensures feeds { Feeds (O.lane ops.old) (O.lane ops.new) result }
@@ -122,10 +122,10 @@ pub(crate) fn run_job<R: Wait, W: World, G: Tells>(
     requires sound { IsSound sys.now }
     requires few { budget ≤ 1000000 }
     requires alone { W.acts ≡ false }
-    requires rests { JobRests sys.now budget job.old (W.lane world.old) }
-    ensures stands { JobStands sys.now budget result job.new (W.lane world.new) }
-    ensures turns { JobTurns W.acts sys.now budget job.old job.new (W.lane world.old) (W.lane world.new) result }
-    ensures same { IsSameJob job.old job.new }
+    requires rests { QkJobRests sys.now budget job.old (W.lane world.old) }
+    ensures stands { QkJobStands sys.now budget result job.new (W.lane world.new) }
+    ensures turns { QkJobTurns W.acts sys.now budget job.old job.new (W.lane world.old) (W.lane world.new) result }
+    ensures same { IsSameQkJob job.old job.new }
     ensures lane { SameLane (W.lane world.old) (W.lane world.new) }
     ensures hears { Hears (W.lane world.old) (W.lane world.new) }
     ensures feeds { Feeds (W.lane world.old) (W.lane world.new) result }
@@ -148,10 +148,10 @@ pub(crate) fn pass_job<O: Ops>(
     budget: u32,
 ) -> Passed
     requires sound { IsSound sys.now }
-    requires rests { JobRests sys.now budget job.old (O.lane ops.old) }
-    requires stands { stands_at_settle job.old ≡ true }
-    ensures stands { JobStands sys.now budget (turn_by result) job.new (O.lane ops.new) }
-    ensures same { IsSameJob job.old job.new }
+    requires rests { QkJobRests sys.now budget job.old (O.lane ops.old) }
+    requires stands { qk_stands_at_settle job.old ≡ true }
+    ensures stands { QkJobStands sys.now budget (turn_by result) job.new (O.lane ops.new) }
+    ensures same { IsSameQkJob job.old job.new }
     ensures lane { SameLane (O.lane ops.old) (O.lane ops.new) }
     ensures hears { Hears (O.lane ops.old) (O.lane ops.new) }
     ensures feeds { Feeds (O.lane ops.old) (O.lane ops.new) (turn_by result) }
@@ -169,7 +169,7 @@ pub(crate) fn pass_job<O: Ops>(
 impl QkJob<'_> {
     /// Whether it is a source that stands at a `settle`.
     pub fn stands_at_settle(&self) -> bool
-        ensures { result ≡ stands_at_settle self.now }
+        ensures { result ≡ qk_stands_at_settle self.now }
     {
         match self {
             QkJob::Source(source) => source.at_settle(),
@@ -189,7 +189,7 @@ impl QkJob<'_> {
 
     /// Whether it is a source that has a stimulus left.
     pub fn is_left(&self) -> bool
-        ensures { result ≡ is_left_in self.now }
+        ensures { result ≡ qk_is_left_in self.now }
     {
         match self {
             QkJob::Source(source) => source.left(),

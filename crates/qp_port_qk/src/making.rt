@@ -2,7 +2,7 @@
 
 ghost use Rattle.std.specs.Prelude.{◌≡◌, ◌+◌, ◌<◌, ◌≤◌, IfOk, OnOk, length};
 ghost use Rattle.qp_kernel_turns.specs.Objects.{AreMade};
-ghost use Rattle.qp_port_qk.specs.Making.{AddsAll, AreAllMade, MadesKernel, MadesSource, SourcesMade};
+ghost use Rattle.qp_port_qk.specs.Making.{AddsAll, AreAllQkMade, MadesKernel, IsFreshQkSource, SourcesMade};
 
 use crate::job::QkJob;
 use crate::worker::QkWorker;
@@ -50,7 +50,7 @@ fn source_worker<'a, W: World + Meets, G: Tells>(
     lane: W,
     source: u32,
 ) -> QkWorker<'a, W, G>
-    ensures made { MadesSource at.now.sys.now at.now.budget at.now.stim.now source result.sys.now result.budget result.turn result.job }
+    ensures made { IsFreshQkSource at.now.sys.now at.now.budget at.now.stim.now source result.sys.now result.budget result.turn result.job }
     ensures lane { result.lane ≡ lane }
 {
     QkWorker {
@@ -73,7 +73,7 @@ fn add_sources<'a, W: World + Meets + Drop, G: Tells>(
 ) -> Result<(), Memory>
     requires enough { length sources.now ≤ length lanes.old.items }
     requires few { source + length sources.now ≤ 50 }
-    ensures { OnOk result (AddsAll (λ w. w.lane) (SourcesMade (λ k w. MadesSource at.now.sys.now at.now.budget at.now.stim.now k w.sys.now w.budget w.turn w.job) source sources.now) lanes.old.items workers.old.items lanes.new.items workers.new.items) }
+    ensures { OnOk result (AddsAll (λ w. w.lane) (SourcesMade (λ k w. IsFreshQkSource at.now.sys.now at.now.budget at.now.stim.now k w.sys.now w.budget w.turn w.job) source sources.now) lanes.old.items workers.old.items lanes.new.items workers.new.items) }
 {
     let Some((_, rest)) = sources.split_first() else {
         return Ok(());
@@ -93,8 +93,8 @@ pub fn new_workers<'a, W: World + Meets + Drop, G: Tells>(
 ) -> Result<Vec<QkWorker<'a, W, G>>, Memory>
     requires many { length lanes.items ≡ 1 + length at.now.stim.now }
     requires few { length at.now.stim.now ≤ 16 }
-    ensures { IfOk result (λ ws. AreAllMade (λ w. w.lane) (λ w. MadesKernel at.now.sys.now at.now.budget w.sys.now w.budget w.turn w.job)
-        (λ k w. MadesSource at.now.sys.now at.now.budget at.now.stim.now k w.sys.now w.budget w.turn w.job) at.now.stim.now lanes.items ws.items) }
+    ensures { IfOk result (λ ws. AreAllQkMade (λ w. w.lane) (λ w. MadesKernel at.now.sys.now at.now.budget w.sys.now w.budget w.turn w.job)
+        (λ k w. IsFreshQkSource at.now.sys.now at.now.budget at.now.stim.now k w.sys.now w.budget w.turn w.job) at.now.stim.now lanes.items ws.items) }
 {
     let mut lanes = lanes;
     let Ok(mut workers) = Vec::with_capacity(alloc, lanes.len()) else {

@@ -2,7 +2,7 @@
 
 ghost use Rattle.std.specs.Prelude.{◌≡◌, IfOk, IfSome};
 ghost use Rattle.qp_chart.specs.StateTree.{has};
-ghost use Rattle.qp_port_qk.specs.Resting.{KernelShows, AreShownBy, IsShown};
+ghost use Rattle.qp_port_qk.specs.Resting.{KernelShows, AreShownBy, KernelShowsOne};
 
 use crate::job::QkJob;
 use qp_kernel_end::Rest;
@@ -31,7 +31,7 @@ fn rest_of(
     under_way: &[u8],
     p: u8,
 ) -> Result<Option<Rest>, AllocError>
-    ensures { IfOk result (λ rest. IfSome rest (IsShown objects.now under_way.now)) }
+    ensures { IfOk result (λ rest. IfSome rest (KernelShowsOne objects.now under_way.now)) }
 {
     if is_busy(under_way, p) {
         return Ok(None);

@@ -6,10 +6,10 @@ ghost use Rattle.qp_model.specs.Sound.{IsSound};
 ghost use Rattle.qp_stim.specs.Rules.{StimuliFit};
 ghost use Rattle.qp_port_phases.specs.declared.phases.PhasesEnd.TheVariants as ended;
 ghost use Rattle.qp_port_phases.specs.Stopping.{AnyStopped};
-ghost use Rattle.qp_port_qk.specs.Ends.{HasRun, is_over};
+ghost use Rattle.qp_port_qk.specs.Ends.{HasQkRun, has_ended_idle};
 ghost use Rattle.qp_port_lanes.specs.Answers.{IsFed, is_idle, is_short};
 ghost use Rattle.qp_port_qk.specs.Resting.{AreLeft, AreShownFirst};
-ghost use Rattle.qp_port_qk.specs.Rows.{AreNewLanes, AreSameLanes};
+ghost use Rattle.qp_port_qk.specs.Rows.{AreNewQkLanes, AreSameLanes};
 
 use crate::making::{QkTerms, new_workers};
 use crate::rests::rests;
@@ -97,7 +97,7 @@ fn left_of<W: World + Meets + Drop, G: Gate>(
     ensures rests { IfOk result (λ run. AreLeft (λ w. w.job) how workers.entry.items run.rests.items) }
     ensures short { OnOk result (list_any (λ w. is_short w.turn) workers.entry.items ≡ false) }
     ensures idle { IfOk result (λ run. run.done ≡ true → (how ≡ Some ended.Idle) × (list_all (λ w. is_idle w.turn) workers.entry.items ≡ true)) }
-    ensures cause { IfOk result (λ run. run.done ≡ false → (is_over how ≡ false) ⊎ (list_all (λ w. is_idle w.turn) workers.entry.items ≡ false)) }
+    ensures cause { IfOk result (λ run. run.done ≡ false → (has_ended_idle how ≡ false) ⊎ (list_all (λ w. is_idle w.turn) workers.entry.items ≡ false)) }
 {
     if any_short(&workers) {
         return Err(Memory);
@@ -143,9 +143,9 @@ pub fn run_lanes_of_qk<R: Threads + Wait + Sync, W: World + Meets + Send + Drop,
     requires sound { IsSound sys.now }
     requires fit { StimuliFit sys.now stim.now }
     requires few { budget ≤ 1000000 }
-    requires lanes { AreNewLanes sys.now stim.now (map W.lane lanes.items) }
+    requires lanes { AreNewQkLanes sys.now stim.now (map W.lane lanes.items) }
     ensures lanes { IfOk result (λ run. AreSameLanes (map W.lane lanes.items) (map W.lane run.lanes.items)) }
-    ensures run { IfOk result (λ run. HasRun sys.now stim.now budget run.done run.rests.items (map W.lane run.lanes.items)) }
+    ensures run { IfOk result (λ run. HasQkRun sys.now stim.now budget run.done run.rests.items (map W.lane run.lanes.items)) }
     ensures cause { IfOk result (λ run. run.done ≡ false → AnyStopped (map W.lane run.lanes.items)) }
     ensures fed { IfOk result (λ run. AllByRecursion IsFed (map W.lane run.lanes.items)) }
 {

@@ -6,9 +6,9 @@ ghost use Rattle.qp_port_lanes.specs.Answers.{is_idle, is_short};
 ghost use Rattle.qp_model_order.specs.SourceRun.{untold_all};
 ghost use Rattle.qp_kernel.specs.Starts.{AreStarts};
 ghost use Rattle.qp_port_qk.specs.Alone.{blank-alone, blank-started};
-ghost use Rattle.qp_port_qk.specs.Jobs.{JobTurns, TurnsFrom, is_left_in, is_source, stands_at_settle, JobIsAlone, starts_of};
+ghost use Rattle.qp_port_qk.specs.Jobs.{QkJobTurns, QkTurnsFrom, qk_is_left_in, is_source, qk_stands_at_settle, QkJobIsAlone, qk_starts_of};
 ghost use Rattle.qp_port_qk.specs.Numbers.{numbers_of, source-rows};
-ghost use Rattle.qp_port_qk.specs.Workers.{IsSameWorker, MayBegin, MayEnd, MayTurn, same-itself, same-still, same-table, IsBlank};
+ghost use Rattle.qp_port_qk.specs.Workers.{IsSameQkWorker, QkMayBegin, QkMayEnd, QkMayTurn, qk-same-itself, qk-same-still, qk-same-table, IsBlank};
 
 use crate::job::{QkJob, pass_job, run_job, start_job};
 use crate::starting::QkStarts;
@@ -51,11 +51,11 @@ impl<W: World + Meets, G: Tells> QkWorker<'_, W, G> {
 
     /// Takes its turn, where it rests.
     fn run<R: Wait>(&mut self, rt: &R)
-        requires ready { MayTurn W.acts self.old.sys.now self.old.budget self.old.turn self.old.job (W.lane self.old.lane) }
+        requires ready { QkMayTurn W.acts self.old.sys.now self.old.budget self.old.turn self.old.job (W.lane self.old.lane) }
         requires idle { is_idle self.old.turn ≡ true }
-        ensures ready { MayTurn W.acts self.new.sys.now self.new.budget self.new.turn self.new.job (W.lane self.new.lane) }
-        ensures same { IsSameWorker self.old.sys.now self.new.sys.now self.old.budget self.new.budget self.old.job self.new.job (W.lane self.old.lane) (W.lane self.new.lane) }
-        ensures turns { JobTurns W.acts self.old.sys.now self.old.budget self.old.job self.new.job (W.lane self.old.lane) (W.lane self.new.lane) self.new.turn }
+        ensures ready { QkMayTurn W.acts self.new.sys.now self.new.budget self.new.turn self.new.job (W.lane self.new.lane) }
+        ensures same { IsSameQkWorker self.old.sys.now self.new.sys.now self.old.budget self.new.budget self.old.job self.new.job (W.lane self.old.lane) (W.lane self.new.lane) }
+        ensures turns { QkJobTurns W.acts self.old.sys.now self.old.budget self.old.job self.new.job (W.lane self.old.lane) (W.lane self.new.lane) self.new.turn }
         ensures counts { CountsOn (W.lane self.old.lane) (numbers_of self.old.sys.now self.old.budget self.old.turn self.old.job (W.lane self.old.lane))
             (numbers_of self.new.sys.now self.new.budget self.new.turn self.new.job (W.lane self.new.lane)) }
     {
@@ -71,11 +71,11 @@ impl<W: World + Meets, G: Tells> QkWorker<'_, W, G> {
 }
 
 impl<W: World + Meets + Send, G: Tells + Sync> Worker for QkWorker<'_, W, G> {
-    ghost ready = { λ w. MayTurn W.acts w.sys.now w.budget w.turn w.job (W.lane w.lane) };
+    ghost ready = { λ w. QkMayTurn W.acts w.sys.now w.budget w.turn w.job (W.lane w.lane) };
 
-    ghost turned = { λ a b. MayTurn W.acts b.sys.now b.budget b.turn b.job (W.lane b.lane) × IsSameWorker a.sys.now b.sys.now a.budget b.budget a.job b.job (W.lane a.lane) (W.lane b.lane)
+    ghost turned = { λ a b. QkMayTurn W.acts b.sys.now b.budget b.turn b.job (W.lane b.lane) × IsSameQkWorker a.sys.now b.sys.now a.budget b.budget a.job b.job (W.lane a.lane) (W.lane b.lane)
         × CountsOn (W.lane a.lane) (numbers_of a.sys.now a.budget a.turn a.job (W.lane a.lane)) (numbers_of b.sys.now b.budget b.turn b.job (W.lane b.lane))
-        × TurnsFrom W.acts a.sys.now a.budget a.turn a.job (W.lane a.lane) b.turn b.job (W.lane b.lane) };
+        × QkTurnsFrom W.acts a.sys.now a.budget a.turn a.job (W.lane a.lane) b.turn b.job (W.lane b.lane) };
 
     fn turn<R: Wait>(&mut self, rt: &R) {
         if is_idle(&self.turn) {
@@ -87,13 +87,13 @@ impl<W: World + Meets + Send, G: Tells + Sync> Worker for QkWorker<'_, W, G> {
 impl<W: World + Meets + Send, G: Tells + Sync> PhaseLane for QkWorker<'_, W, G> {
     ghost view = { λ w. W.lane w.lane };
 
-    ghost waits = { λ w. stands_at_settle w.job };
+    ghost waits = { λ w. qk_stands_at_settle w.job };
 
-    ghost remains = { λ w. is_left_in w.job };
+    ghost remains = { λ w. qk_is_left_in w.job };
 
     ghost numbers = { λ w. numbers_of w.sys.now w.budget w.turn w.job (W.lane w.lane) };
 
-    ghost same = { λ a b. IsSameWorker a.sys.now b.sys.now a.budget b.budget a.job b.job (W.lane a.lane) (W.lane b.lane) };
+    ghost same = { λ a b. IsSameQkWorker a.sys.now b.sys.now a.budget b.budget a.job b.job (W.lane a.lane) (W.lane b.lane) };
 
     ghost rests = { λ w. is_idle w.turn };
 
@@ -153,11 +153,11 @@ impl<W: World + Meets + Send, G: Tells + Sync> PhaseLane for QkWorker<'_, W, G> 
         self.lane.stopped()
     }
 
-    ghost same_itself = { λ a. same-itself a.sys.now a.budget a.job (W.lane a.lane) };
+    ghost same_itself = { λ a. qk-same-itself a.sys.now a.budget a.job (W.lane a.lane) };
 
-    ghost same_still = { λ a b c h k. same-still a.sys.now b.sys.now c.sys.now a.budget b.budget c.budget a.job b.job c.job (W.lane a.lane) (W.lane b.lane) (W.lane c.lane) h k };
+    ghost same_still = { λ a b c h k. qk-same-still a.sys.now b.sys.now c.sys.now a.budget b.budget c.budget a.job b.job c.job (W.lane a.lane) (W.lane b.lane) (W.lane c.lane) h k };
 
-    ghost same_table = { λ a b h. same-table a.sys.now b.sys.now a.budget b.budget a.job b.job (W.lane a.lane) (W.lane b.lane) h };
+    ghost same_table = { λ a b h. qk-same-table a.sys.now b.sys.now a.budget b.budget a.job b.job (W.lane a.lane) (W.lane b.lane) h };
 
     ghost same_hears = { λ a b h. h.hears };
 
@@ -171,15 +171,15 @@ impl<W: World + Meets + Send, G: Tells + Sync> PhaseLane for QkWorker<'_, W, G> 
 }
 
 impl<W: World + Meets + Send, G: Tells + Sync> QkStarts for QkWorker<'_, W, G> {
-    ghost begins = { λ w. MayBegin W.acts w.sys.now w.budget w.turn w.job (W.lane w.lane) };
+    ghost begins = { λ w. QkMayBegin W.acts w.sys.now w.budget w.turn w.job (W.lane w.lane) };
 
-    ghost ended = { λ w. MayEnd w.sys.now w.budget w.turn w.job (W.lane w.lane) };
+    ghost ended = { λ w. QkMayEnd w.sys.now w.budget w.turn w.job (W.lane w.lane) };
 
     ghost blank = { λ w. IsBlank w.sys.now w.job (W.lane w.lane) };
 
-    ghost alone = { λ w. JobIsAlone w.sys.now w.turn w.job (W.lane w.lane) };
+    ghost alone = { λ w. QkJobIsAlone w.sys.now w.turn w.job (W.lane w.lane) };
 
-    ghost started = { λ w. AreStarts (starts_of w.sys.now w.job) (untold_all (W.lane w.lane).told) };
+    ghost started = { λ w. AreStarts (qk_starts_of w.sys.now w.job) (untold_all (W.lane w.lane).told) };
 
     ghost blank_alone = { λ w h. blank-alone w.sys.now w.turn w.job (W.lane w.lane) h };
 

@@ -14,8 +14,8 @@ use Rattle.qp_kernel.proofs.HappeningLemmas.{count-cons}
 use Rattle.qp_table.specs.Counting.{Each}
 use Rattle.qp_shared.specs.declared.shared.Shared.{Shared}
 use Rattle.qp_shared.specs.Ending.{AreAll}
-use Rattle.qp_shared.specs.Starting.{AreFirst, StartsAs, serves_all, world_name}
-use Rattle.qp_port_qk.specs.Rows.{AreNew, AreNewLanes, AreSameLanes, IsNewOf}
+use Rattle.qp_shared.specs.Starting.{AreFirst, IsNewLaneOf, serves_all, world_name}
+use Rattle.qp_port_qk.specs.Rows.{AreNewSources, AreNewQkLanes, AreSameLanes, IsNewOf}
 
 -- Before the run.
 
@@ -24,14 +24,14 @@ unfolding is_object
 is-object sys d at = ap is_some at
 
 news : (sys : System) (world : List ℕ) (more : List (List Stim)) (vs : List LaneView) → length vs ≡ length more
-    → ((i : ℕ) (v : LaneView) → slice_get vs i ≡ Some v → IsNewOf sys world v) → AreNew sys world more vs
+    → ((i : ℕ) (v : LaneView) → slice_get vs i ≡ Some v → IsNewOf sys world v) → AreNewSources sys world more vs
 news sys world [] [] long h = tt
 news sys world (ss ∷ more) (v ∷ vs) long h = (h 0 v refl, news sys world more vs (omega (arith, long)) (λ i u at. h (suc i) u at))
 news sys world [] (v ∷ vs) long h = absurd (omega (arith, long))
 news sys world (ss ∷ more) [] long h = absurd (omega (arith, long))
 
 pub new-lanes : (s : Shared) (n : ℕ) (stimuli : List (List Stim)) (vs : List LaneView) → n ≡ 1 + length stimuli → AreFirst s n (serves_all s.sys.now) vs
-    → AreNewLanes s.sys.now stimuli vs
+    → AreNewQkLanes s.sys.now stimuli vs
 new-lanes s n stimuli [] many h = absurd (let a = h.count in omega (arith, a, many))
 new-lanes s n stimuli (v ∷ vs) many h =
     let first = h.each 0 v refl in (
@@ -49,7 +49,7 @@ abbrev AreOf : List ℕ → System → ℕ → List LaneView → Type 0
 AreOf world sys k [] = ⊤
 AreOf world sys k (v ∷ vs) = (v.world ≡ world) × (v.sys ≡ sys) × (v.lane ≡ k) × AreOf world sys (suc k) vs
 
-starts-of : (world : List ℕ) (sys : System) (k : ℕ) (vs : List LaneView) → ((i : ℕ) (v : LaneView) → slice_get vs i ≡ Some v → StartsAs world sys (k + i) v)
+starts-of : (world : List ℕ) (sys : System) (k : ℕ) (vs : List LaneView) → ((i : ℕ) (v : LaneView) → slice_get vs i ≡ Some v → IsNewLaneOf world sys (k + i) v)
     → AreOf world sys k vs
 starts-of world sys k [] h = tt
 starts-of world sys k (v ∷ vs) h =
@@ -58,7 +58,7 @@ starts-of world sys k (v ∷ vs) h =
       first.world_is,
       first.sys_is,
       omega (arith, k_is),
-      starts-of world sys (suc k) vs (λ i u at. let n : k + suc i ≡ suc k + i = omega arith in subst (λ m. StartsAs world sys m u) n (h (suc i) u at)),
+      starts-of world sys (suc k) vs (λ i u at. let n : k + suc i ≡ suc k + i = omega arith in subst (λ m. IsNewLaneOf world sys m u) n (h (suc i) u at)),
     )
 
 same-of : (world : List ℕ) (sys : System) (k : ℕ) (vs ws : List LaneView) → AreOf world sys k vs → AreSameLanes vs ws → AreOf world sys k ws
@@ -114,7 +114,7 @@ all-lanes s n serves vs ws some h same =
     let a = h.count in
     let b = same-long vs ws same in
     let long : n ≡ length ws = omega (arith, a, b) in
-    let of = same-of (world_name s n) s.sys.now 0 vs ws (starts-of (world_name s n) s.sys.now 0 vs (λ i v at. let up : i ≡ 0 + i = omega arith in subst (λ m. StartsAs (world_name s n) s.sys.now m v) up (h.each i v at))) same in
+    let of = same-of (world_name s n) s.sys.now 0 vs ws (starts-of (world_name s n) s.sys.now 0 vs (λ i v at. let up : i ≡ 0 + i = omega arith in subst (λ m. IsNewLaneOf (world_name s n) s.sys.now m v) up (h.each i v at))) same in
     record {
       some = omega (arith, some, long);
       worlds = subst (λ m. Each (λ (v : LaneView). v.world ≡ world_name s m) ws) long (each-world (world_name s n) s.sys.now 0 ws of);

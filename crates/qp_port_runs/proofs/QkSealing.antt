@@ -12,11 +12,11 @@ use Rattle.qp_kernel_end.specs.declared.rest.Rest.{Rest}
 use Rattle.qp_kernel_end.specs.Rests.{AreRestsIn}
 use Rattle.qp_port_law.specs.Sealed.{SealsLanes}
 use Rattle.qp_port_law.specs.ThreadRun.{IsThreadRun}
-use Rattle.qp_port_qk.specs.Ends.{HasRun}
+use Rattle.qp_port_qk.specs.Ends.{HasQkRun}
 use Rattle.qp_port_qk.specs.Laws.{SealedQkRunsAreLawful}
 use Rattle.qp_port_runs.specs.declared.sealing.Threaded.{Threaded}
 
-module _ (law : SealedQkRunsAreLawful) (sys : System) (stimuli : List (List Stim)) (budget : ℕ) (done : Bool) (rests : List Rest) (vs : List LaneView) (sound : IsSound sys) (run : HasRun sys stimuli budget done rests vs) where
+module _ (law : SealedQkRunsAreLawful) (sys : System) (stimuli : List (List Stim)) (budget : ℕ) (done : Bool) (rests : List Rest) (vs : List LaneView) (sound : IsSound sys) (run : HasQkRun sys stimuli budget done rests vs) where
   pub qk-run : {E : Type 0} (result : Result Threaded E) → IfOk result (λ x. SealsLanes sys qk budget vs x.sealed.journal) → IfOk result (λ x. x.sealed.journal.end ≡ quiet → done ≡ true)
       → IfOk result (λ x. IsThreadRun qk sys stimuli budget x.sealed.journal)
   qk-run (Err e) seals whole = tt

@@ -6,8 +6,8 @@ ghost use Rattle.qp_model.specs.Sound.{IsSound};
 ghost use Rattle.qp_stim.specs.Rules.{StimuliFit};
 ghost use Rattle.qp_port_lanes.specs.Answers.{IsFed};
 ghost use Rattle.qp_port_phases.specs.Stopping.{AnyStopped};
-ghost use Rattle.qp_port_qk.specs.Ends.{HasRun};
-ghost use Rattle.qp_port_qk.specs.Rows.{AreNewLanes, AreSameLanes};
+ghost use Rattle.qp_port_qk.specs.Ends.{HasQkRun};
+ghost use Rattle.qp_port_qk.specs.Rows.{AreNewQkLanes, AreSameLanes};
 
 use qp_base::{Gate, Memory};
 use qp_calls_log::Meets;
@@ -71,9 +71,9 @@ pub(crate) fn run_alone<R: Threads + Wait + Sync, O: Meets + Send + Drop, G: Gat
     requires sound { IsSound sys.now }
     requires fit { StimuliFit sys.now stim.now }
     requires few { budget ≤ 1000000 }
-    requires lanes { AreNewLanes sys.now stim.now (map O.lane lanes.items) }
+    requires lanes { AreNewQkLanes sys.now stim.now (map O.lane lanes.items) }
     ensures lanes { IfOk result (λ run. AreSameLanes (map O.lane lanes.items) (map O.lane run.lanes.items)) }
-    ensures run { IfOk result (λ run. HasRun sys.now stim.now budget run.done run.rests.items (map O.lane run.lanes.items)) }
+    ensures run { IfOk result (λ run. HasQkRun sys.now stim.now budget run.done run.rests.items (map O.lane run.lanes.items)) }
     ensures cause { IfOk result (λ run. run.done ≡ false → AnyStopped (map O.lane run.lanes.items)) }
     ensures fed { IfOk result (λ run. AllByRecursion IsFed (map O.lane run.lanes.items)) }
 {

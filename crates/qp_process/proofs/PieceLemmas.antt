@@ -3,7 +3,7 @@ use Rattle.std.proofs.Common.{◌≡◌, ℕ, ◌+◌, ◌-◌, ◌≤◌, List,
 use Rattle.std.specs.Option.{ForSome}
 use Rattle.std.proofs.Math.Seq.{take-append-add, take-append_seam}
 use Rattle.std.proofs.lemmas.List.{append-nil, take-take, take_all}
-use Rattle.qp_base.specs.Gathering.{IsBegun, told as told_by}
+use Rattle.qp_base.specs.Gathering.{IsBegun, sink_told as told_by}
 use Rattle.qp_base.specs.Sink.{AppendsPrefix, appended}
 use Rattle.qp_base.specs.declared.course.Course.{Course}
 use Rattle.qp_base.specs.declared.course.Course.TheVariants.{Open}
@@ -11,7 +11,7 @@ use Rattle.qp_base.proofs.GatheringLemmas.{told-all}
 use Rattle.qp_run_parts.specs.declared.status.Status.{Status}
 use Rattle.qp_run_parts.specs.declared.status.Status.TheVariants.{Done, Asserted, Spent, WriteFault}
 use Rattle.qp_run_parts.specs.Conversions.{Held, PrintsOne}
-use Rattle.qp_run_parts.specs.Verdict.{Agrees, AnswersWords, Count, Counts, HasCause, HasRisen, IsCall, IsOutput, IsPutFor, Noted, Prints, AnswerStands, Stream, quiet}
+use Rattle.qp_run_parts.specs.Verdict.{Agrees, AnswersWords, Count, Counts, HasCause, HasRisen, IsCall, IsOutput, IsPutFor, Noted, Prints, AnswerStands, Stream, still_count}
 use Rattle.qp_commands.specs.WordTable.{Asked}
 use Rattle.qp_run_parts.proofs.CallLemmas.{call-stands}
 use Rattle.qp_run_parts.proofs.VerdictLemmas.{prefix-whole}
@@ -103,10 +103,10 @@ module _ (IsWhole : Status → List ℕ → Type 0) (old all new : Option (List 
 module _ (held : Option Held) (asked : Option Asked) (n : Counts) (output note : Stream) (told answer : Status) (put : Stream) where
   -- a call of which all that was put has gone on
   pub whole-call : (out : Count) → put.before ≡ output.before → output.after ≡ put.after → out.before ≡ 0 → out.after ≡ 0
-      → IfSome held (λ h. Agrees h asked told) → AnswersWords asked told → HasCause (record n { out = out; notes = quiet }) told → Prints held asked put.before put.after told
+      → IfSome held (λ h. Agrees h asked told) → AnswersWords asked told → HasCause (record n { out = out; notes = still_count }) told → Prints held asked put.before put.after told
       → AnswerStands n.notes told answer → Noted asked (IsPutFor told) n.notes note.before note.after answer → IsCall held asked n output note answer
   whole-call out first last before after agrees words cause prints stands noted =
-      let caused : HasCause (record n { notes = quiet }) told = cause-kept (record n { out = out; notes = quiet }) n.out told (zero-stands out before after) cause in
+      let caused : HasCause (record n { notes = still_count }) told = cause-kept (record n { out = out; notes = still_count }) n.out told (zero-stands out before after) cause in
       let printed : Prints held asked output.before output.after told =
       subst (λ w. Prints held asked w output.after told) first (subst (λ w. Prints held asked put.before w told) (sym last) prints) in
       call-stands held asked n output note told answer agrees words caused printed stands noted

@@ -24,15 +24,15 @@ abbrev pub words_in : Args → List Text
 words_in args = map string_bytes (drop 1 (into_iter_items args))
 
 -- why arguments could not be had, as an answer
-abbrev pub unread : ErrorKind → Status
-unread InvalidData = Words
-unread kind = Memory
+abbrev pub unread_answer : ErrorKind → Status
+unread_answer InvalidData = Words
+unread_answer kind = Memory
 
 -- without arguments only the line of the answer was put, which says why
 pub record IsUnread (error : Error) (n : Counts) (output note : Stream) (answer : Status) : Type 0 where
-  pub told : AnswerStands n.notes (unread (error_kind error)) answer
+  pub told : AnswerStands n.notes (unread_answer (error_kind error)) answer
   pub out : output.after ≡ output.before
-  pub notes : Noted None (IsPutFor (unread (error_kind error))) n.notes note.before note.after answer
+  pub notes : Noted None (IsPutFor (unread_answer (error_kind error))) n.notes note.before note.after answer
 
 -- what the process answered
 abbrev pub IsAnswered : Result Args Error → Option Held → Counts → (output note : Stream) → Status → Type 0
@@ -44,9 +44,9 @@ abbrev pub EndsWith : ℕ → (Status → Type 0) → Type 0
 EndsWith code IsAnswer = (answer : Status) × (code ≡ status_number answer) × IsAnswer answer
 
 -- a stream of which nothing is told
-abbrev pub untold : Stream
-untold = record { before = None; after = None }
+abbrev pub stream_untold : Stream
+stream_untold = record { before = None; after = None }
 
 -- it ended so over the files and streams of the process, which tell nothing but what failed
 abbrev pub EndsUntold : Result Args Error → ℕ → Type 0
-EndsUntold args code = (n : Counts) × EndsWith code (IsAnswered args None n untold untold)
+EndsUntold args code = (n : Counts) × EndsWith code (IsAnswered args None n stream_untold stream_untold)

@@ -4,7 +4,7 @@ ghost use Rattle.std.specs.Prelude.{◌≡◌, drop, map, IfOk, string_bytes};
 ghost use Rattle.std.specs.IoError.{error_kind};
 ghost use Rattle.std.specs.Vec.Iter.{into_iter_items};
 ghost use Rattle.qp_commands.specs.WordTable.{texts};
-ghost use Rattle.qp_process.specs.Process.{unread};
+ghost use Rattle.qp_process.specs.Process.{unread_answer};
 
 use qp_run::Status;
 use std::alloc::{AllocError, Global};
@@ -35,7 +35,7 @@ pub fn texts_of<'w>(alloc: Global, words: &'w [String]) -> Result<Vec<&'w str>, 
 
 /// Arguments that aren't text are no words of the program; else memory was refused.
 pub fn unread(error: &io::Error) -> Status
-    ensures { result ≡ unread (error_kind error.now) }
+    ensures { result ≡ unread_answer (error_kind error.now) }
 {
     match error.kind() {
         io::ErrorKind::InvalidData => Status::Words,

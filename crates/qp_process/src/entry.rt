@@ -3,7 +3,7 @@
 ghost use Rattle.std.specs.Prelude.{◌≡◌};
 ghost use Rattle.std.specs.Process.{exit_status};
 ghost use Rattle.qp_run_parts.specs.Notes.{status_number};
-ghost use Rattle.qp_run_parts.specs.Verdict.{IsCall, count_of, stream_of, writes_of};
+ghost use Rattle.qp_run_parts.specs.Verdict.{IsCall, count_over, stream_of, writes_of};
 ghost use Rattle.qp_commands.specs.WordTable.{command_in};
 ghost use Rattle.qp_process.specs.Process.{EndsUntold, EndsWith, IsAnswered, words_in};
 
@@ -77,7 +77,7 @@ pub fn program<R: Threads + Wait + Sync, F: Shelf, O: Sink + Drop, E: Sink>(
 ) -> Ended<O>
     ensures { EndsWith (exit_status result.code) (IsAnswered args (F.holds files.old)
         (record (writes_of F.faults F.misses O.faults files.old files.new out result.out) {
-          notes = count_of E.faults notes.old notes.new;
+          notes = count_over E.faults notes.old notes.new;
         })
         (stream_of O.written out result.out) (stream_of E.written notes.old notes.new)) }
 {
@@ -107,7 +107,7 @@ fn answer<R: Threads + Wait + Sync, F: Shelf, O: Sink + Drop, E: Sink>(
 ) -> Carried<O>
     ensures { IsAnswered args (F.holds files.old)
         (record (writes_of F.faults F.misses O.faults files.old files.new out result.out) {
-          notes = count_of E.faults notes.old notes.new;
+          notes = count_over E.faults notes.old notes.new;
         })
         (stream_of O.written out result.out) (stream_of E.written notes.old notes.new) result.status }
 {
@@ -132,7 +132,7 @@ fn call<R: Threads + Wait + Sync, F: Shelf, O: Sink + Drop, E: Sink>(
 ) -> Carried<O>
     ensures { IsCall (F.holds files.old) (command_in (words_in args))
         (record (writes_of F.faults F.misses O.faults files.old files.new out result.out) {
-          notes = count_of E.faults notes.old notes.new;
+          notes = count_over E.faults notes.old notes.new;
         })
         (stream_of O.written out result.out) (stream_of E.written notes.old notes.new) result.status }
 {

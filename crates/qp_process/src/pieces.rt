@@ -2,7 +2,7 @@
 
 ghost use Rattle.std.specs.Prelude.{◌≡◌, length, IfSome, option_map};
 ghost use Rattle.qp_run_parts.specs.Sealed.{Seals};
-ghost use Rattle.qp_run_parts.specs.Verdict.{IsCall, count_of, stream_of, writes_of};
+ghost use Rattle.qp_run_parts.specs.Verdict.{IsCall, count_over, stream_of, writes_of};
 ghost use Rattle.qp_commands.specs.WordTable.{command_in, texts};
 
 use qp_base::{Beginning, Gate, Gathered, Shelf, Sink};
@@ -42,7 +42,7 @@ pub fn in_pieces<R: Threads + Wait + Sync, F: Shelf, O: Sink + Drop, E: Sink, G:
 ) -> Carried<O>
     ensures call { IsCall (F.holds files.old) (command_in (texts words.now))
         (record (writes_of F.faults F.misses O.faults files.old files.new out result.out) {
-          notes = count_of E.faults notes.old notes.new;
+          notes = count_over E.faults notes.old notes.new;
         })
         (stream_of O.written out result.out) (stream_of E.written notes.old notes.new) result.status }
     ensures seal { Seals (F.holds files.old) (command_in (texts words.now)) (stream_of O.written out result.out) result.status
@@ -68,7 +68,7 @@ fn gathered<R: Threads + Wait + Sync, F: Shelf, O: Sink + Drop, E: Sink, G: Gate
     requires first_faults { O.faults out ≡ B.first_faults }
     ensures call { IsCall (F.holds files.old) (command_in (texts words.entry.texts.now))
         (record (writes_of F.faults F.misses O.faults files.old files.new out result.out) {
-          notes = count_of E.faults notes.old notes.new;
+          notes = count_over E.faults notes.old notes.new;
         })
         (stream_of O.written out result.out) (stream_of E.written notes.old notes.new) result.status }
     ensures seal { Seals (F.holds files.old) (command_in (texts words.entry.texts.now)) (stream_of O.written out result.out) result.status

@@ -29,9 +29,9 @@ use Rattle.qp_model.specs.Lawful.{Lawful, facts_of}
 use Rattle.qp_model.proofs.HistoryLemmas.{hist-draws, hist-other, length-hist, same_word-refl}
 use Rattle.qp_model.proofs.KnowingLemmas.{records_of-append, same_word-is, next-draws}
 use Rattle.qp_stim.specs.Rules.{StimuliFit}
-use Rattle.qp_calls.specs.Counting.{count_of, one, times}
+use Rattle.qp_calls.specs.Counting.{count_of, one_if, times}
 use Rattle.qp_calls.specs.Tokens.{Token, Held, Loose, hands_by, hands_of, stands}
-use Rattle.qp_plain_sound.specs.Log.{lane_of, with_record}
+use Rattle.qp_plain_sound.specs.Log.{lane_recs, with_record}
 use Rattle.qp_plain_sound.specs.May.{May}
 use Rattle.qp_plain_sound.specs.Sound.{BlockIn, SoundWorld, facts_in, hands_in, is_good, names_block, sum_below}
 use Rattle.qp_plain_sound.specs.WordStates.{refs_in}
@@ -52,7 +52,7 @@ use Rattle.qp_model.proofs.ListLemmas.{take-next}
 -- the records of an owner in a lane, and what they leave in its hands
 unfoldable pub local : System → Journal → List (List Rec) → ℕ → ℕ → List Token
 unfolding facts_of records_of lane_items
-local sys j W a o = hands_told [] (records_of (facts_of sys j) o 0 (lane_items (lane_of W a)))
+local sys j W a o = hands_told [] (records_of (facts_of sys j) o 0 (lane_items (lane_recs W a)))
 
 -- how often a token is in the hands of all owners, of so many lanes and objects
 unfoldable pub owned : System → Journal → List (List Rec) → ℕ → ℕ → Token → ℕ
@@ -61,24 +61,24 @@ owned sys j W lanes objects t = sum_below lanes (λ a. sum_below objects (λ o. 
 
 pub record Along (sys : System) (j : Journal) (objects : ℕ) (A : List RecordPlace) (W : List (List Rec)) (O : List ℕ) : Type 0 where
   pub wide : length W ≡ length j.lanes
-  pub fronts : (a : ℕ) → lane_of W a ≡ take (length (lane_of W a)) (lane_of j.lanes a)
-  pub counts : (a : ℕ) → length (lane_of W a) ≡ times (λ y. y.lane == a) A
+  pub fronts : (a : ℕ) → lane_recs W a ≡ take (length (lane_recs W a)) (lane_recs j.lanes a)
+  pub counts : (a : ℕ) → length (lane_recs W a) ≡ times (λ y. y.lane == a) A
   pub hists : (w : Word) → hist w (all_items W) ≡ on_word w (items_at j.lanes A)
   pub sums : (t : Token) → count_of t (hands_in sys W O) ≡ owned sys j W (length j.lanes) objects t
-  pub took : (a : ℕ) → AllByRecursion (λ i. TookGood sys i.body) (lane_items (lane_of W a))
+  pub took : (a : ℕ) → AllByRecursion (λ i. TookGood sys i.body) (lane_items (lane_recs W a))
 
 -- a record of the journal, at a place
 pub record Found (lanes : List (List Rec)) (x : RecordPlace) (r : Rec) : Type 0 where
   pub within : x.lane < length lanes
-  pub place : x.at < length (lane_of lanes x.lane)
-  pub is : slice_get (lane_of lanes x.lane) x.at ≡ Some r
+  pub place : x.at < length (lane_recs lanes x.lane)
+  pub is : slice_get (lane_recs lanes x.lane) x.at ≡ Some r
 
-lane-get : (lanes : List (List Rec)) (a : ℕ) → unwrap_or (slice_get lanes a) [] ≡ lane_of lanes a
+lane-get : (lanes : List (List Rec)) (a : ℕ) → unwrap_or (slice_get lanes a) [] ≡ lane_recs lanes a
 lane-get [] a = refl
 lane-get (l ∷ ls) zero = refl
 lane-get (l ∷ ls) (suc a) = lane-get ls a
 
-pub get-lane : (lanes : List (List Rec)) (a : ℕ) → a < length lanes → slice_get lanes a ≡ Some (lane_of lanes a)
+pub get-lane : (lanes : List (List Rec)) (a : ℕ) → a < length lanes → slice_get lanes a ≡ Some (lane_recs lanes a)
 get-lane [] a less = absurd (omega (arith, less))
 get-lane (l ∷ ls) zero less = refl
 get-lane (l ∷ ls) (suc a) less = get-lane ls a (omega (arith, less))
@@ -96,7 +96,7 @@ found-item lanes x r f =
     ∙ ap (λ o. option_and_then (λ r. Some (item_of r)) o) f.is
 
 -- what holds of all records holds of one
-pub at-record : (P : Item → Type 0) (lanes : List (List Rec)) (a : ℕ) → AllByRecursion P (all_items lanes) → AllByRecursion P (lane_items (lane_of lanes a))
+pub at-record : (P : Item → Type 0) (lanes : List (List Rec)) (a : ℕ) → AllByRecursion P (all_items lanes) → AllByRecursion P (lane_items (lane_recs lanes a))
 unfolding all_items lane_items
 at-record P [] a h = tt
 at-record P (l ∷ ls) zero h = front (lane_items l) (all_items ls) h
@@ -190,20 +190,20 @@ module _ (sys : System) (stimuli : List (List Stim)) (j : Journal) (sound : IsSo
   o = i.of
 
   abbrev front : List Rec
-  front = lane_of W a
+  front = lane_recs W a
 
   front-length : length front ≡ x.at
   front-length = along.counts a ∙ place
 
-  front-is : front ≡ take x.at (lane_of j.lanes a)
-  front-is = along.fronts a ∙ ap (λ n. take n (lane_of j.lanes a)) front-length
+  front-is : front ≡ take x.at (lane_recs j.lanes a)
+  front-is = along.fronts a ∙ ap (λ n. take n (lane_recs j.lanes a)) front-length
 
   -- the lane: the world's records, this one, and others
-  lane-is : lane_of j.lanes a ≡ front ++ r ∷ drop (suc x.at) (lane_of j.lanes a)
-  lane-is = cut-at (lane_of j.lanes a) x.at r found.is ∙ ap (λ l. l ++ r ∷ drop (suc x.at) (lane_of j.lanes a)) (sym front-is)
+  lane-is : lane_recs j.lanes a ≡ front ++ r ∷ drop (suc x.at) (lane_recs j.lanes a)
+  lane-is = cut-at (lane_recs j.lanes a) x.at r found.is ∙ ap (λ l. l ++ r ∷ drop (suc x.at) (lane_recs j.lanes a)) (sym front-is)
 
   abbrev rest : List Item
-  rest = lane_items (drop (suc x.at) (lane_of j.lanes a))
+  rest = lane_items (drop (suc x.at) (lane_recs j.lanes a))
 
   abbrev before : List Told
   before = records_of (facts_of sys j) o 0 (lane_items front)
@@ -217,23 +217,23 @@ module _ (sys : System) (stimuli : List (List Stim)) (j : Journal) (sound : IsSo
   own-list : records_of (facts_of sys j) o 0 (lane_items (lane_at j a)) ≡ before ++ this ∷ records_of (facts_of sys j) o (ceiling_after ceiling i.body) rest
   unfolding records_of lane_items
   own-list =
-      ap (λ l. records_of (facts_of sys j) o 0 (lane_items l)) (lane-get j.lanes a ∙ lane-is) ∙ ap (records_of (facts_of sys j) o 0) (lane-append front (r ∷ drop (suc x.at) (lane_of j.lanes a)))
+      ap (λ l. records_of (facts_of sys j) o 0 (lane_items l)) (lane-get j.lanes a ∙ lane-is) ∙ ap (records_of (facts_of sys j) o 0) (lane-append front (r ∷ drop (suc x.at) (lane_recs j.lanes a)))
       ∙ records_of-append (facts_of sys j) o 0 (lane_items front) (i ∷ rest)
       ∙ ap (λ b. before ++ cond b (this ∷ records_of (facts_of sys j) o (ceiling_after ceiling i.body) rest) (records_of (facts_of sys j) o (ceiling_after ceiling i.body) rest)) self
     where
       self : (o == o) ≡ true
       self = grind (arith, nat_tests)
 
-  sure : AllByRecursion (λ k. SureBody sys k.body) (lane_items (lane_of j.lanes a))
+  sure : AllByRecursion (λ k. SureBody sys k.body) (lane_items (lane_recs j.lanes a))
   sure = at-record (λ k. SureBody sys k.body) j.lanes a (sure-records sys stimuli j sound fit lawful)
 
   pub sure-this : SureBody sys i.body
-  sure-this = items-get (λ k. SureBody sys k.body) (lane_of j.lanes a) x.at r sure found.is
+  sure-this = items-get (λ k. SureBody sys k.body) (lane_recs j.lanes a) x.at r sure found.is
 
   known-before : AllByRecursion (Knows sys) before
   known-before =
       known-records sys (facts_of sys j) o 0 (lane_items front)
-      (subst (λ l. AllByRecursion (λ k. SureBody sys k.body) (lane_items l)) (sym front-is) (items-take (λ k. SureBody sys k.body) (lane_of j.lanes a) x.at sure)) (along.took a)
+      (subst (λ l. AllByRecursion (λ k. SureBody sys k.body) (lane_items l)) (sym front-is) (items-take (λ k. SureBody sys k.body) (lane_recs j.lanes a) x.at sure)) (along.took a)
 
   pub uses-this : Uses o (claims sys) (local sys j W a o) i.body
   unfolding local told
@@ -251,7 +251,7 @@ module _ (sys : System) (stimuli : List (List Stim)) (j : Journal) (sound : IsSo
   -- no `spill` stands in its lane yet
   pub unspilled : SpillLast (lane_items (lane_at j a)) → spills_in (lane_items front) ≡ false
   unfolding lane_items
-  unspilled last = last (lane_items front) i rest (ap lane_items (lane-get j.lanes a ∙ lane-is) ∙ lane-append front (r ∷ drop (suc x.at) (lane_of j.lanes a)))
+  unspilled last = last (lane_items front) i rest (ap lane_items (lane-get j.lanes a ∙ lane-is) ∙ lane-append front (r ∷ drop (suc x.at) (lane_recs j.lanes a)))
 
   -- The world with this record.
   abbrev more : List (List Rec)
@@ -263,10 +263,10 @@ module _ (sys : System) (stimuli : List (List Stim)) (j : Journal) (sound : IsSo
   pub world-next : SoundWorld sys more (O ++ a ∷ [])
   world-next = world-more sys W O a r o i.body world within refl may-this
 
-  lane-here : lane_of more a ≡ front ++ r ∷ []
+  lane-here : lane_recs more a ≡ front ++ r ∷ []
   lane-here = lane-set_same W a (front ++ r ∷ []) within
 
-  lane-other : (k : ℕ) → k ≢ a → lane_of more k ≡ lane_of W k
+  lane-other : (k : ℕ) → k ≢ a → lane_recs more k ≡ lane_recs W k
   lane-other k differ = lane-set_other W a k (front ++ r ∷ []) differ
 
   -- by cases on the lane
@@ -280,27 +280,27 @@ module _ (sys : System) (stimuli : List (List Stim)) (j : Journal) (sound : IsSo
   longer : length (front ++ r ∷ []) ≡ suc x.at
   longer = let sum = length-append front (r ∷ []) in let n = front-length in omega (arith, sum, n)
 
-  fronts-next : (k : ℕ) → lane_of more k ≡ take (length (lane_of more k)) (lane_of j.lanes k)
-  fronts-next = by-lane (λ k. lane_of more k ≡ take (length (lane_of more k)) (lane_of j.lanes k)) here (λ k differ. subst (λ l. l ≡ take (length l) (lane_of j.lanes k)) (sym (lane-other k differ)) (along.fronts k))
+  fronts-next : (k : ℕ) → lane_recs more k ≡ take (length (lane_recs more k)) (lane_recs j.lanes k)
+  fronts-next = by-lane (λ k. lane_recs more k ≡ take (length (lane_recs more k)) (lane_recs j.lanes k)) here (λ k differ. subst (λ l. l ≡ take (length l) (lane_recs j.lanes k)) (sym (lane-other k differ)) (along.fronts k))
     where
-      here : lane_of more a ≡ take (length (lane_of more a)) (lane_of j.lanes a)
+      here : lane_recs more a ≡ take (length (lane_recs more a)) (lane_recs j.lanes a)
       here =
-          lane-here ∙ ap (λ l. l ++ r ∷ []) front-is ∙ take-next (lane_of j.lanes a) x.at r found.is ∙ ap (λ n. take n (lane_of j.lanes a)) (sym (ap length lane-here ∙ longer))
+          lane-here ∙ ap (λ l. l ++ r ∷ []) front-is ∙ take-next (lane_recs j.lanes a) x.at r found.is ∙ ap (λ n. take n (lane_recs j.lanes a)) (sym (ap length lane-here ∙ longer))
 
-  counts-next : (k : ℕ) → length (lane_of more k) ≡ times (λ y. y.lane == k) (A ++ x ∷ [])
+  counts-next : (k : ℕ) → length (lane_recs more k) ≡ times (λ y. y.lane == k) (A ++ x ∷ [])
   unfolding times
-  counts-next = by-lane (λ k. length (lane_of more k) ≡ times (λ y. y.lane == k) (A ++ x ∷ [])) here others
+  counts-next = by-lane (λ k. length (lane_recs more k) ≡ times (λ y. y.lane == k) (A ++ x ∷ [])) here others
     where
-      here : length (lane_of more a) ≡ times (λ y. y.lane == a) (A ++ x ∷ [])
+      here : length (lane_recs more a) ≡ times (λ y. y.lane == a) (A ++ x ∷ [])
       here =
-          let self : one (a == a) ≡ 1 = (let yes : (a == a) ≡ true = grind (arith, nat_tests) in ap one yes) in
+          let self : one_if (a == a) ≡ 1 = (let yes : (a == a) ≡ true = grind (arith, nat_tests) in ap one_if yes) in
           let sum = times-append (λ y. y.lane == a) A (x ∷ []) in
           let long = ap length lane-here ∙ longer in
           omega (arith, self, sum, long, place)
 
-      others : (k : ℕ) → k ≢ a → length (lane_of more k) ≡ times (λ y. y.lane == k) (A ++ x ∷ [])
+      others : (k : ℕ) → k ≢ a → length (lane_recs more k) ≡ times (λ y. y.lane == k) (A ++ x ∷ [])
       others k differ =
-          let no : one (a == k) ≡ 0 = (let not_it : (a == k) ≡ false = grind (arith, nat_tests, differ) in ap one not_it) in
+          let no : one_if (a == k) ≡ 0 = (let not_it : (a == k) ≡ false = grind (arith, nat_tests, differ) in ap one_if not_it) in
           let sum = times-append (λ y. y.lane == k) A (x ∷ []) in
           let same = ap length (lane-other k differ) in
           let old = along.counts k in
@@ -315,7 +315,7 @@ module _ (sys : System) (stimuli : List (List Stim)) (j : Journal) (sound : IsSo
 
   named : is_on (has_word sys) (touch i) ≡ true
   named =
-      items-get (λ k. is_on (has_word sys) (touch k) ≡ true) (lane_of j.lanes a) x.at r
+      items-get (λ k. is_on (has_word sys) (touch k) ≡ true) (lane_recs j.lanes a) x.at r
       (at-record (λ k. is_on (has_word sys) (touch k) ≡ true) j.lanes a (all-from (λ k. is_on (has_word sys) (touch k)) (all_items j.lanes) (named-records sys stimuli j sound fit lawful))) found.is
 
   numbers-of : (w : Word) → has_word sys w ≡ true → is_numbered w (all_items W) ≡ true
@@ -483,11 +483,11 @@ module _ (sys : System) (stimuli : List (List Stim)) (j : Journal) (sound : IsSo
           (and_parts (is_good sys e) (list_all (is_good sys) take.others) (subst (λ es. list_all (is_good sys) es ≡ true) take.front all)).0
       go b same may = tt
 
-  took-next : (k : ℕ) → AllByRecursion (λ i. TookGood sys i.body) (lane_items (lane_of more k))
+  took-next : (k : ℕ) → AllByRecursion (λ i. TookGood sys i.body) (lane_items (lane_recs more k))
   unfolding lane_items
-  took-next = by-lane (λ k. AllByRecursion (λ i. TookGood sys i.body) (lane_items (lane_of more k))) here (λ k differ. subst (λ l. AllByRecursion (λ i. TookGood sys i.body) (lane_items l)) (sym (lane-other k differ)) (along.took k))
+  took-next = by-lane (λ k. AllByRecursion (λ i. TookGood sys i.body) (lane_items (lane_recs more k))) here (λ k differ. subst (λ l. AllByRecursion (λ i. TookGood sys i.body) (lane_items l)) (sym (lane-other k differ)) (along.took k))
     where
-      here : AllByRecursion (λ i. TookGood sys i.body) (lane_items (lane_of more a))
+      here : AllByRecursion (λ i. TookGood sys i.body) (lane_items (lane_recs more a))
       here =
           subst (λ l. AllByRecursion (λ i. TookGood sys i.body) (lane_items l)) (sym lane-here)
           (subst (AllByRecursion (λ i. TookGood sys i.body)) (sym (lane-append front (r ∷ []))) (every-append (λ i. TookGood sys i.body) (lane_items front) (i ∷ []) (along.took a) (took-this, tt)))

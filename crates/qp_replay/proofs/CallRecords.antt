@@ -27,7 +27,7 @@ use Rattle.qp_model.specs.Deferral.{keep, kept_after, KeepsDeferred}
 use Rattle.qp_model.specs.Shapes.{Fits, Releases, Drops, releases_by, MakesBlock, MakesNew, NoBlockFor, MakesAgain, again_by, MakesAgainNow, Posts, PostsFront, PostsNew, PostsNewFront, Forwards, PostsOne, PostsToAll, PostsUpTo, raising, restoring, PublishesFirst, PublishesLast, Publishes, Defers, Recalls, Flushes, Subscribes, Unsubscribes, Arms, Rearms, Disarms, answers_ticks, ticks_fit}
 use Rattle.qp_model.proofs.FitsLemmas.{calm-drops}
 use Rattle.qp_model.proofs.DeferralLemmas.{kept-append, kept-calm}
-use Rattle.qp_calls.specs.Counting.{one, times, count_of}
+use Rattle.qp_calls.specs.Counting.{one_if, times, count_of}
 use Rattle.qp_calls.specs.Deferring.{tokens_in}
 use Rattle.qp_calls.specs.Tokens.{Token, Held, Loose, same_token, token_of, take_out, stands, hands_by}
 use Rattle.qp_calls.proofs.CountLemmas.{count_in, count-with, count-without, is_in, tokens-append, count-stands}
@@ -38,24 +38,24 @@ use Rattle.qp_model.proofs.RecordLemmas.{same_entry-is}
 -- Counts.
 
 -- taking a token out takes out at most that one
-pub count-out : (t x : Token) (hands : List Token) → count_of t hands ≤ count_of t (take_out x hands) + one (same_token t x)
+pub count-out : (t x : Token) (hands : List Token) → count_of t hands ≤ count_of t (take_out x hands) + one_if (same_token t x)
 unfolding take_out times
 count-out t x [] = omega arith
 count-out t x (y ∷ ys) = go (same_token x y) refl (count-out t x ys)
   where
-    go : (u : Bool) → same_token x y ≡ u → count_of t ys ≤ count_of t (take_out x ys) + one (same_token t x) → count_of t (y ∷ ys) ≤ count_of t (cond u ys (y ∷ take_out x ys)) + one (same_token t x)
+    go : (u : Bool) → same_token x y ≡ u → count_of t ys ≤ count_of t (take_out x ys) + one_if (same_token t x) → count_of t (y ∷ ys) ≤ count_of t (cond u ys (y ∷ take_out x ys)) + one_if (same_token t x)
     go true is ih = let same : x ≡ y = same-equal x y is in rw same (omega arith)
     go false is ih = omega (arith, ih)
 
-count-cons : (t x : Token) (hands : List Token) → count_of t (x ∷ hands) ≡ one (same_token t x) + count_of t hands
+count-cons : (t x : Token) (hands : List Token) → count_of t (x ∷ hands) ≡ one_if (same_token t x) + count_of t hands
 unfolding times
 count-cons t x hands = refl
 
 -- an entry of a block is one token
-in-pool : (t : Token) (e : Entry) → 0 < e.pool → count_in t e ≡ one (same_token t (token_of e))
+in-pool : (t : Token) (e : Entry) → 0 < e.pool → count_in t e ≡ one_if (same_token t (token_of e))
 in-pool t e some = go (e.pool == 0) refl
   where
-    go : (u : Bool) → (e.pool == 0) ≡ u → cond u 0 (one (same_token t (token_of e))) ≡ one (same_token t (token_of e))
+    go : (u : Bool) → (e.pool == 0) ≡ u → cond u 0 (one_if (same_token t (token_of e))) ≡ one_if (same_token t (token_of e))
     go true is = let none : e.pool ≡ 0 = grind (arith, nat_tests, is) in absurd (omega (arith, some, none))
     go false is = refl
 
@@ -67,14 +67,14 @@ in-static t e none = let is : (e.pool == 0) ≡ true = grind (arith, nat_tests, 
 in-loose : (p b : ℕ) (u : Bool) (e : Entry) → count_in (Loose p b u) e ≡ 0
 in-loose p b u e = go (e.pool == 0)
   where
-    go : (v : Bool) → cond v 0 (one (same_token (Loose p b u) (token_of e))) ≡ 0
+    go : (v : Bool) → cond v 0 (one_if (same_token (Loose p b u) (token_of e))) ≡ 0
     go true = refl
     go false = refl
 
 stands-own : (e : Entry) (F : Token → ℕ) (hands : List Token) → 0 < e.pool → ((t : Token) → count_in t e + F t ≤ count_of t hands) → stands (token_of e) hands ≡ true
 stands-own e F hands some within =
     let self : same_token (token_of e) (token_of e) ≡ true = same-self (token_of e) in
-    let count : one (same_token (token_of e) (token_of e)) ≡ 1 = ap one self in
+    let count : one_if (same_token (token_of e) (token_of e)) ≡ 1 = ap one_if self in
     count-stands (token_of e) hands (let w = within (token_of e) in let p = in-pool (token_of e) e some in omega (arith, w, p, count))
 
 pub is-in-own : (e : Entry) (F : Token → ℕ) (hands : List Token) → ((t : Token) → count_in t e + F t ≤ count_of t hands) → is_in e hands ≡ true
@@ -630,31 +630,31 @@ module _ (sys : System) (o : ℕ) (P : Claims) where
     front-leads_of e g answer B F head object made good posts = front-leads head e answer g B F object made (λ k. good) posts
 
     -- the records behind a recalled entry's post leave the list without it
-    recall-calm : (room : ℕ) (others new : List Entry) (k e : Entry) (head one rel : List Told) → MakesAgain k head e → PostsFront o head e Granted one → Drops k rel → kept_after room others (one ++ rel) ≡ Some new → new ≡ others
+    recall-calm : (room : ℕ) (others new : List Entry) (k e : Entry) (head one_if rel : List Told) → MakesAgain k head e → PostsFront o head e Granted one_if → Drops k rel → kept_after room others (one_if ++ rel) ≡ Some new → new ≡ others
     unfolding PostsFront kept_after keep
-    recall-calm room others new k e head one rel makes (f, l, m, is) drops kept =
+    recall-calm room others new k e head one_if rel makes (f, l, m, is) drops kept =
         let first : kept_after room others head ≡ Some others = calm-again room others k head e makes in
-        let second : kept_after room others one ≡ Some others = subst (λ x. kept_after room others x ≡ Some others) (sym is) (kept-append room others others head _ first) in
+        let second : kept_after room others one_if ≡ Some others = subst (λ x. kept_after room others x ≡ Some others) (sym is) (kept-append room others others head _ first) in
         let third : kept_after room others rel ≡ Some others = kept-calm room others rel (calm-drops k rel drops) in
-        same_Some _ _ (sym kept ∙ kept-append room others others one rel second ∙ third)
+        same_Some _ _ (sym kept ∙ kept-append room others others one_if rel second ∙ third)
 
     recalls-keeps : (room : ℕ) (old new : List Entry) (answer : Answer) (g : List Told) (F : Bag) → P.names.Object o → AllGood old → NoLoose F → is_assertion answer ≡ false
         → Recalls o answer g → kept_after room old g ≡ Some new → Keeps (λ t. bag_of old t + F t) g new F
     unfolding Recalls hands_by
-    recalls-keeps room old new Granted g F object all none calm (k, e, head, one, rel, makes, posts, drops, is) kept =
-        let at = recalled room old new k (one ++ rel) (subst (λ x. kept_after room old x ≡ Some new) is kept) in
+    recalls-keeps room old new Granted g F object all none calm (k, e, head, one_if, rel, makes, posts, drops, is) kept =
+        let at = recalled room old new k (one_if ++ rel) (subst (λ x. kept_after room old x ≡ Some new) is kept) in
         let both = subst AllGood at.whole all in
         let R : Bag = λ t. bag_of at.others t + F t in
         let B : Bag = λ t. bag_of old t + F t in
         let K : Bag = λ t. count_in t k + R t in
-        let same : new ≡ at.others = recall-calm room at.others new k e head one rel makes posts drops at.behind in
+        let same : new ≡ at.others = recall-calm room at.others new k e head one_if rel makes posts drops at.behind in
         let made = again-head k head e R both.0 (λ p b u. let one_of = none-loose p b u at.others in let two_of = none p b u in omega (arith, one_of, two_of)) makes in
         record {
           leads = leads-same B (λ t. bag_of new t + F t) g _ is
-              (leads-less K B R (λ t. bag_of new t + F t) (plain (item.Recall k) ∷ (one ++ rel)) (λ t. let first = front-counts old at.others k t at.whole in omega (arith, first))
+              (leads-less K B R (λ t. bag_of new t + F t) (plain (item.Recall k) ∷ (one_if ++ rel)) (λ t. let first = front-counts old at.others k t at.whole in omega (arith, first))
               (λ t. let more = ap (λ es. count_of t (tokens_in es)) same in omega (arith, more))
-              (leads-append K K R (plain (item.Recall k) ∷ []) (one ++ rel) (still K (plain (item.Recall k)) (λ H. tt) (λ H. refl))
-              (λ j. leads-append K K R one rel (front-leads_of e one Granted K K head object made.0 made.1 posts) (λ i. drops-leads k rel R both.0 drops))));
+              (leads-append K K R (plain (item.Recall k) ∷ []) (one_if ++ rel) (still K (plain (item.Recall k)) (λ H. tt) (λ H. refl))
+              (λ j. leads-append K K R one_if rel (front-leads_of e one_if Granted K K head object made.0 made.1 posts) (λ i. drops-leads k rel R both.0 drops))));
           good = λ j. subst AllGood (sym same) both.1;
         }
     recalls-keeps room old new Refused g F object all none calm is kept =
@@ -673,16 +673,16 @@ module _ (sys : System) (o : ℕ) (P : Claims) where
     recalls-ends : (room : ℕ) (old new : List Entry) (g : List Told) (F : Bag) → P.names.Object o → AllGood old → NoLoose F
         → Recalls o AtFront g → kept_after room old g ≡ Some new → Leads (λ t. bag_of old t + F t) g (λ t. 0)
     unfolding Recalls hands_by
-    recalls-ends room old new g F object all none (k, e, head, one, makes, posts, is) kept =
-        let at = recalled room old new k one (subst (λ x. kept_after room old x ≡ Some new) is kept) in
+    recalls-ends room old new g F object all none (k, e, head, one_if, makes, posts, is) kept =
+        let at = recalled room old new k one_if (subst (λ x. kept_after room old x ≡ Some new) is kept) in
         let both = subst AllGood at.whole all in
         let R : Bag = λ t. bag_of at.others t + F t in
         let B : Bag = λ t. bag_of old t + F t in
         let K : Bag = λ t. count_in t k + R t in
         let made = again-head k head e R both.0 (λ p b u. let one_of = none-loose p b u at.others in let two_of = none p b u in omega (arith, one_of, two_of)) makes in
         leads-same B (λ t. 0) g _ is
-        (leads-less K B K (λ t. 0) (plain (item.Recall k) ∷ one) (λ t. let first = front-counts old at.others k t at.whole in omega (arith, first)) (λ t. omega arith)
-        (leads-append K K K (plain (item.Recall k) ∷ []) one (still K (plain (item.Recall k)) (λ H. tt) (λ H. refl)) (λ j. front-leads_of e one AtFront K K head object made.0 made.1 posts)))
+        (leads-less K B K (λ t. 0) (plain (item.Recall k) ∷ one_if) (λ t. let first = front-counts old at.others k t at.whole in omega (arith, first)) (λ t. omega arith)
+        (leads-append K K K (plain (item.Recall k) ∷ []) one_if (still K (plain (item.Recall k)) (λ H. tt) (λ H. refl)) (λ j. front-leads_of e one_if AtFront K K head object made.0 made.1 posts)))
 
     flushes-keeps : (room n : ℕ) (old new : List Entry) (g : List Told) (F : Bag) → AllGood old → Flushes n g → kept_after room old g ≡ Some new → Keeps (λ t. bag_of old t + F t) g new F
     unfolding Flushes hands_by kept_after

@@ -7,8 +7,8 @@ use Rattle.std.proofs.lemmas.Bool.Decides.{nat_tests}
 use Rattle.std.proofs.lemmas.List.Elements.{Contains-append_right}
 use Rattle.qp_model.specs.declared.record.Rec.{Rec}
 use Rattle.qp_model.specs.Places.{RecordPlace, must_precede}
-use Rattle.qp_replay.specs.Orders.{IsCycle, closes, is_record}
-use Rattle.qp_replay.specs.Remaining.{Blocks, HasNext, Standing, front, head}
+use Rattle.qp_replay.specs.Orders.{IsCycle, closes_cycle, is_record}
+use Rattle.qp_replay.specs.Remaining.{Blocks, HasNext, LaneFronts, front, head}
 use Rattle.qp_replay.proofs.RemainingLemmas.{lane-of, record-test}
 use Rattle.qp_replay.proofs.OrderLemmas.{irreflexive, lane-first, same-place}
 
@@ -25,7 +25,7 @@ unmet (true ∷ bs) = unmet bs
 unmet (false ∷ bs) = suc (unmet bs)
 
 -- The walk, its last place first, and the lane that it comes to.
-pub record Walked (st : Standing) (met : List Bool) (walk : List RecordPlace) (lane : ℕ) : Type 0 where
+pub record Walked (st : LaneFronts) (met : List Bool) (walk : List RecordPlace) (lane : ℕ) : Type 0 where
   pub each : length met ≡ length st.lanes
   pub next : HasNext st lane
   pub seen : (k : ℕ) → get_or met k false ≡ true → Contains walk (head st k)
@@ -40,7 +40,7 @@ unmet-less (false ∷ bs) zero within is = omega arith
 unmet-less (true ∷ bs) (suc k) within is = unmet-less bs k (omega (arith, within)) is
 unmet-less (false ∷ bs) (suc k) within is = let remaining = unmet-less bs k (omega (arith, within)) is in omega (arith, remaining)
 
-module _ (st : Standing) (met : List Bool) (walk : List RecordPlace) (lane : ℕ) (walked : Walked st met walk lane) where
+module _ (st : LaneFronts) (met : List Bool) (walk : List RecordPlace) (lane : ℕ) (walked : Walked st met walk lane) where
   pub met-lane : lane < length met
   met-lane = omega (arith, (lane-of st.lanes lane (front st lane) walked.next).0, walked.each)
 
@@ -91,7 +91,7 @@ chain-front lanes x [] (suc n) h = refl
 chain-front lanes x (y ∷ ys) (suc n) h = let parts = and_parts (must_precede lanes x y) (chained lanes (y ∷ ys)) h in and_from _ _ parts.0 (chain-front lanes y ys n parts.1)
 
 -- a chain that ends with h closes where h must stand before this one
-closes-from : (lanes : List (List Rec)) (c h : RecordPlace) (xs : List RecordPlace) → IsTrue (chained lanes (xs ++ h ∷ [])) → IsTrue (must_precede lanes h c) → IsTrue (closes lanes c (xs ++ h ∷ []))
+closes-from : (lanes : List (List Rec)) (c h : RecordPlace) (xs : List RecordPlace) → IsTrue (chained lanes (xs ++ h ∷ [])) → IsTrue (must_precede lanes h c) → IsTrue (closes_cycle lanes c (xs ++ h ∷ []))
 closes-from lanes c h [] chain last = last
 closes-from lanes c h (x ∷ []) chain last = let parts = and_parts (must_precede lanes x h) true chain in and_from _ _ parts.0 last
 closes-from lanes c h (x ∷ y ∷ ys) chain last = let parts = and_parts (must_precede lanes x y) (chained lanes (y ∷ (ys ++ h ∷ []))) chain in and_from _ _ parts.0 (closes-from lanes c h (y ∷ ys) parts.1 last)
@@ -116,5 +116,5 @@ is-cycle lanes h (x ∷ xs) (suc i) chain stand within is =
     record {
       long = let size = ap length end in omega (arith, size, length-append (take i xs) (h ∷ []));
       stand = stand-front (λ x. IsTrue (is_record lanes x)) (x ∷ xs) (suc (suc i)) stand;
-      round = subst (λ z. IsTrue (closes lanes x (x ∷ z))) (sym end) (closes-from lanes x h (x ∷ take i xs) front parts.0);
+      round = subst (λ z. IsTrue (closes_cycle lanes x (x ∷ z))) (sym end) (closes-from lanes x h (x ∷ take i xs) front parts.0);
     }

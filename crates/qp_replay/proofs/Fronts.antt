@@ -7,17 +7,17 @@ use Rattle.std.proofs.lemmas.Bool.Decides.{nat_tests}
 use Rattle.std.proofs.lemmas.List.Sums.{sum_by-cons}
 use Rattle.std.proofs.lemmas.List.Sorted.{sum_by-IsPermutation}
 use Rattle.qp_model.specs.declared.record.Rec.{Rec}
-use Rattle.qp_calls.specs.Counting.{one, times}
+use Rattle.qp_calls.specs.Counting.{one_if, times}
 use Rattle.qp_plain_sound.proofs.Times.{times-append}
 use Rattle.qp_model.specs.Places.{IsSerial, RecordPlace, item_at, must_precede, places, places_from, places_in, touch_at, touch_first}
 
-tally-sum : {A : Type 0} (p : A → Bool) (xs : List A) → times p xs ≡ sum_by (λ x. one (p x)) xs
+tally-sum : {A : Type 0} (p : A → Bool) (xs : List A) → times p xs ≡ sum_by (λ x. one_if (p x)) xs
 unfolding times
 tally-sum p [] = refl
-tally-sum p (x ∷ xs) = ap (λ n. one (p x) + n) (tally-sum p xs) ∙ sym (sum_by-cons (λ x. one (p x)) x xs)
+tally-sum p (x ∷ xs) = ap (λ n. one_if (p x) + n) (tally-sum p xs) ∙ sym (sum_by-cons (λ x. one_if (p x)) x xs)
 
 pub tally-permutation : {A : Type 0} (p : A → Bool) (xs ys : List A) → IsPermutation xs ys → times p ys ≡ times p xs
-tally-permutation p xs ys all = tally-sum p ys ∙ sum_by-IsPermutation (λ x. one (p x)) xs ys all ∙ sym (tally-sum p xs)
+tally-permutation p xs ys all = tally-sum p ys ∙ sum_by-IsPermutation (λ x. one_if (p x)) xs ys all ∙ sym (tally-sum p xs)
 
 -- one test says no more than the other
 tally-less : {A : Type 0} (p q : A → Bool) (xs : List A) → ((x : A) → p x ≡ true → q x ≡ true) → times p xs ≤ times q xs
@@ -25,7 +25,7 @@ unfolding times
 tally-less p q [] go = omega arith
 tally-less p q (x ∷ xs) go = by (p x) (q x) (go x) (tally-less p q xs go)
   where
-    by : (u v : Bool) → (u ≡ true → v ≡ true) → times p xs ≤ times q xs → one u + times p xs ≤ one v + times q xs
+    by : (u v : Bool) → (u ≡ true → v ≡ true) → times p xs ≤ times q xs → one_if u + times p xs ≤ one_if v + times q xs
     by true true h less = omega (arith, less)
     by true false h less = let no : false ≡ true = h refl in absurd (cc)
     by false true h less = omega (arith, less)
@@ -34,12 +34,12 @@ tally-less p q (x ∷ xs) go = by (p x) (q x) (go x) (tally-less p q xs go)
 tally-none : {A : Type 0} (p : A → Bool) (xs : List A) → AllByRecursion (λ x. p x ≡ false) xs → times p xs ≡ 0
 unfolding times
 tally-none p [] h = refl
-tally-none p (x ∷ xs) h = let more = tally-none p xs h.1 in let none : one (p x) ≡ 0 = ap one h.0 in omega (arith, more, none)
+tally-none p (x ∷ xs) h = let more = tally-none p xs h.1 in let none : one_if (p x) ≡ 0 = ap one_if h.0 in omega (arith, more, none)
 
 pub tally-same : {A : Type 0} (p q : A → Bool) (xs : List A) → AllByRecursion (λ x. p x ≡ q x) xs → times p xs ≡ times q xs
 unfolding times
 tally-same p q [] h = refl
-tally-same p q (x ∷ xs) h = let more = tally-same p q xs h.1 in let here : one (p x) ≡ one (q x) = ap one h.0 in omega (arith, more, here)
+tally-same p q (x ∷ xs) h = let more = tally-same p q xs h.1 in let here : one_if (p x) ≡ one_if (q x) = ap one_if h.0 in omega (arith, more, here)
 
 -- a place of lane a before place n of it
 abbrev pub below : ℕ → ℕ → RecordPlace → Bool
@@ -51,11 +51,11 @@ none-past a n k at [] le = refl
 none-past a n k at (r ∷ rs) le =
     let more = none-past a n k (suc at) rs (omega (arith, le)) in
     let no : nat_lt at n ≡ false = grind (arith, nat_tests, le) in
-    let none : one ((k == a) && nat_lt at n) ≡ 0 = go (k == a) (nat_lt at n) no in
+    let none : one_if ((k == a) && nat_lt at n) ≡ 0 = go (k == a) (nat_lt at n) no in
     omega (arith, more, none)
   where
-    go : (u v : Bool) → v ≡ false → one (u && v) ≡ 0
-    go true v e = ap one e
+    go : (u v : Bool) → v ≡ false → one_if (u && v) ≡ 0
+    go true v e = ap one_if e
     go false v e = refl
 
 none-elsewhere : (a n k at : ℕ) (rs : List Rec) → (k == a) ≡ false → times (below a n) (places_in k at rs) ≡ 0
@@ -63,7 +63,7 @@ unfolding times places_in
 none-elsewhere a n k at [] other = refl
 none-elsewhere a n k at (r ∷ rs) other =
     let more = none-elsewhere a n k (suc at) rs other in
-    let none : one ((k == a) && nat_lt at n) ≡ 0 = ap (λ u. one (u && nat_lt at n)) other in
+    let none : one_if ((k == a) && nat_lt at n) ≡ 0 = ap (λ u. one_if (u && nat_lt at n)) other in
     omega (arith, more, none)
 
 all-below : (a n at : ℕ) (rs : List Rec) → at ≤ n → n ≤ at + length rs → times (below a n) (places_in a at rs) + at ≡ n
@@ -74,16 +74,16 @@ all-below a n at (r ∷ rs) low high = go (nat_lt at n) refl (λ less. all-below
     self : (a == a) ≡ true
     self = grind (arith, nat_tests)
 
-    go : (b : Bool) → nat_lt at n ≡ b → (suc at ≤ n → times (below a n) (places_in a (suc at) rs) + suc at ≡ n) → one ((a == a) && nat_lt at n) + times (below a n) (places_in a (suc at) rs) + at ≡ n
+    go : (b : Bool) → nat_lt at n ≡ b → (suc at ≤ n → times (below a n) (places_in a (suc at) rs) + suc at ≡ n) → one_if ((a == a) && nat_lt at n) + times (below a n) (places_in a (suc at) rs) + at ≡ n
     go true e later =
         let less : at < n = grind (arith, nat_tests, e) in
         let more = later (omega (arith, less)) in
-        let one : one ((a == a) && nat_lt at n) ≡ 1 = rw (self, e) refl in
-        omega (arith, more, one)
+        let one_if : one_if ((a == a) && nat_lt at n) ≡ 1 = rw (self, e) refl in
+        omega (arith, more, one_if)
     go false e later =
         let le : n ≤ at = grind (arith, nat_tests, e) in
         let more = none-past a n a (suc at) rs (omega (arith, le)) in
-        let none : one ((a == a) && nat_lt at n) ≡ 0 = rw (self, e) refl in
+        let none : one_if ((a == a) && nat_lt at n) ≡ 0 = rw (self, e) refl in
         omega (arith, more, none, le, low)
 
 none-before : (a n k : ℕ) (ls : List (List Rec)) → a < k → times (below a n) (places_from k ls) ≡ 0
@@ -165,10 +165,10 @@ module _ (lanes : List (List Rec)) (order A B : List RecordPlace) (x : RecordPla
 
   behind-none : AllByRecursion (λ y. below a n y ≡ false) B
   unfolding n a
-  behind-none = indexed (λ y. below a n y ≡ false) B one
+  behind-none = indexed (λ y. below a n y ≡ false) B one_if
     where
-      one : (k : ℕ) (y : RecordPlace) → slice_get B k ≡ Some y → below a n y ≡ false
-      one k y at = go (below a n y) refl
+      one_if : (k : ℕ) (y : RecordPlace) → slice_get B k ≡ Some y → below a n y ≡ false
+      one_if k y at = go (below a n y) refl
         where
           go : (b : Bool) → below a n y ≡ b → b ≡ false
           go false e = refl
@@ -181,10 +181,10 @@ module _ (lanes : List (List Rec)) (order A B : List RecordPlace) (x : RecordPla
 
   front-below : AllByRecursion (λ y. (y.lane == a) ≡ below a (suc n) y) A
   unfolding n a
-  front-below = indexed (λ y. (y.lane == a) ≡ below a (suc n) y) A one
+  front-below = indexed (λ y. (y.lane == a) ≡ below a (suc n) y) A one_if
     where
-      one : (k : ℕ) (y : RecordPlace) → slice_get A k ≡ Some y → (y.lane == a) ≡ below a (suc n) y
-      one k y at = go (y.lane == a) refl (nat_lt y.at (suc n)) refl
+      one_if : (k : ℕ) (y : RecordPlace) → slice_get A k ≡ Some y → (y.lane == a) ≡ below a (suc n) y
+      one_if k y at = go (y.lane == a) refl (nat_lt y.at (suc n)) refl
         where
           go : (u : Bool) → (y.lane == a) ≡ u → (v : Bool) → nat_lt y.at (suc n) ≡ v → u ≡ (u && v)
           go false e v f = refl
@@ -197,7 +197,7 @@ module _ (lanes : List (List Rec)) (order A B : List RecordPlace) (x : RecordPla
               let within = found.1 in
               absurd (omega (arith, order, within))
 
-  total : (m : ℕ) → m ≤ length (get_or lanes a []) → times (below a m) A + (one (below a m x) + times (below a m) B) ≡ m
+  total : (m : ℕ) → m ≤ length (get_or lanes a []) → times (below a m) A + (one_if (below a m x) + times (below a m) B) ≡ m
   unfolding times places n a
   total m few =
       sym (times-append (below a m) A (x ∷ B)) ∙ ap (times (below a m)) (sym split) ∙ tally-permutation (below a m) (places lanes) order serial.all
@@ -220,11 +220,11 @@ module _ (lanes : List (List Rec)) (order A B : List RecordPlace) (x : RecordPla
       same =
           let low = total n (omega (arith, within)) in
           let high = total (suc n) (omega (arith, within)) in
-          let none : one (below a n x) ≡ 0 = rw (self, not_before) refl in
-          let one : one (below a (suc n) x) ≡ 1 = rw (self, before_next) refl in
+          let none : one_if (below a n x) ≡ 0 = rw (self, not_before) refl in
+          let one_if : one_if (below a (suc n) x) ≡ 1 = rw (self, before_next) refl in
           let rest = tally-none (below a n) B behind-none in
           let grows = tally-less (below a n) (below a (suc n)) A (λ y h. more y (and_parts (y.lane == a) (nat_lt y.at n) h)) in
-          omega (arith, low, high, none, one, rest, grows)
+          omega (arith, low, high, none, one_if, rest, grows)
         where
           more : (y : RecordPlace) → ((y.lane == a) ≡ true) × (nat_lt y.at n ≡ true) → below a (suc n) y ≡ true
           more y h = let less : y.at < n = ltb-true y.at n h.1 in and_from _ _ h.0 (grind (arith, nat_tests, less))

@@ -47,14 +47,14 @@ use Rattle.qp_model.proofs.MachineLemmas.{is_allowed-front}
 use Rattle.qp_model.proofs.NumberLemmas.{number-owned, every-append}
 use Rattle.qp_stim.specs.Rules as rule
 use Rattle.qp_stim.specs.Rules.{StimuliFit}
-use Rattle.qp_calls.specs.Counting.{one}
+use Rattle.qp_calls.specs.Counting.{one_if}
 use Rattle.qp_calls.specs.declared.tokens.HeldEntry as token
 use Rattle.qp_calls.specs.declared.tokens.HeldEntry.TheVariants as hand
 use Rattle.qp_calls.specs.Tokens.{Token}
 use Rattle.qp_plain_sound.specs.Sound.{is_event}
 use Rattle.qp_plain_sound.proofs.CallEvents.{event-to}
 use Rattle.qp_plain_sound.proofs.SetLemmas.{bits-has, set-apart}
-use Rattle.qp_dispatch.specs.SoundFor.{HasTimer, IsHome, MayAct, MayTask}
+use Rattle.qp_dispatch.specs.SoundFor.{HasTimer, IsObjectWithTimers, MayAct, MayTask}
 use Rattle.qp_dispatch.specs.Resume.{CanTakeSteps}
 use Rattle.qp_dispatch.proofs.Naming.{declared, receives, sound-event}
 use Rattle.qp_dispatch.proofs.SoundAble.{sound-ready}
@@ -76,7 +76,7 @@ system_names sys = record {
 }
 
 -- stimuli that fit the system name what it has
-stim-names : (sys : System) (s : Stim) → rule.StimFits sys s → StimNames (system_names sys) s
+stim-names : (sys : System) (s : Stim) → rule.StimulusFits sys s → StimNames (system_names sys) s
 stim-names sys (stim.Post to ev margin reserve) fit = (any-object sys to fit.object, fits-event sys ev reserve fit.event)
 stim-names sys (stim.Publish ev reserve) fit = (event-signal sys ev reserve fit, fits-event sys ev reserve fit)
 stim-names sys _ fit = tt
@@ -84,11 +84,11 @@ stim-names sys _ fit = tt
 pub stimuli-names : (sys : System) (stimuli : List (List Stim)) → StimuliFit sys stimuli → AllByRecursion (AllByRecursion (StimNames (system_names sys))) stimuli
 stimuli-names sys stimuli fit = each stimuli fit.stimuli
   where
-    source : (ss : List Stim) → AllByRecursion (rule.StimFits sys) ss → AllByRecursion (StimNames (system_names sys)) ss
+    source : (ss : List Stim) → AllByRecursion (rule.StimulusFits sys) ss → AllByRecursion (StimNames (system_names sys)) ss
     source [] h = tt
     source (s ∷ ss) h = (stim-names sys s h.0, source ss h.1)
 
-    each : (sources : List (List Stim)) → AllByRecursion (AllByRecursion (rule.StimFits sys)) sources → AllByRecursion (AllByRecursion (StimNames (system_names sys))) sources
+    each : (sources : List (List Stim)) → AllByRecursion (AllByRecursion (rule.StimulusFits sys)) sources → AllByRecursion (AllByRecursion (StimNames (system_names sys))) sources
     each [] h = tt
     each (ss ∷ more) h = (source ss h.0, each more h.1)
 
@@ -129,19 +129,19 @@ deed-names sys me at_hand (action.Disarm t) may names is = timer-there sys me t 
 
 tasks-name : (sys : System) (me : ℕ) (at_hand : Option token.HeldEntry) (ts : List Task) → AllByRecursion (MayTask sys me at_hand) ts → AllByRecursion (TaskNames (system_names sys) sys me) ts
 tasks-name sys me at_hand [] h = tt
-tasks-name sys me at_hand (t ∷ ts) h = (one t h.0, tasks-name sys me at_hand ts h.1)
+tasks-name sys me at_hand (t ∷ ts) h = (one_if t h.0, tasks-name sys me at_hand ts h.1)
   where
-    one : (t : Task) → MayTask sys me at_hand t → TaskNames (system_names sys) sys me t
-    one (Do p) may = deed-names sys me at_hand p may
-    one Begin may = tt
-    one (Run s k) may = tt
-    one Unhandled may = tt
-    one (Exit s) may = tt
-    one (Enter s) may = tt
-    one (Init s) may = tt
-    one Done may = tt
-    one (Raise c) may = tt
-    one Restore may = tt
+    one_if : (t : Task) → MayTask sys me at_hand t → TaskNames (system_names sys) sys me t
+    one_if (Do p) may = deed-names sys me at_hand p may
+    one_if Begin may = tt
+    one_if (Run s k) may = tt
+    one_if Unhandled may = tt
+    one_if (Exit s) may = tt
+    one_if (Enter s) may = tt
+    one_if (Init s) may = tt
+    one_if Done may = tt
+    one_if (Raise c) may = tt
+    one_if Restore may = tt
 
 -- and they may be done
 chart-ready : (sys : System) → IsSound sys → (d : ObjectDef) → object_at sys d.priority ≡ Some d → (chart : Chart) → chart_at sys d.chart ≡ Some chart → CanTakeSteps sys d.priority chart
@@ -153,14 +153,14 @@ chart-ready sys sound d found chart its = sound-ready sys d.priority chart (d.ch
 
     priority : 1 ≤ d.priority
     priority =
-        let one = found-one (λ x. 1 ≤ x.priority) d.priority sys.objects (some sys.objects sound.objects) object in
-        let low = one.3 in omega (arith, low, one.2)
+        let one_if = found-one (λ x. 1 ≤ x.priority) d.priority sys.objects (some sys.objects sound.objects) object in
+        let low = one_if.3 in omega (arith, low, one_if.2)
       where
         some : (ds : List ObjectDef) → AllByRecursion (IsSoundObject sys.charts) ds → AllByRecursion (λ x. 1 ≤ x.priority) ds
         some [] h = tt
         some (x ∷ xs) h = (h.0.some_priority, some xs h.1)
 
-    home : IsHome sys d.priority chart
+    home : IsObjectWithTimers sys d.priority chart
     home = record {
       sound = sound;
       some = omega (arith, priority);
@@ -337,7 +337,7 @@ module _ (sys : System) where
       go true e later = let set_is : set / 2 ^ n % 2 ≡ 1 = grind (arith, nat_tests) in (h n set_is, later)
       go false e later = later
 
-  one-true : (u : Bool) → one u ≡ 1 → u ≡ true
+  one-true : (u : Bool) → one_if u ≡ 1 → u ≡ true
   one-true true e = refl
   one-true false e = absurd (omega (arith, e))
 

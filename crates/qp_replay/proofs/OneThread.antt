@@ -25,12 +25,12 @@ use Rattle.qp_model.specs.Lawful.{EndHolds, Lawful, facts_of}
 use Rattle.qp_stim.specs.Rules.{StimuliFit}
 use Rattle.qp_calls.specs.Counting.{count_of, times}
 use Rattle.qp_calls.specs.Tokens.{Token, hands_after}
-use Rattle.qp_plain_sound.specs.Log.{empty_lanes, lane_of, log_of, with_record}
+use Rattle.qp_plain_sound.specs.Log.{empty_lanes, lane_recs, log_of, with_record}
 use Rattle.qp_plain_sound.specs.Sound.{SoundWorld, hands_in, sum_below, told_log}
 use Rattle.qp_plain_sound.proofs.EndLemmas.{sum-none}
 use Rattle.qp_plain_sound.proofs.Logs.{log-grows}
 use Rattle.qp_plain_sound.proofs.NewLemmas.{new-sound, no-items, no-lane}
-use Rattle.qp_replay.specs.RerunLaws.{GoesOn, OneThreadMakesIt, TicksFit, World, made, made_on, placed_at, record_at, with_next}
+use Rattle.qp_replay.specs.RerunLaws.{RerunGoesOn, OneThreadMakesIt, TicksFit, World, made, made_on, placed_at, record_at, with_next}
 use Rattle.qp_replay.proofs.NextMay.{TookGood, claims, rules-known}
 use Rattle.qp_replay.proofs.Along.{Along, Found, along-next, at-record, get-lane, items-get, local, may-this, owned, unspilled, uses-this, world-next}
 use Rattle.qp_replay.proofs.Fronts.{below, in-lane, stands-there, tally-permutation, tally-same}
@@ -47,14 +47,14 @@ use Rattle.qp_model.proofs.ListLemmas.{some-there, every-there}
 
 record There (lanes : List (List Rec)) (x : RecordPlace) : Type 0 where
   lane : x.lane < length lanes
-  place : x.at < length (lane_of lanes x.lane)
+  place : x.at < length (lane_recs lanes x.lane)
 
 -- a place of these lanes, the first of which has number k
 record From (k : ℕ) (ls : List (List Rec)) (x : RecordPlace) : Type 0 where
   m : ℕ
   is : x.lane ≡ k + m
   lane : m < length ls
-  place : x.at < length (lane_of ls m)
+  place : x.at < length (lane_recs ls m)
 
 in-one : (k at n : ℕ) (rs : List Rec) → at + length rs ≡ n → AllByRecursion (λ x. (x.lane ≡ k) × (x.at < n)) (places_in k at rs)
 unfolding places_in
@@ -75,15 +75,15 @@ all-there : (lanes : List (List Rec)) → AllByRecursion (There lanes) (places l
 unfolding places
 all-there lanes = every (From 0 lanes) (There lanes) (λ x h. one x h.m h.is h.lane h.place) (places_from 0 lanes) (all-from-lane 0 lanes)
   where
-    one : (x : RecordPlace) (m : ℕ) → x.lane ≡ 0 + m → m < length lanes → x.at < length (lane_of lanes m) → There lanes x
+    one : (x : RecordPlace) (m : ℕ) → x.lane ≡ 0 + m → m < length lanes → x.at < length (lane_recs lanes m) → There lanes x
     one x m is lane place =
-        let same : m ≡ x.lane = omega (arith, is) in record { lane = subst (λ k. k < length lanes) same lane; place = subst (λ k. x.at < length (lane_of lanes k)) same place }
+        let same : m ≡ x.lane = omega (arith, is) in record { lane = subst (λ k. k < length lanes) same lane; place = subst (λ k. x.at < length (lane_recs lanes k)) same place }
 
 ordered-there : (lanes : List (List Rec)) (order : List RecordPlace) → IsPermutation (places lanes) order → AllByRecursion (There lanes) order
 ordered-there lanes order all = from-index (There lanes) order (All-permutation (There lanes) (places lanes) order all (by-index (There lanes) (places lanes) (all-there lanes)))
 
 -- the record at a place, both ways
-at-lane : (lanes : List (List Rec)) (x : RecordPlace) → x.lane < length lanes → record_at lanes x ≡ slice_get (lane_of lanes x.lane) x.at
+at-lane : (lanes : List (List Rec)) (x : RecordPlace) → x.lane < length lanes → record_at lanes x ≡ slice_get (lane_recs lanes x.lane) x.at
 at-lane lanes x less = ap (λ o. option_and_then (λ lane. slice_get lane x.at) o) (get-lane lanes x.lane less)
 
 -- a bound of the objects
@@ -98,7 +98,7 @@ all-below-top n (i ∷ is) le = (omega (arith, le), all-below-top n is (omega (a
 
 -- Lists.
 
-pub lanes-same : (xs ys : List (List Rec)) → length xs ≡ length ys → ((a : ℕ) → a < length ys → lane_of xs a ≡ lane_of ys a) → xs ≡ ys
+pub lanes-same : (xs ys : List (List Rec)) → length xs ≡ length ys → ((a : ℕ) → a < length ys → lane_recs xs a ≡ lane_recs ys a) → xs ≡ ys
 lanes-same [] [] long same = refl
 lanes-same [] (y ∷ ys) long same = absurd (omega (arith, long))
 lanes-same (x ∷ xs) [] long same = absurd (omega (arith, long))
@@ -148,7 +148,7 @@ module _ (sys : System) (stimuli : List (List Stim)) (j : Journal) (order : List
   bound : (x : RecordPlace) (r : Rec) → Found j.lanes x r → (item_of r).of < objects
   unfolding objects
   bound x r f =
-      items-get (λ i. i.of < top (all_items j.lanes)) (lane_of j.lanes x.lane) x.at r
+      items-get (λ i. i.of < top (all_items j.lanes)) (lane_recs j.lanes x.lane) x.at r
       (at-record (λ i. i.of < top (all_items j.lanes)) j.lanes x.lane (all-below-top (top (all_items j.lanes)) (all_items j.lanes) (omega arith))) f.is
 
   found : (A B : List RecordPlace) (x : RecordPlace) (r : Rec) → order ≡ A ++ x ∷ B → record_at j.lanes x ≡ Some r → Found j.lanes x r
@@ -159,7 +159,7 @@ module _ (sys : System) (stimuli : List (List Stim)) (j : Journal) (order : List
   pub a_record : (A B : List RecordPlace) (x : RecordPlace) → order ≡ A ++ x ∷ B → (r : Rec) × (record_at j.lanes x ≡ Some r)
   a_record A B x split =
       let here = every-there (There j.lanes) A x B (subst (AllByRecursion (There j.lanes)) split there) in
-      let got = some-there (lane_of j.lanes x.lane) x.at here.place in
+      let got = some-there (lane_recs j.lanes x.lane) x.at here.place in
       (got.0, at-lane j.lanes x here.lane ∙ got.1)
 
   place : (A B : List RecordPlace) (x : RecordPlace) (r : Rec) → order ≡ A ++ x ∷ B → Found j.lanes x r → times (λ y. y.lane == x.lane) A ≡ x.at
@@ -204,7 +204,7 @@ module _ (sys : System) (stimuli : List (List Stim)) (j : Journal) (order : List
     world = new-sound sys (length j.lanes) sound;
     along = record {
       wide = empty-length (length j.lanes);
-      fronts = λ a. no-lane (length j.lanes) a ∙ sym (ap (λ l. take (length l) (lane_of j.lanes a)) (no-lane (length j.lanes) a));
+      fronts = λ a. no-lane (length j.lanes) a ∙ sym (ap (λ l. take (length l) (lane_recs j.lanes a)) (no-lane (length j.lanes) a));
       counts = λ a. ap length (no-lane (length j.lanes) a);
       hists = λ w. ap (hist w) (no-items (length j.lanes)) ∙ no-hist w;
       sums = λ t. sym (none-owned (length j.lanes) t);
@@ -219,10 +219,10 @@ module _ (sys : System) (stimuli : List (List Stim)) (j : Journal) (order : List
   -- where the next record of the order stands: the world has what the lane has before it
   pub record RoomBefore (front : List RecordPlace) (x : RecordPlace) (r : Rec) : Type 0 where
     pub within : x.lane < length j.lanes
-    pub there : slice_get (lane_of j.lanes x.lane) x.at ≡ Some r
-    pub long : length (lane_of (made j.lanes front).lanes x.lane) ≡ x.at
-    pub before : lane_of (made j.lanes front).lanes x.lane ≡ take x.at (lane_of j.lanes x.lane)
-    pub room : has_room (lane_items (lane_of j.lanes x.lane)) ≡ true
+    pub there : slice_get (lane_recs j.lanes x.lane) x.at ≡ Some r
+    pub long : length (lane_recs (made j.lanes front).lanes x.lane) ≡ x.at
+    pub before : lane_recs (made j.lanes front).lanes x.lane ≡ take x.at (lane_recs j.lanes x.lane)
+    pub room : has_room (lane_items (lane_recs j.lanes x.lane)) ≡ true
 
   pub room-before : (front behind : List RecordPlace) (x : RecordPlace) (r : Rec) → order ≡ front ++ x ∷ behind → record_at j.lanes x ≡ Some r → RoomBefore front x r
   unfolding EndHolds
@@ -234,11 +234,11 @@ module _ (sys : System) (stimuli : List (List Stim)) (j : Journal) (order : List
         within = f.within;
         there = f.is;
         long = long;
-        before = s.along.fronts x.lane ∙ ap (λ n. take n (lane_of j.lanes x.lane)) long;
+        before = s.along.fronts x.lane ∙ ap (λ n. take n (lane_recs j.lanes x.lane)) long;
         room = all-at (λ l. has_room (lane_items l)) j.lanes x.lane lawful.end.room f.within;
       }
     where
-      all-at : (p : List Rec → Bool) (ls : List (List Rec)) (a : ℕ) → list_all p ls ≡ true → a < length ls → p (lane_of ls a) ≡ true
+      all-at : (p : List Rec → Bool) (ls : List (List Rec)) (a : ℕ) → list_all p ls ≡ true → a < length ls → p (lane_recs ls a) ≡ true
       all-at p [] a h less = absurd (omega (arith, less))
       all-at p (l ∷ ls) zero h less = (and_parts _ _ h).0
       all-at p (l ∷ ls) (suc a) h less = all-at p ls a (and_parts _ _ h).1 (omega (arith, less))
@@ -248,7 +248,7 @@ module _ (sys : System) (stimuli : List (List Stim)) (j : Journal) (order : List
   ticks-of o H (item.Rearm t n former ticks) h = h.1
   ticks-of o H b h = tt
 
-  goes-on : (front behind : List RecordPlace) → order ≡ front ++ behind → GoesOn sys j.lanes front behind
+  goes-on : (front behind : List RecordPlace) → order ≡ front ++ behind → RerunGoesOn sys j.lanes front behind
   goes-on front behind split = record {
     sound = s.world;
     log = s.log;
@@ -269,22 +269,22 @@ module _ (sys : System) (stimuli : List (List Stim)) (j : Journal) (order : List
       s = state front behind split
 
   -- in the end all records are made
-  lane-count : (a : ℕ) → a < length j.lanes → times (λ y. y.lane == a) order ≡ length (lane_of j.lanes a)
+  lane-count : (a : ℕ) → a < length j.lanes → times (λ y. y.lane == a) order ≡ length (lane_recs j.lanes a)
   unfolding places
   lane-count a less =
       tally-permutation (λ y. y.lane == a) (places j.lanes) order serial.all
-      ∙ tally-same (λ y. y.lane == a) (below a (length (lane_of j.lanes a))) (places j.lanes) (every (There j.lanes) (λ y. (y.lane == a) ≡ below a (length (lane_of j.lanes a)) y) one (places j.lanes) (all-there j.lanes))
-      ∙ in-lane a (length (lane_of j.lanes a)) 0 a j.lanes (omega arith) less (omega arith)
+      ∙ tally-same (λ y. y.lane == a) (below a (length (lane_recs j.lanes a))) (places j.lanes) (every (There j.lanes) (λ y. (y.lane == a) ≡ below a (length (lane_recs j.lanes a)) y) one (places j.lanes) (all-there j.lanes))
+      ∙ in-lane a (length (lane_recs j.lanes a)) 0 a j.lanes (omega arith) less (omega arith)
     where
-      one : (y : RecordPlace) → There j.lanes y → (y.lane == a) ≡ below a (length (lane_of j.lanes a)) y
+      one : (y : RecordPlace) → There j.lanes y → (y.lane == a) ≡ below a (length (lane_recs j.lanes a)) y
       one y h = go (y.lane == a) refl
         where
-          go : (u : Bool) → (y.lane == a) ≡ u → u ≡ (u && nat_lt y.at (length (lane_of j.lanes a)))
+          go : (u : Bool) → (y.lane == a) ≡ u → u ≡ (u && nat_lt y.at (length (lane_recs j.lanes a)))
           go false e = refl
           go true e =
               let same : y.lane ≡ a = eqb-true y.lane a e in
-              let few : y.at < length (lane_of j.lanes a) = subst (λ k. y.at < length (lane_of j.lanes k)) same h.place in
-              let test : nat_lt y.at (length (lane_of j.lanes a)) ≡ true = grind (arith, nat_tests, few) in
+              let few : y.at < length (lane_recs j.lanes a) = subst (λ k. y.at < length (lane_recs j.lanes k)) same h.place in
+              let test : nat_lt y.at (length (lane_recs j.lanes a)) ≡ true = grind (arith, nat_tests, few) in
               sym test
 
   all-made : (made j.lanes order).lanes ≡ j.lanes
@@ -293,8 +293,8 @@ module _ (sys : System) (stimuli : List (List Stim)) (j : Journal) (order : List
       s : State (made j.lanes order) order
       s = state order [] (sym (append-nil order))
 
-      lane : (a : ℕ) → a < length j.lanes → lane_of (made j.lanes order).lanes a ≡ lane_of j.lanes a
-      lane a less = s.along.fronts a ∙ ap (λ n. take n (lane_of j.lanes a)) (s.along.counts a ∙ lane-count a less) ∙ take_all (length (lane_of j.lanes a)) (lane_of j.lanes a) (omega arith)
+      lane : (a : ℕ) → a < length j.lanes → lane_recs (made j.lanes order).lanes a ≡ lane_recs j.lanes a
+      lane a less = s.along.fronts a ∙ ap (λ n. take n (lane_recs j.lanes a)) (s.along.counts a ∙ lane-count a less) ∙ take_all (length (lane_recs j.lanes a)) (lane_recs j.lanes a) (omega arith)
 
 pub one-thread : OneThreadMakesIt
 one-thread sys stimuli j order sound fit lawful serial = (goes-on sys stimuli j order sound fit lawful serial, all-made sys stimuli j order sound fit lawful serial)

@@ -11,7 +11,7 @@ use Rattle.qp_model.specs.declared.record.Rec.{Rec}
 use Rattle.qp_model.specs.History.{Touch, Draws, Shows, Neither, same_word}
 use Rattle.qp_model.specs.Places.{RecordPlace, item_at, must_precede, places, places_from, places_in, touch_at, touch_first}
 use Rattle.qp_replay.specs.Orders.{GoesNext, GoesNextEach, IsLowestOrder, IsUnblocked, is_record}
-use Rattle.qp_replay.specs.Remaining.{Blocks, HasNext, MayGo, Standing, front, head, place}
+use Rattle.qp_replay.specs.Remaining.{Blocks, HasNext, MayGo, LaneFronts, front, head, record_place}
 use Rattle.qp_replay.proofs.RemainingLemmas.{lane-of, length-fronts, no-front, record-test}
 
 -- the places of the records that stand in the order, lane by lane
@@ -28,11 +28,11 @@ left (l ∷ ls) [] = 0
 left (l ∷ ls) (f ∷ fs) = (length l - f) + left ls fs
 
 -- with the next record of a lane
-abbrev pub passed_on : Standing → ℕ → Standing
+abbrev pub passed_on : LaneFronts → ℕ → LaneFronts
 passed_on st n = record { lanes = st.lanes; fronts = set st.fronts n (front st n + 1) }
 
 -- The order so far has just the records before the fronts, and keeps all that is asked of an order.
-pub record Kept (st : Standing) (order : List RecordPlace) : Type 0 where
+pub record Kept (st : LaneFronts) (order : List RecordPlace) : Type 0 where
   pub each : length st.fronts ≡ length st.lanes
   pub all : IsPermutation (taken 0 st.lanes st.fronts) order
   pub stand : (x : RecordPlace) → Contains order x → IsTrue (is_record st.lanes x) × (x.at < front st x.lane)
@@ -84,32 +84,32 @@ goes-more lanes before [] x on next = (subst (λ l. GoesNext lanes l x) (append-
 goes-more lanes before (y ∷ ys) x on next = (on.0, goes-more lanes (before ++ y ∷ []) ys x on.1 (subst (λ l. GoesNext lanes l x) (sym (append_assoc before (y ∷ []) ys)) next))
 
 -- places of a longer front
-places-more : (lane at : ℕ) (l : List Rec) (k : ℕ) → k < length l → places_in lane at (take (suc k) l) ≡ places_in lane at (take k l) ++ place lane (at + k) ∷ []
+places-more : (lane at : ℕ) (l : List Rec) (k : ℕ) → k < length l → places_in lane at (take (suc k) l) ≡ places_in lane at (take k l) ++ record_place lane (at + k) ∷ []
 unfolding places_in
 places-more lane at [] k less = absurd (omega (arith, less))
-places-more lane at (r ∷ rs) zero less = ap (λ n. place lane n ∷ []) (omega arith)
+places-more lane at (r ∷ rs) zero less = ap (λ n. record_place lane n ∷ []) (omega arith)
 places-more lane at (r ∷ rs) (suc k) less =
-    ap (λ l. place lane at ∷ l) (places-more lane (suc at) rs k (omega (arith, less))) ∙ ap (λ n. place lane at ∷ (places_in lane (suc at) (take k rs) ++ place lane n ∷ [])) (omega arith)
+    ap (λ l. record_place lane at ∷ l) (places-more lane (suc at) rs k (omega (arith, less))) ∙ ap (λ n. record_place lane at ∷ (places_in lane (suc at) (take k rs) ++ record_place lane n ∷ [])) (omega arith)
 
 pub taken-more : (lane : ℕ) (lanes : List (List Rec)) (fronts : List ℕ) (n : ℕ) → n < length fronts → get_or fronts n 0 < length (get_or lanes n [])
-    → IsPermutation (taken lane lanes (set fronts n (get_or fronts n 0 + 1))) (place (lane + n) (get_or fronts n 0) ∷ taken lane lanes fronts)
+    → IsPermutation (taken lane lanes (set fronts n (get_or fronts n 0 + 1))) (record_place (lane + n) (get_or fronts n 0) ∷ taken lane lanes fronts)
 unfolding taken
 taken-more lane [] fronts n within less = absurd (omega (arith, less))
 taken-more lane (l ∷ ls) [] n within less = absurd (omega (arith, within))
 taken-more lane (l ∷ ls) (f ∷ fs) zero within less =
-    let more : places_in lane 0 (take (f + 1) l) ≡ places_in lane 0 (take f l) ++ place lane f ∷ [] = rw add-one (places-more lane 0 l f less ∙ ap (λ k. places_in lane 0 (take f l) ++ place lane k ∷ []) (omega arith)) in
+    let more : places_in lane 0 (take (f + 1) l) ≡ places_in lane 0 (take f l) ++ record_place lane f ∷ [] = rw add-one (places-more lane 0 l f less ∙ ap (λ k. places_in lane 0 (take f l) ++ record_place lane k ∷ []) (omega arith)) in
     let remaining = taken (suc lane) ls fs in
     let P = places_in lane 0 (take f l) in
-    let whole : P ++ (place lane f ∷ remaining) ≡ places_in lane 0 (take (f + 1) l) ++ remaining = sym (ap (λ (z : List RecordPlace). z ++ remaining) more ∙ append_assoc P (place lane f ∷ []) remaining) in
+    let whole : P ++ (record_place lane f ∷ remaining) ≡ places_in lane 0 (take (f + 1) l) ++ remaining = sym (ap (λ (z : List RecordPlace). z ++ remaining) more ∙ append_assoc P (record_place lane f ∷ []) remaining) in
     let at : lane ≡ lane + 0 = omega arith in
-    subst (λ (z : List RecordPlace). IsPermutation z (place (lane + 0) f ∷ (P ++ remaining))) whole (subst (λ k. IsPermutation (P ++ (place lane f ∷ remaining)) (place k f ∷ (P ++ remaining))) at (IsPermutation-middle P (place lane f) remaining))
+    subst (λ (z : List RecordPlace). IsPermutation z (record_place (lane + 0) f ∷ (P ++ remaining))) whole (subst (λ k. IsPermutation (P ++ (record_place lane f ∷ remaining)) (record_place k f ∷ (P ++ remaining))) at (IsPermutation-middle P (record_place lane f) remaining))
 taken-more lane (l ∷ ls) (f ∷ fs) (suc n) within less =
     let k = get_or fs n 0 in
     let P = places_in lane 0 (take f l) in
     let T = taken (suc lane) ls fs in
     let at : suc lane + n ≡ lane + suc n = omega arith in
-    let more = IsPermutation-trans _ _ _ (IsPermutation-append_right P _ _ (taken-more (suc lane) ls fs n (omega (arith, within)) less)) (IsPermutation-middle P (place (suc lane + n) k) T) in
-    subst (λ i. IsPermutation (P ++ taken (suc lane) ls (set fs n (k + 1))) (place i k ∷ (P ++ T))) at more
+    let more = IsPermutation-trans _ _ _ (IsPermutation-append_right P _ _ (taken-more (suc lane) ls fs n (omega (arith, within)) less)) (IsPermutation-middle P (record_place (suc lane + n) k) T) in
+    subst (λ i. IsPermutation (P ++ taken (suc lane) ls (set fs n (k + 1))) (record_place i k ∷ (P ++ T))) at more
 
 -- fewer are left
 pub left-less : (lanes : List (List Rec)) (fronts : List ℕ) (n : ℕ) → n < length fronts → get_or fronts n 0 < length (get_or lanes n []) → left lanes (set fronts n (get_or fronts n 0 + 1)) < left lanes fronts
@@ -145,7 +145,7 @@ nothing-kept lanes = record {
   pairs = λ i j x y a b first. absurd (cc a);
 }
 
-module _ (st : Standing) (order : List RecordPlace) (n : ℕ) (kept : Kept st order) (go : MayGo st n) (lowest : (k : ℕ) → k < n → MayGo st k → ⊥) where
+module _ (st : LaneFronts) (order : List RecordPlace) (n : ℕ) (kept : Kept st order) (go : MayGo st n) (lowest : (k : ℕ) → k < n → MayGo st k → ⊥) where
   within : (n < length st.lanes) × (front st n < length (get_or st.lanes n []))
   within = lane-of st.lanes n (front st n) go.next
 
@@ -247,7 +247,7 @@ module _ (st : Standing) (order : List RecordPlace) (n : ℕ) (kept : Kept st or
   all-more : IsPermutation (taken 0 st.lanes (passed_on st n).fronts) (order ++ head st n ∷ [])
   all-more =
       let x = head st n in
-      let more : IsPermutation (taken 0 st.lanes (passed_on st n).fronts) (x ∷ taken 0 st.lanes st.fronts) = subst (λ k. IsPermutation (taken 0 st.lanes (passed_on st n).fronts) (place k (front st n) ∷ taken 0 st.lanes st.fronts)) (omega arith) (taken-more 0 st.lanes st.fronts n among within.1) in
+      let more : IsPermutation (taken 0 st.lanes (passed_on st n).fronts) (x ∷ taken 0 st.lanes st.fronts) = subst (λ k. IsPermutation (taken 0 st.lanes (passed_on st n).fronts) (record_place k (front st n) ∷ taken 0 st.lanes st.fronts)) (omega arith) (taken-more 0 st.lanes st.fronts n among within.1) in
       IsPermutation-trans _ _ _ more (IsPermutation-trans _ _ _ (IsPermutation-cons x _ _ kept.all) (IsPermutation-sym _ _ (IsPermutation-to_front order x)))
 
   pub kept-more : Kept (passed_on st n) (order ++ head st n ∷ [])
@@ -262,11 +262,11 @@ module _ (st : Standing) (order : List RecordPlace) (n : ℕ) (kept : Kept st or
   }
 
 -- fewer records are left behind the next one
-pub fewer : (st : Standing) (n : ℕ) → length st.fronts ≡ length st.lanes → HasNext st n → left st.lanes (passed_on st n).fronts < left st.lanes st.fronts
+pub fewer : (st : LaneFronts) (n : ℕ) → length st.fronts ≡ length st.lanes → HasNext st n → left st.lanes (passed_on st n).fronts < left st.lanes st.fronts
 fewer st n each next = let at = lane-of st.lanes n (front st n) next in left-less st.lanes st.fronts n (omega (arith, at.0, each)) at.1
 
 -- an order in which no lane has a record left
-module _ (st : Standing) (order : List RecordPlace) (kept : Kept st order) (none : (n : ℕ) → HasNext st n → ⊥) where
+module _ (st : LaneFronts) (order : List RecordPlace) (kept : Kept st order) (none : (n : ℕ) → HasNext st n → ⊥) where
   at-end : (n : ℕ) → length (get_or st.lanes n []) ≤ front st n
   at-end n = ⊎_elim (λ less. absurd (none n (record-test st.lanes n (front st n) ∙ lt-ltb (front st n) (length (get_or st.lanes n [])) less))) (λ le. le) (cases_lt (front st n) (length (get_or st.lanes n [])))
 

@@ -14,7 +14,7 @@ use Rattle.qp_model.specs.Places.{RecordPlace, item_at, must_precede, touch_at, 
 use Rattle.qp_check_lanes.specs.Keys.{key_of}
 use Rattle.qp_replay.specs.Orders.{is_record}
 use Rattle.qp_replay.specs.Marks.{has_mark}
-use Rattle.qp_replay.specs.Remaining.{Blocks, HasNext, IsRemaining, Standing, draws_mark, front, head, place, record_in, shows_mark}
+use Rattle.qp_replay.specs.Remaining.{Blocks, HasNext, IsRemaining, LaneFronts, draws_mark, front, head, record_place, record_in, shows_mark}
 use Rattle.qp_replay.specs.declared.marks.Marks.{Marks}
 
 -- one record more in a lane, under a test that none passes where there is no record
@@ -30,7 +30,7 @@ record_in-more f none (x ∷ xs) r (suc k) = let same : (length (x ∷ xs) == su
 
 -- one lane more
 pub item_at-more : (f : Option Item → Bool) → f None ≡ false → (xs : List (List Rec)) (l : List Rec) (n k : ℕ)
-    → f (item_at (xs ++ l ∷ []) (place n k)) ≡ (f (item_at xs (place n k)) || ((length xs == n) && f (record_in l k)))
+    → f (item_at (xs ++ l ∷ []) (record_place n k)) ≡ (f (item_at xs (record_place n k)) || ((length xs == n) && f (record_in l k)))
 unfolding item_at record_in
 item_at-more f none [] l zero k = rw none refl
 item_at-more f none [] l (suc n) k = let no : (0 == suc n) ≡ false = grind (arith, nat_tests) in rw (none, no) refl
@@ -55,12 +55,12 @@ put-next f none xs r k first b has more was is =
     go false false F D E = and-false D
     go false true F D E = refl
 
-pub lane-next : (f : Option Item → Bool) → f None ≡ false → (xs : List (List Rec)) (l : List Rec) (n k : ℕ) (has more : Bool) → has ≡ f (item_at xs (place n k))
-    → more ≡ (has || ((length xs == n) && f (record_in l k))) → more ≡ f (item_at (xs ++ l ∷ []) (place n k))
+pub lane-next : (f : Option Item → Bool) → f None ≡ false → (xs : List (List Rec)) (l : List Rec) (n k : ℕ) (has more : Bool) → has ≡ f (item_at xs (record_place n k))
+    → more ≡ (has || ((length xs == n) && f (record_in l k))) → more ≡ f (item_at (xs ++ l ∷ []) (record_place n k))
 lane-next f none xs l n k has more was is = is ∙ ap (λ h. h || ((length xs == n) && f (record_in l k))) was ∙ sym (item_at-more f none xs l n k)
 
 -- no lane has a record where there is none
-pub no-lane : (n k : ℕ) → item_at [] (place n k) ≡ None
+pub no-lane : (n k : ℕ) → item_at [] (record_place n k) ≡ None
 unfolding item_at
 no-lane n k = refl
 
@@ -71,14 +71,14 @@ lane-test [] k = grind (arith, nat_tests)
 lane-test (x ∷ xs) zero = grind (arith, nat_tests)
 lane-test (x ∷ xs) (suc k) = lane-test xs k ∙ grind (arith, nat_tests)
 
-pub record-test : (lanes : List (List Rec)) (n k : ℕ) → is_record lanes (place n k) ≡ nat_lt k (length (get_or lanes n []))
+pub record-test : (lanes : List (List Rec)) (n k : ℕ) → is_record lanes (record_place n k) ≡ nat_lt k (length (get_or lanes n []))
 unfolding is_record item_at record_in
 record-test [] n k = grind (arith, nat_tests)
 record-test (l ∷ ls) zero k = lane-test l k
 record-test (l ∷ ls) (suc n) k = record-test ls n k
 
 -- the record that is found
-pub item_at-found : (lanes : List (List Rec)) (n k : ℕ) (l : List Rec) (r : Rec) → n < length lanes → get_or lanes n l ≡ l → k < length l → get_or l k r ≡ r → item_at lanes (place n k) ≡ Some (item_of r)
+pub item_at-found : (lanes : List (List Rec)) (n k : ℕ) (l : List Rec) (r : Rec) → n < length lanes → get_or lanes n l ≡ l → k < length l → get_or l k r ≡ r → item_at lanes (record_place n k) ≡ Some (item_of r)
 unfolding item_at
 item_at-found [] n k l r within is small found = absurd (omega (arith, within))
 item_at-found (x ∷ lanes) zero k l r within is small found = ap (λ l. option_and_then (λ r. Some (item_of r)) (slice_get l k)) is ∙ go l k small found
@@ -90,7 +90,7 @@ item_at-found (x ∷ lanes) zero k l r within is small found = ap (λ l. option_
 item_at-found (x ∷ lanes) (suc n) k l r within is small found = item_at-found lanes n k l r (omega (arith, within)) is small found
 
 -- a lane with a record is one of the lanes
-pub lane-of : (lanes : List (List Rec)) (n k : ℕ) → IsTrue (is_record lanes (place n k)) → (n < length lanes) × (k < length (get_or lanes n []))
+pub lane-of : (lanes : List (List Rec)) (n k : ℕ) → IsTrue (is_record lanes (record_place n k)) → (n < length lanes) × (k < length (get_or lanes n []))
 lane-of lanes n k h =
     let within : k < length (get_or lanes n []) = grind (arith, nat_tests, record-test lanes n k, h) in
     (go lanes n within, within)
@@ -118,7 +118,7 @@ shows-touch w m (Draws v n) h = absurd (cc h)
 shows-touch w m Neither h = absurd (cc h)
 
 -- a record that isn't in the order yet and whose touch comes first
-blocks : (st : Standing) (n : ℕ) (x : RecordPlace) (t : Touch) → front st x.lane ≤ x.at → touch_at (item_at st.lanes (head st n)) ≡ t
+blocks : (st : LaneFronts) (n : ℕ) (x : RecordPlace) (t : Touch) → front st x.lane ≤ x.at → touch_at (item_at st.lanes (head st n)) ≡ t
     → is_some (item_at st.lanes x) ≡ true → touch_first (touch_at (item_at st.lanes x)) t ≡ true → Blocks st n x
 unfolding is_record must_precede
 blocks st n x t behind is stands first = record {
@@ -135,24 +135,24 @@ shown-there : (o : Option Item) (v : Word) (m : ℕ) → touch_at o ≡ Shows v 
 shown-there None v m is = absurd (cc is)
 shown-there (Some i) v m is = refl
 
-pub draw-blocks : (st : Standing) (draws shows : Marks) (n : ℕ) (v : Word) (m l p : ℕ) (t : Touch) → IsRemaining st.lanes st.fronts draws shows → touch_at (item_at st.lanes (head st n)) ≡ t
-    → has_mark draws (key_of v) (m, l, p) ≡ true → ((u : Word) → same_word u v ≡ true → touch_first (Draws u m) t ≡ true) → Blocks st n (place l p)
+pub draw-blocks : (st : LaneFronts) (draws shows : Marks) (n : ℕ) (v : Word) (m l p : ℕ) (t : Touch) → IsRemaining st.lanes st.fronts draws shows → touch_at (item_at st.lanes (head st n)) ≡ t
+    → has_mark draws (key_of v) (m, l, p) ≡ true → ((u : Word) → same_word u v ≡ true → touch_first (Draws u m) t ≡ true) → Blocks st n (record_place l p)
 draw-blocks st draws shows n v m l p t remaining is has first =
-    let parts = and_parts (nat_le (front st l) p) (draws_mark v m (touch_at (item_at st.lanes (place l p)))) (sym (remaining.draws_are v m l p) ∙ has) in
-    let found = draws-touch v m (touch_at (item_at st.lanes (place l p))) parts.1 in
+    let parts = and_parts (nat_le (front st l) p) (draws_mark v m (touch_at (item_at st.lanes (record_place l p)))) (sym (remaining.draws_are v m l p) ∙ has) in
+    let found = draws-touch v m (touch_at (item_at st.lanes (record_place l p))) parts.1 in
     let behind : front st l ≤ p = grind (arith, nat_tests, parts.0) in
-    blocks st n (place l p) t behind is (drawn-there (item_at st.lanes (place l p)) found.0 m found.1) (rw found.1 (first found.0 found.2))
+    blocks st n (record_place l p) t behind is (drawn-there (item_at st.lanes (record_place l p)) found.0 m found.1) (rw found.1 (first found.0 found.2))
 
-pub show-blocks : (st : Standing) (draws shows : Marks) (n : ℕ) (v : Word) (m l p : ℕ) (t : Touch) → IsRemaining st.lanes st.fronts draws shows → touch_at (item_at st.lanes (head st n)) ≡ t
-    → has_mark shows (key_of v) (m, l, p) ≡ true → ((u : Word) → same_word u v ≡ true → touch_first (Shows u m) t ≡ true) → Blocks st n (place l p)
+pub show-blocks : (st : LaneFronts) (draws shows : Marks) (n : ℕ) (v : Word) (m l p : ℕ) (t : Touch) → IsRemaining st.lanes st.fronts draws shows → touch_at (item_at st.lanes (head st n)) ≡ t
+    → has_mark shows (key_of v) (m, l, p) ≡ true → ((u : Word) → same_word u v ≡ true → touch_first (Shows u m) t ≡ true) → Blocks st n (record_place l p)
 show-blocks st draws shows n v m l p t remaining is has first =
-    let parts = and_parts (nat_le (front st l) p) (shows_mark v m (touch_at (item_at st.lanes (place l p)))) (sym (remaining.shows_are v m l p) ∙ has) in
-    let found = shows-touch v m (touch_at (item_at st.lanes (place l p))) parts.1 in
+    let parts = and_parts (nat_le (front st l) p) (shows_mark v m (touch_at (item_at st.lanes (record_place l p)))) (sym (remaining.shows_are v m l p) ∙ has) in
+    let found = shows-touch v m (touch_at (item_at st.lanes (record_place l p))) parts.1 in
     let behind : front st l ≤ p = grind (arith, nat_tests, parts.0) in
-    blocks st n (place l p) t behind is (shown-there (item_at st.lanes (place l p)) found.0 m found.1) (rw found.1 (first found.0 found.2))
+    blocks st n (record_place l p) t behind is (shown-there (item_at st.lanes (record_place l p)) found.0 m found.1) (rw found.1 (first found.0 found.2))
 
 -- what blocks a lane touches its word
-blocked-by : (st : Standing) (n : ℕ) (x : RecordPlace) → Blocks st n x → touch_first (touch_at (item_at st.lanes x)) (touch_at (item_at st.lanes (head st n))) ≡ true
+blocked-by : (st : LaneFronts) (n : ℕ) (x : RecordPlace) → Blocks st n x → touch_first (touch_at (item_at st.lanes x)) (touch_at (item_at st.lanes (head st n))) ≡ true
 unfolding must_precede
 blocked-by st n x b = go (x.lane == n) (nat_lt x.at (front st n)) refl refl b.first
   where
@@ -166,14 +166,14 @@ blocked-by st n x b = go (x.lane == n) (nat_lt x.at (front st n)) refl refl b.fi
         let less : x.at < front st n = grind (arith, nat_tests) in
         absurd (omega (arith, behind, less))
 
-waits-draws : (st : Standing) (draws shows : Marks) (x : RecordPlace) (u v : Word) (m : ℕ) → IsRemaining st.lanes st.fronts draws shows → front st x.lane ≤ x.at → touch_at (item_at st.lanes x) ≡ Draws u m → same_word u v ≡ true
+waits-draws : (st : LaneFronts) (draws shows : Marks) (x : RecordPlace) (u v : Word) (m : ℕ) → IsRemaining st.lanes st.fronts draws shows → front st x.lane ≤ x.at → touch_at (item_at st.lanes x) ≡ Draws u m → same_word u v ≡ true
     → has_mark draws (key_of v) (m, x.lane, x.at) ≡ true
 waits-draws st draws shows x u v m remaining behind is same =
     let le : nat_le (front st x.lane) x.at ≡ true = grind (arith, nat_tests, behind) in
     let eq : (m == m) ≡ true = grind (arith, nat_tests) in
     remaining.draws_are v m x.lane x.at ∙ rw (le, is, same, eq) refl
 
-waits-shows : (st : Standing) (draws shows : Marks) (x : RecordPlace) (u v : Word) (m : ℕ) → IsRemaining st.lanes st.fronts draws shows → front st x.lane ≤ x.at → touch_at (item_at st.lanes x) ≡ Shows u m → same_word u v ≡ true
+waits-shows : (st : LaneFronts) (draws shows : Marks) (x : RecordPlace) (u v : Word) (m : ℕ) → IsRemaining st.lanes st.fronts draws shows → front st x.lane ≤ x.at → touch_at (item_at st.lanes x) ≡ Shows u m → same_word u v ≡ true
     → has_mark shows (key_of v) (m, x.lane, x.at) ≡ true
 waits-shows st draws shows x u v m remaining behind is same =
     let le : nat_le (front st x.lane) x.at ≡ true = grind (arith, nat_tests, behind) in
@@ -181,7 +181,7 @@ waits-shows st draws shows x u v m remaining behind is same =
     remaining.shows_are v m x.lane x.at ∙ rw (le, is, same, eq) refl
 
 -- nothing blocks a record that draws a number, where no lower mark is left
-pub draw-free : (st : Standing) (draws shows : Marks) (n : ℕ) (v : Word) (mark : ℕ) → IsRemaining st.lanes st.fronts draws shows → touch_at (item_at st.lanes (head st n)) ≡ Draws v mark
+pub draw-free : (st : LaneFronts) (draws shows : Marks) (n : ℕ) (v : Word) (mark : ℕ) → IsRemaining st.lanes st.fronts draws shows → touch_at (item_at st.lanes (head st n)) ≡ Draws v mark
     → ((e : ℕ × ℕ × ℕ) → has_mark draws (key_of v) e ≡ true → mark ≤ e.0) → ((e : ℕ × ℕ × ℕ) → has_mark shows (key_of v) e ≡ true → mark ≤ e.0) → (x : RecordPlace) → Blocks st n x → ⊥
 draw-free st draws shows n v mark remaining is drawn shown x b = go (touch_at (item_at st.lanes x)) refl (sym (ap (touch_first (touch_at (item_at st.lanes x))) is) ∙ blocked-by st n x b)
   where
@@ -199,7 +199,7 @@ draw-free st draws shows n v mark remaining is drawn shown x b = go (touch_at (i
     go Neither e h = let wrong = ap (λ t. touch_first t (Draws v mark)) (sym e) ∙ h in cc wrong
 
 -- nothing blocks a record that shows its word, where no number below what it shows is left
-pub show-free : (st : Standing) (draws shows : Marks) (n : ℕ) (v : Word) (mark : ℕ) → IsRemaining st.lanes st.fronts draws shows → touch_at (item_at st.lanes (head st n)) ≡ Shows v mark
+pub show-free : (st : LaneFronts) (draws shows : Marks) (n : ℕ) (v : Word) (mark : ℕ) → IsRemaining st.lanes st.fronts draws shows → touch_at (item_at st.lanes (head st n)) ≡ Shows v mark
     → ((e : ℕ × ℕ × ℕ) → has_mark draws (key_of v) e ≡ true → mark < e.0) → (x : RecordPlace) → Blocks st n x → ⊥
 show-free st draws shows n v mark remaining is drawn x b = go (touch_at (item_at st.lanes x)) refl (sym (ap (touch_first (touch_at (item_at st.lanes x))) is) ∙ blocked-by st n x b)
   where
@@ -213,7 +213,7 @@ show-free st draws shows n v mark remaining is drawn x b = go (touch_at (item_at
     go Neither e h = let wrong = ap (λ t. touch_first t (Shows v mark)) (sym e) ∙ h in cc wrong
 
 -- nothing blocks a record that is on no word
-pub none-free : (st : Standing) (n : ℕ) → touch_at (item_at st.lanes (head st n)) ≡ Neither → (x : RecordPlace) → Blocks st n x → ⊥
+pub none-free : (st : LaneFronts) (n : ℕ) → touch_at (item_at st.lanes (head st n)) ≡ Neither → (x : RecordPlace) → Blocks st n x → ⊥
 none-free st n is x b = go (touch_at (item_at st.lanes x)) (sym (ap (touch_first (touch_at (item_at st.lanes x))) is) ∙ blocked-by st n x b)
   where
     go : (t : Touch) → touch_first t Neither ≡ true → ⊥
@@ -286,11 +286,11 @@ lane-small (l ∷ ls) small zero = small.0
 lane-small (l ∷ ls) small (suc n) = lane-small ls small.1 n
 
 -- the next record of a lane, by the parts of what holds the lanes and fronts
-pub next-at : (st : Standing) (lanes : List (List Rec)) (n k : ℕ) → st.lanes ≡ lanes → k ≡ front st n → HasNext st n → IsTrue (is_record lanes (place n k))
-next-at st lanes n k same at next = ap (λ l. is_record l (place n k)) (sym same) ∙ ap (λ k. is_record st.lanes (place n k)) at ∙ next
+pub next-at : (st : LaneFronts) (lanes : List (List Rec)) (n k : ℕ) → st.lanes ≡ lanes → k ≡ front st n → HasNext st n → IsTrue (is_record lanes (record_place n k))
+next-at st lanes n k same at next = ap (λ l. is_record l (record_place n k)) (sym same) ∙ ap (λ k. is_record st.lanes (record_place n k)) at ∙ next
 
-pub touch-of : (st : Standing) (lanes : List (List Rec)) (n k : ℕ) (t : Touch) → st.lanes ≡ lanes → k ≡ front st n → t ≡ touch_at (item_at lanes (place n k)) → t ≡ touch_at (item_at st.lanes (head st n))
-touch-of st lanes n k t same at is = is ∙ ap (λ l. touch_at (item_at l (place n k))) (sym same) ∙ ap (λ k. touch_at (item_at st.lanes (place n k))) at
+pub touch-of : (st : LaneFronts) (lanes : List (List Rec)) (n k : ℕ) (t : Touch) → st.lanes ≡ lanes → k ≡ front st n → t ≡ touch_at (item_at lanes (record_place n k)) → t ≡ touch_at (item_at st.lanes (head st n))
+touch-of st lanes n k t same at is = is ∙ ap (λ l. touch_at (item_at l (record_place n k))) (sym same) ∙ ap (λ k. touch_at (item_at st.lanes (record_place n k))) at
 
 pub match-map : {A : Type 0} (r : Option A) (P P' : Type 0) (Q Q' : A → Type 0) → MatchOption r P Q → (P → P') → ((x : A) → Q x → Q' x) → MatchOption r P' Q'
 match-map None P P' Q Q' h none some = none h

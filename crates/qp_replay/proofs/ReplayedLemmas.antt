@@ -11,7 +11,7 @@ use Rattle.qp_model.specs.OutputText.{line_text}
 use Rattle.qp_model.specs.Places.{RecordPlace, item_at}
 use Rattle.qp_model.specs.Record.{item_of}
 use Rattle.qp_replay.specs.Orders.{GoesNextEach, is_record}
-use Rattle.qp_replay.specs.Replaying.{IsAnswer, IsReplay}
+use Rattle.qp_replay.specs.Replaying.{IsReplayAnswer, IsReplay}
 use Rattle.qp_replay.specs.declared.places.Replayed.{Replayed}
 use Rattle.qp_replay.specs.declared.places.Replayed.TheVariants.{Order, Cycle}
 use Rattle.qp_replay.specs.Text.{AreRecords, place_line}
@@ -21,7 +21,7 @@ goes-stand : (lanes : List (List Rec)) (before xs : List RecordPlace) → GoesNe
 goes-stand lanes before [] goes = tt
 goes-stand lanes before (x ∷ xs) goes = (goes.0.stands, goes-stand lanes (before ++ x ∷ []) xs goes.1)
 
-pub answer-stands : (lanes : List (List Rec)) (r : Replayed) → IsAnswer lanes r → AreRecords lanes r
+pub answer-stands : (lanes : List (List Rec)) (r : Replayed) → IsReplayAnswer lanes r → AreRecords lanes r
 answer-stands lanes (Order xs) (order, none) = goes-stand lanes [] xs order.lowest
 answer-stands lanes (Cycle xs) cycle = cycle.stand
 

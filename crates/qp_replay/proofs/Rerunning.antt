@@ -25,7 +25,7 @@ use Rattle.qp_model.specs.Sound.{IsSound}
 use Rattle.qp_model.specs.Lawful.{Lawful}
 use Rattle.qp_stim.specs.Rules.{StimuliFit}
 use Rattle.qp_calls.specs.Counting.{times}
-use Rattle.qp_plain_sound.specs.Log.{Orders, empty_lanes, lane_of, log_of, with_record}
+use Rattle.qp_plain_sound.specs.Log.{Orders, empty_lanes, lane_recs, log_of, with_record}
 use Rattle.qp_plain_sound.specs.May.{May}
 use Rattle.qp_plain_sound.specs.Sound.{hands_in}
 use Rattle.qp_plain_sound.proofs.NewLemmas.{no-lane}
@@ -35,7 +35,7 @@ use Rattle.qp_plain.specs.Books.{log_recs}
 use Rattle.qp_plain.specs.NewWorld.{GoesTo, IsNewWorld, lanes_in}
 use Rattle.qp_plain.specs.Repeat.{FitsTimer, LaneIsWithin, MayRepeat, Remains, Repeats, lane_in}
 use Rattle.qp_replay.specs.declared.marks.At.{At}
-use Rattle.qp_replay.specs.Remaining.{place}
+use Rattle.qp_replay.specs.Remaining.{record_place}
 use Rattle.qp_replay.specs.RerunLaws.{ComesNext, TicksFit, World, made, made_on, record_at, with_next}
 use Rattle.qp_replay.specs.Rerun.{MayGoNext, IsRerun, world_in}
 use Rattle.qp_replay.proofs.OneThread.{a_record, empty-length, lanes-same, made-push, one-thread, room-before}
@@ -72,26 +72,26 @@ lanes-few sys stimuli j sound fit lawful = go (j.kernel == port) (lawful.sources
     go false h = let is : length j.lanes ≡ 1 + length stimuli = grind (arith, nat_tests, h) in omega (arith, is, fit.few)
 
 -- The record at a place, as it is read.
-at-place : (lanes : List (List Rec)) (n k : ℕ) (r : Rec) → record_at lanes (place n k) ≡ Some r → (l : List Rec) × (slice_get lanes n ≡ Some l) × (slice_get l k ≡ Some r)
+at-place : (lanes : List (List Rec)) (n k : ℕ) (r : Rec) → record_at lanes (record_place n k) ≡ Some r → (l : List Rec) × (slice_get lanes n ≡ Some l) × (slice_get l k ≡ Some r)
 at-place lanes n k r at = go (slice_get lanes n) refl at
   where
     go : (o : Option (List Rec)) → slice_get lanes n ≡ o → option_and_then (λ lane. slice_get lane k) o ≡ Some r → (l : List Rec) × (slice_get lanes n ≡ Some l) × (slice_get l k ≡ Some r)
     go None e h = absurd (cc)
     go (Some l) e h = (l, e, h)
 
-pub lane-within : (lanes : List (List Rec)) (n k : ℕ) (r : Rec) → record_at lanes (place n k) ≡ Some r → n < length lanes
+pub lane-within : (lanes : List (List Rec)) (n k : ℕ) (r : Rec) → record_at lanes (record_place n k) ≡ Some r → n < length lanes
 lane-within lanes n k r at = let f = at-place lanes n k r at in slice_get_within lanes n f.0 f.1
 
-lane-read : (lanes : List (List Rec)) (n k : ℕ) (r : Rec) → record_at lanes (place n k) ≡ Some r → (lane : List Rec) → lane ≡ get_or lanes n lane → slice_get lane k ≡ Some r
+lane-read : (lanes : List (List Rec)) (n k : ℕ) (r : Rec) → record_at lanes (record_place n k) ≡ Some r → (lane : List Rec) → lane ≡ get_or lanes n lane → slice_get lane k ≡ Some r
 lane-read lanes n k r at lane is =
     let f = at-place lanes n k r at in
     let same : f.0 ≡ lane = same_Some f.0 lane (sym f.1 ∙ slice_get-get_or lanes n lane (lane-within lanes n k r at) ∙ ap Some (sym is)) in
     subst (λ (l : List Rec). slice_get l k ≡ Some r) same f.2
 
-pub place-within : (lanes : List (List Rec)) (n k : ℕ) (r : Rec) → record_at lanes (place n k) ≡ Some r → (lane : List Rec) → lane ≡ get_or lanes n lane → k < length lane
+pub place-within : (lanes : List (List Rec)) (n k : ℕ) (r : Rec) → record_at lanes (record_place n k) ≡ Some r → (lane : List Rec) → lane ≡ get_or lanes n lane → k < length lane
 place-within lanes n k r at lane is = slice_get_within lane k r (lane-read lanes n k r at lane is)
 
-pub record-read : (lanes : List (List Rec)) (n k : ℕ) (r : Rec) → record_at lanes (place n k) ≡ Some r → (lane : List Rec) (x : Rec) → lane ≡ get_or lanes n lane → x ≡ get_or lane k x → x ≡ r
+pub record-read : (lanes : List (List Rec)) (n k : ℕ) (r : Rec) → record_at lanes (record_place n k) ≡ Some r → (lane : List Rec) (x : Rec) → lane ≡ get_or lanes n lane → x ≡ get_or lane k x → x ≡ r
 record-read lanes n k r at lane x is here =
     let read = lane-read lanes n k r at lane is in
     here ∙ same_Some (get_or lane k x) r (sym (slice_get-get_or lane k x (slice_get_within lane k r read)) ∙ read)
@@ -118,8 +118,8 @@ remains w v u lane c r = record {
   at = r.keeps.stays.at ∙ c.at;
 }
 
-lane-now : (w v : PlainWorld) (lane : ℕ) → Chosen w v lane → lane_in v ≡ lane_of (lists_of w.book) lane
-lane-now w v lane c = ap (λ (ls : List (List Rec)). lane_of ls v.book.at) c.lists ∙ ap (lane_of (lists_of w.book)) c.at
+lane-now : (w v : PlainWorld) (lane : ℕ) → Chosen w v lane → lane_in v ≡ lane_recs (lists_of w.book) lane
+lane-now w v lane c = ap (λ (ls : List (List Rec)). lane_recs ls v.book.at) c.lists ∙ ap (lane_recs (lists_of w.book)) c.at
 
 module _ (lanes : List (List Rec)) (x : RecordPlace) (w : PlainWorld) (goes : MayGoNext lanes x w) (r : Rec) (is : r ≡ goes.rec) (v : PlainWorld) (c : Chosen w v x.lane) where
   pub is-within : LaneIsWithin r v
@@ -157,22 +157,22 @@ module _ (lanes : List (List Rec)) (x : RecordPlace) (w : PlainWorld) (goes : Ma
 no-order : (lanes : List (List Rec)) (order : List ℕ) → Orders lanes order → log_of lanes order ≡ [] → order ≡ []
 unfolding log_of times
 no-order lanes [] orders none = refl
-no-order lanes (a ∷ order) orders none = go (lane_of lanes a) refl
+no-order lanes (a ∷ order) orders none = go (lane_recs lanes a) refl
   where
     self : (a == a) ≡ true
     self = grind (arith, nat_tests)
 
-    some : 0 < length (lane_of lanes a)
+    some : 0 < length (lane_recs lanes a)
     some = let is = orders a in let one : times (λ x. x == a) (a ∷ order) ≡ 1 + times (λ x. x == a) order = rw self refl in omega (arith, is, one)
 
-    go : (l : List Rec) → lane_of lanes a ≡ l → a ∷ order ≡ []
+    go : (l : List Rec) → lane_recs lanes a ≡ l → a ∷ order ≡ []
     go [] e = absurd (let long = ap length e in omega (arith, long, some))
     go (r ∷ rs) e = absurd (let wrong = rw e at none in cc)
 
 all-empty : (n : ℕ) (lanes : List (List Rec)) → length lanes ≡ n → Orders lanes [] → lanes ≡ empty_lanes n
 unfolding times
 all-empty n lanes long orders =
-    lanes-same lanes (empty_lanes n) (long ∙ sym (empty-length n)) (λ a less. none (lane_of lanes a) (orders a) ∙ sym (no-lane n a))
+    lanes-same lanes (empty_lanes n) (long ∙ sym (empty-length n)) (λ a less. none (lane_recs lanes a) (orders a) ∙ sym (no-lane n a))
   where
     none : (l : List Rec) → 0 ≡ length l → l ≡ []
     none [] e = refl
@@ -191,7 +191,7 @@ begins sys lanes n w new long = new-world sys n w new ∙ ap (λ k. record { lan
 
 -- A list of places, up to one of them.
 abbrev pub place_of : At → RecordPlace
-place_of x = place x.lane x.place
+place_of x = record_place x.lane x.place
 
 pub split-at : (xs : List At) (i : ℕ) (d : At) → i < length xs → map place_of xs ≡ map place_of (take i xs) ++ place_of (get_or xs i d) ∷ map place_of (drop (suc i) xs)
 split-at [] i d less = absurd (omega (arith, less))
@@ -249,8 +249,8 @@ module _ (sys : System) (stimuli : List (List Stim)) (j : Journal) (order : List
         rec = rec.0;
         there = rec.1;
         next = subst (λ (s : System). ComesNext s (world_in w) x.lane rec.0) (sym sys_is) (subst (λ (v : World). ComesNext sys v x.lane rec.0) (sym made_is) next);
-        few = λ regular. subst (λ (v : World). length (lane_of v.lanes x.lane) < 1000000) (sym made_is)
-            (subst (λ n. n < 1000000) (sym stand.long) (few-before (lane_of j.lanes x.lane) x.at rec.0 stand.there (subst (λ (l : List Rec). spills_in (lane_items l) ≡ false) stand.before next.goes_on) regular stand.room));
+        few = λ regular. subst (λ (v : World). length (lane_recs v.lanes x.lane) < 1000000) (sym made_is)
+            (subst (λ n. n < 1000000) (sym stand.long) (few-before (lane_recs j.lanes x.lane) x.at rec.0 stand.there (subst (λ (l : List Rec). spills_in (lane_items l) ≡ false) stand.before next.goes_on) regular stand.room));
       }
 
   pub made-next : (front behind : List RecordPlace) (x : RecordPlace) → order ≡ front ++ x ∷ behind → (w after : World) → w ≡ made j.lanes front → after ≡ with_next w x.lane (record_at j.lanes x)

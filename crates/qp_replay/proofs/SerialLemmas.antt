@@ -22,8 +22,8 @@ use Rattle.qp_model.proofs.HistoryLemmas.{length-hist}
 use Rattle.qp_replay.specs.Laws.{NamedOrdersAreSerial}
 use Rattle.qp_replay.specs.Numbers.{TouchKnownWords, has_word, is_next_where, is_on, numbers_stand}
 use Rattle.qp_replay.specs.Orders.{IsLowestOrder}
-use Rattle.qp_replay.specs.Replaying.{IsAnswer, IsReplay}
-use Rattle.qp_replay.specs.Remaining.{place}
+use Rattle.qp_replay.specs.Replaying.{IsReplayAnswer, IsReplay}
+use Rattle.qp_replay.specs.Remaining.{record_place}
 use Rattle.qp_replay.specs.declared.places.Replayed.{Replayed}
 use Rattle.qp_replay.specs.declared.places.Replayed.TheVariants.{Order, Cycle}
 use Rattle.qp_replay.proofs.NumberLemmas.{Inv, all-numbered, drawn, draws_above, is_sorted, list_all-two, marks_to, none_first}
@@ -32,7 +32,7 @@ use Rattle.qp_replay.proofs.NumberLemmas.{Inv, all-numbered, drawn, draws_above,
 shift-in : (l : List Rec) (ls : List (List Rec)) (n at : ℕ) (rs : List Rec) → items_at (l ∷ ls) (places_in (suc n) at rs) ≡ items_at ls (places_in n at rs)
 unfolding items_at places_in item_at
 shift-in l ls n at [] = refl
-shift-in l ls n at (r ∷ rs) = ap (cons_option (item_at ls (place n at))) (shift-in l ls n (suc at) rs)
+shift-in l ls n at (r ∷ rs) = ap (cons_option (item_at ls (record_place n at))) (shift-in l ls n (suc at) rs)
 
 shift : (l : List Rec) (ls : List (List Rec)) (n : ℕ) (qs : List (List Rec)) → items_at (l ∷ ls) (places_from (suc n) qs) ≡ items_at ls (places_from n qs)
 unfolding items_at places_from
@@ -45,7 +45,7 @@ shift l ls n (q ∷ qs) =
 shift-at : (r : Rec) (l : List Rec) (ls : List (List Rec)) (at : ℕ) (rs : List Rec) → items_at ((r ∷ l) ∷ ls) (places_in 0 (suc at) rs) ≡ items_at (l ∷ ls) (places_in 0 at rs)
 unfolding items_at places_in item_at
 shift-at r l ls at [] = refl
-shift-at r l ls at (x ∷ xs) = ap (cons_option (item_at (l ∷ ls) (place 0 at))) (shift-at r l ls (suc at) xs)
+shift-at r l ls at (x ∷ xs) = ap (cons_option (item_at (l ∷ ls) (record_place 0 at))) (shift-at r l ls (suc at) xs)
 
 lane-at : (l : List Rec) (ls : List (List Rec)) → items_at (l ∷ ls) (places_in 0 0 l) ≡ lane_items l
 unfolding items_at places_in item_at lane_items
@@ -207,6 +207,6 @@ named-serial sys lanes order named is numbers = record {
 }
 
 -- what is answered of any lanes says more where their words keep their law and no record touches another word
-pub serial-also : (sys : System) (lanes : List (List Rec)) → Words sys lanes → TouchKnownWords sys lanes → (a : Replayed) → IsAnswer lanes a → IsReplay lanes a
+pub serial-also : (sys : System) (lanes : List (List Rec)) → Words sys lanes → TouchKnownWords sys lanes → (a : Replayed) → IsReplayAnswer lanes a → IsReplay lanes a
 serial-also sys lanes words named (Order order) h = (h, named-serial sys lanes order named h.0 (numbers-hold sys lanes order words h.0))
 serial-also sys lanes words named (Cycle cycle) h = h

@@ -33,15 +33,15 @@ pub record IsLowestOrder (lanes : List (List Rec)) (order : List RecordPlace) : 
   pub lowest : GoesNextEach lanes [] order
 
 -- each of these must stand before the next, and the last before this one
-abbrev pub closes : List (List Rec) → RecordPlace → List RecordPlace → Bool
-closes lanes first [] = false
-closes lanes first (x ∷ []) = must_precede lanes x first
-closes lanes first (x ∷ y ∷ ys) = must_precede lanes x y && closes lanes first (y ∷ ys)
+abbrev pub closes_cycle : List (List Rec) → RecordPlace → List RecordPlace → Bool
+closes_cycle lanes first [] = false
+closes_cycle lanes first (x ∷ []) = must_precede lanes x first
+closes_cycle lanes first (x ∷ y ∷ ys) = must_precede lanes x y && closes_cycle lanes first (y ∷ ys)
 
 -- each of these must stand before the next, and the last before the first
 abbrev pub goes_round : List (List Rec) → List RecordPlace → Bool
 goes_round lanes [] = false
-goes_round lanes (x ∷ xs) = closes lanes x (x ∷ xs)
+goes_round lanes (x ∷ xs) = closes_cycle lanes x (x ∷ xs)
 
 -- a cycle: at least two records, none of which can be the first of them
 pub record IsCycle (lanes : List (List Rec)) (cycle : List RecordPlace) : Type 0 where

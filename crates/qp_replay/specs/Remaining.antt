@@ -14,40 +14,40 @@ use Rattle.qp_replay.specs.Marks.{has_mark}
 use Rattle.qp_replay.specs.declared.marks.Marks.{Marks}
 
 -- the lanes, and how many records of each stand in the list
-pub record Standing : Type 0 where
+pub record LaneFronts : Type 0 where
   pub lanes : List (List Rec)
   pub fronts : List ℕ
 
-abbrev pub place : ℕ → ℕ → RecordPlace
-place n k = record { lane = n; at = k }
+abbrev pub record_place : ℕ → ℕ → RecordPlace
+record_place n k = record { lane = n; at = k }
 
 -- the record at place k of a lane, if there is one
 unfoldable pub record_in : List Rec → ℕ → Option Item
 unfolding item_of
 record_in lane k = option_and_then (λ r. Some (item_of r)) (slice_get lane k)
 
-abbrev pub front : Standing → ℕ → ℕ
+abbrev pub front : LaneFronts → ℕ → ℕ
 front st n = get_or st.fronts n 0
 
 -- the lane's next record
-abbrev pub head : Standing → ℕ → RecordPlace
-head st n = place n (front st n)
+abbrev pub head : LaneFronts → ℕ → RecordPlace
+head st n = record_place n (front st n)
 
-abbrev pub HasNext : Standing → ℕ → Type 0
+abbrev pub HasNext : LaneFronts → ℕ → Type 0
 HasNext st n = IsTrue (is_record st.lanes (head st n))
 
 -- a record that doesn't stand in the list yet
-pub record Waits (st : Standing) (x : RecordPlace) : Type 0 where
+pub record IsOutstanding (st : LaneFronts) (x : RecordPlace) : Type 0 where
   pub stands : IsTrue (is_record st.lanes x)
   pub behind : front st x.lane ≤ x.at
 
 -- a record that must stand before the lane's next, and doesn't stand in the list yet
-pub record Blocks (st : Standing) (n : ℕ) (x : RecordPlace) : Type 0 where
-  pub waits : Waits st x
+pub record Blocks (st : LaneFronts) (n : ℕ) (x : RecordPlace) : Type 0 where
+  pub waits : IsOutstanding st x
   pub first : IsTrue (must_precede st.lanes x (head st n))
 
 -- the lane's next record may go into the list
-pub record MayGo (st : Standing) (n : ℕ) : Type 0 where
+pub record MayGo (st : LaneFronts) (n : ℕ) : Type 0 where
   pub next : HasNext st n
   pub free : (x : RecordPlace) → Blocks st n x → ⊥
 
@@ -70,5 +70,5 @@ pub record IsSmall (lanes : List (List Rec)) : Type 0 where
 pub record IsRemaining (lanes : List (List Rec)) (fronts : List ℕ) (draws shows : Marks) : Type 0 where
   pub small : IsSmall lanes
   pub each : length fronts ≡ length lanes
-  pub draws_are : (w : Word) (m n k : ℕ) → has_mark draws (key_of w) (m, n, k) ≡ (nat_le (get_or fronts n 0) k && draws_mark w m (touch_at (item_at lanes (place n k))))
-  pub shows_are : (w : Word) (m n k : ℕ) → has_mark shows (key_of w) (m, n, k) ≡ (nat_le (get_or fronts n 0) k && shows_mark w m (touch_at (item_at lanes (place n k))))
+  pub draws_are : (w : Word) (m n k : ℕ) → has_mark draws (key_of w) (m, n, k) ≡ (nat_le (get_or fronts n 0) k && draws_mark w m (touch_at (item_at lanes (record_place n k))))
+  pub shows_are : (w : Word) (m n k : ℕ) → has_mark shows (key_of w) (m, n, k) ≡ (nat_le (get_or fronts n 0) k && shows_mark w m (touch_at (item_at lanes (record_place n k))))

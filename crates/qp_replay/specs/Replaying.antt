@@ -7,11 +7,11 @@ use Rattle.qp_replay.specs.declared.places.Replayed.{Replayed}
 use Rattle.qp_replay.specs.declared.places.Replayed.TheVariants.{Order, Cycle}
 
 -- an order, where there is no cycle, or a cycle
-abbrev pub IsAnswer : List (List Rec) → Replayed → Type 0
-IsAnswer lanes (Order order) = IsLowestOrder lanes order × ((cycle : List RecordPlace) → IsCycle lanes cycle → ⊥)
-IsAnswer lanes (Cycle cycle) = IsCycle lanes cycle
+abbrev pub IsReplayAnswer : List (List Rec) → Replayed → Type 0
+IsReplayAnswer lanes (Order order) = IsLowestOrder lanes order × ((cycle : List RecordPlace) → IsCycle lanes cycle → ⊥)
+IsReplayAnswer lanes (Cycle cycle) = IsCycle lanes cycle
 
 -- the same, and the order is serial by the law book
 abbrev pub IsReplay : List (List Rec) → Replayed → Type 0
-IsReplay lanes (Order order) = IsAnswer lanes (Order order) × IsSerial lanes order
-IsReplay lanes (Cycle cycle) = IsAnswer lanes (Cycle cycle)
+IsReplay lanes (Order order) = IsReplayAnswer lanes (Order order) × IsSerial lanes order
+IsReplay lanes (Cycle cycle) = IsReplayAnswer lanes (Cycle cycle)

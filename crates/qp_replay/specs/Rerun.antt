@@ -9,7 +9,7 @@ use Rattle.qp_model.specs.Sound.{IsSound}
 use Rattle.qp_plain.specs.declared.world.PlainWorld.{PlainWorld}
 use Rattle.qp_plain.specs.Book.{lists_of}
 use Rattle.qp_plain.specs.NewWorld.{lanes_in, log_in}
-use Rattle.qp_plain_sound.specs.Log.{lane_of}
+use Rattle.qp_plain_sound.specs.Log.{lane_recs}
 use Rattle.qp_replay.specs.RerunLaws.{ComesNext, World, placed_at, record_at}
 
 -- the lanes of a running world, and the lane of each record in the order of the calls
@@ -23,7 +23,7 @@ pub record MayGoNext (lanes : List (List Rec)) (x : RecordPlace) (w : PlainWorld
   pub rec : Rec
   pub there : record_at lanes x ≡ Some rec
   pub next : ComesNext w.sys.now (world_in w) x.lane rec
-  pub few : is_spill (item_of rec).body ≡ false → length (lane_of (lists_of w.book) x.lane) < 1000000
+  pub few : is_spill (item_of rec).body ≡ false → length (lane_recs (lists_of w.book) x.lane) < 1000000
 
 -- The world's one list of records, each with its lane, is the journal's along the order, and its lanes are the journal's.
 pub record IsRerun (sys : System) (lanes : List (List Rec)) (order : List RecordPlace) (w : PlainWorld) : Type 0 where

@@ -18,7 +18,7 @@ use Rattle.qp_model.specs.Places.{IsSerial, RecordPlace}
 use Rattle.qp_model.specs.Sound.{IsSound}
 use Rattle.qp_model.specs.Lawful.{Lawful}
 use Rattle.qp_stim.specs.Rules.{StimuliFit}
-use Rattle.qp_plain_sound.specs.Log.{empty_lanes, lane_of, log_of, with_record}
+use Rattle.qp_plain_sound.specs.Log.{empty_lanes, lane_recs, log_of, with_record}
 use Rattle.qp_plain_sound.specs.May.{May}
 use Rattle.qp_plain_sound.specs.Sound.{SoundWorld, hands_in}
 
@@ -60,10 +60,10 @@ TicksFit b = ⊤
 pub record ComesNext (sys : System) (w : World) (a : ℕ) (r : Rec) : Type 0 where
   pub may : May sys w.lanes (hands_in sys w.lanes w.order) (item_of r).of (item_of r).body
   pub ticks : TicksFit (item_of r).body
-  pub goes_on : spills_in (lane_items (lane_of w.lanes a)) ≡ false
+  pub goes_on : spills_in (lane_items (lane_recs w.lanes a)) ≡ false
 
 -- Where the world stands behind some records of the order: it is sound, its one list of records are those, and the next record may come.
-pub record GoesOn (sys : System) (lanes : List (List Rec)) (front behind : List RecordPlace) : Type 0 where
+pub record RerunGoesOn (sys : System) (lanes : List (List Rec)) (front behind : List RecordPlace) : Type 0 where
   pub sound : SoundWorld sys (made lanes front).lanes (made lanes front).order
   pub log : log_of (made lanes front).lanes (made lanes front).order ≡ placed_at lanes front
   pub next : (x : RecordPlace) (others : List RecordPlace) (r : Rec) → behind ≡ x ∷ others → record_at lanes x ≡ Some r → ComesNext sys (made lanes front) x.lane r
@@ -72,4 +72,4 @@ pub record GoesOn (sys : System) (lanes : List (List Rec)) (front behind : List 
 abbrev pub OneThreadMakesIt : Type 0
 OneThreadMakesIt =
     (sys : System) (stimuli : List (List Stim)) (j : Journal) (order : List RecordPlace) → IsSound sys → StimuliFit sys stimuli → Lawful sys stimuli j → IsSerial j.lanes order
-    → ((front behind : List RecordPlace) → order ≡ front ++ behind → GoesOn sys j.lanes front behind) × ((made j.lanes order).lanes ≡ j.lanes)
+    → ((front behind : List RecordPlace) → order ≡ front ++ behind → RerunGoesOn sys j.lanes front behind) × ((made j.lanes order).lanes ≡ j.lanes)

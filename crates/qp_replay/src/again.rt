@@ -5,7 +5,7 @@ ghost use Rattle.qp_model.specs.Lawful.{Lawful};
 ghost use Rattle.qp_model.specs.Places.{IsSerial};
 ghost use Rattle.qp_model.specs.Sound.{IsSound};
 ghost use Rattle.qp_plain.specs.NewWorld.{lanes_in};
-ghost use Rattle.qp_replay.specs.Remaining.{place};
+ghost use Rattle.qp_replay.specs.Remaining.{record_place};
 ghost use Rattle.qp_replay.specs.RerunLaws.{record_at, with_next};
 ghost use Rattle.qp_replay.specs.Rerun.{MayGoNext, IsRerun, world_in};
 ghost use Rattle.qp_stim.specs.Rules.{StimuliFit};
@@ -41,8 +41,8 @@ fn count(lanes: &Lanes) -> u32
 
 /// Makes the record at this place, at the end of its lane.
 fn make(world: &mut PlainWorld<'_>, lanes: &Lanes, at: At) -> Result<(), Memory>
-    requires { MayGoNext lanes.now (place at.lane at.place) world.old }
-    ensures made { OnOk result (world_in world.new ≡ with_next (world_in world.old) at.lane (record_at lanes.now (place at.lane at.place))) }
+    requires { MayGoNext lanes.now (record_place at.lane at.place) world.old }
+    ensures made { OnOk result (world_in world.new ≡ with_next (world_in world.old) at.lane (record_at lanes.now (record_place at.lane at.place))) }
     ensures sys { OnOk result (world.new.sys.now ≡ world.old.sys.now) }
     ensures lanes { OnOk result (lanes_in world.new ≡ lanes_in world.old) }
 {

@@ -1,7 +1,7 @@
 //! The order of all records, as far as there is one.
 
 ghost use Rattle.std.specs.Prelude.{◌↔◌, IfOk, IsTrue};
-ghost use Rattle.qp_replay.specs.Replaying.{IsAnswer};
+ghost use Rattle.qp_replay.specs.Replaying.{IsReplayAnswer};
 ghost use Rattle.qp_replay.specs.Remaining.{IsSmall};
 
 use crate::cycle::cycle;
@@ -29,7 +29,7 @@ pub fn is_small(lanes: &Lanes) -> bool
 /// for each record and each lane.
 pub fn ordered(alloc: Global, lanes: &Lanes) -> Result<Replayed, AllocError>
     requires { IsSmall lanes.now }
-    ensures { IfOk result (λ r. IsAnswer lanes.now r) }
+    ensures { IfOk result (λ r. IsReplayAnswer lanes.now r) }
 {
     let mut remaining = Remaining::of(alloc, lanes)?;
     let mut order = Places::none(alloc);

@@ -1,7 +1,7 @@
 //! Places in a list, and what a replay answers.
 
 ghost use Rattle.std.specs.Prelude.{◌≡◌, suc, ◌<◌, ◌++◌, ◌∷◌, [], length, get_or, take, Contains, OnOk};
-ghost use Rattle.qp_replay.specs.Remaining.{place};
+ghost use Rattle.qp_replay.specs.Remaining.{record_place};
 
 use crate::marks::At;
 use std::alloc::{AllocError, Global};
@@ -16,11 +16,11 @@ pub struct Places {
 impl Model for Places {
     ghost use Rattle.std.specs.Prelude.{List, map};
     ghost use Rattle.qp_model.specs.Places.{RecordPlace};
-    ghost use Rattle.qp_replay.specs.Remaining.{place};
+    ghost use Rattle.qp_replay.specs.Remaining.{record_place};
 
     ghost Value = { List RecordPlace };
 
-    ghost view = { λ p. map (λ x. place x.lane x.place) p.items.items };
+    ghost view = { λ p. map (λ x. record_place x.lane x.place) p.items.items };
 }
 
 impl Places {
@@ -34,16 +34,16 @@ impl Places {
 
     /// Puts a place at the end.
     pub(crate) fn push(&mut self, at: At) -> Result<(), AllocError>
-        ensures { OnOk result (self.new ≡ self.old ++ place at.lane at.place ∷ []) }
+        ensures { OnOk result (self.new ≡ self.old ++ record_place at.lane at.place ∷ []) }
     {
         Ok(self.items.push(at)?)
     }
 
     /// The first place of the list at which this one stands.
     pub(crate) fn position(&self, at: At) -> usize
-        requires { Contains self.now (place at.lane at.place) }
+        requires { Contains self.now (record_place at.lane at.place) }
         ensures within { result < length self.now }
-        ensures found { get_or self.now result (place at.lane at.place) ≡ place at.lane at.place }
+        ensures found { get_or self.now result (record_place at.lane at.place) ≡ record_place at.lane at.place }
     {
         for (i, x) in self.items.iter().enumerate() {
             if x.lane == at.lane && x.place == at.place {
@@ -63,7 +63,7 @@ impl Places {
 
     /// Puts a place in front.
     pub(crate) fn put_first(&mut self, at: At) -> Result<(), AllocError>
-        ensures { OnOk result (self.new ≡ place at.lane at.place ∷ self.old) }
+        ensures { OnOk result (self.new ≡ record_place at.lane at.place ∷ self.old) }
     {
         Ok(self.items.insert(0, at)?)
     }

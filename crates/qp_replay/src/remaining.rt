@@ -10,7 +10,7 @@ ghost use Rattle.qp_model.specs.Record.{item_of};
 ghost use Rattle.qp_check_lanes.specs.Keys.{key_of};
 ghost use Rattle.qp_replay.specs.Marks.{has_mark};
 ghost use Rattle.qp_replay.specs.Orders.{is_record};
-ghost use Rattle.qp_replay.specs.Remaining.{Blocks, HasNext, IsSmall, MayGo, draws_mark, front, head, place, record_in, shows_mark};
+ghost use Rattle.qp_replay.specs.Remaining.{Blocks, HasNext, IsSmall, MayGo, draws_mark, front, head, record_place, record_in, shows_mark};
 
 use crate::marks::{At, Marks};
 use qp_check_lanes::keys::key_of;
@@ -28,9 +28,9 @@ pub(crate) struct Remaining<'a> {
 }
 
 impl<'a> Model for Remaining<'a> {
-    ghost use Rattle.qp_replay.specs.Remaining.{IsRemaining, Standing};
+    ghost use Rattle.qp_replay.specs.Remaining.{IsRemaining, LaneFronts};
 
-    ghost Value = { Standing };
+    ghost Value = { LaneFronts };
 
     ghost view = { λ r. record { lanes = r.lanes.now; fronts = r.fronts.items } };
 
@@ -48,8 +48,8 @@ fn length_of(lanes: &Lanes, lane: usize) -> usize
 
 /// What the record at a place does to its word.
 fn touched_at(lanes: &Lanes, lane: usize, k: usize) -> Touched
-    requires { IsTrue (is_record lanes.now (place lane k)) }
-    ensures { as_touch result ≡ touch_at (item_at lanes.now (place lane k)) }
+    requires { IsTrue (is_record lanes.now (record_place lane k)) }
+    ensures { as_touch result ≡ touch_at (item_at lanes.now (record_place lane k)) }
 {
     let row = &lanes.items[lane];
     Touched::by(&row.items[k])
@@ -153,7 +153,7 @@ impl<'a> Remaining<'a> {
     /// The place of the lane's next record.
     pub fn head(&self, lane: usize) -> At
         requires { HasNext self.now lane }
-        ensures { place result.lane result.place ≡ head self.now lane }
+        ensures { record_place result.lane result.place ≡ head self.now lane }
     {
         let front = self.fronts[lane];
         At {
@@ -173,7 +173,7 @@ impl<'a> Remaining<'a> {
     /// A record that must stand before the lane's next one, and doesn't stand in the order yet.
     pub fn blocker(&self, lane: usize) -> Option<At>
         requires { HasNext self.now lane }
-        ensures { MatchOption result ((x : RecordPlace) → Blocks self.now lane x → ⊥) (λ x. Blocks self.now lane (place x.lane x.place)) }
+        ensures { MatchOption result ((x : RecordPlace) → Blocks self.now lane x → ⊥) (λ x. Blocks self.now lane (record_place x.lane x.place)) }
     {
         match self.touched(lane) {
             Touched::Draws { word, mark } => match self.draws.below(key_of(word), mark) {
@@ -189,7 +189,7 @@ impl<'a> Remaining<'a> {
     pub fn before(&self, lane: usize) -> At
         requires next { HasNext self.now lane }
         requires waits { MayGo self.now lane → ⊥ }
-        ensures { Blocks self.now lane (place result.lane result.place) }
+        ensures { Blocks self.now lane (record_place result.lane result.place) }
     {
         match self.blocker(lane) {
             Some(x) => x,

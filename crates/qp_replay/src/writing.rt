@@ -4,7 +4,7 @@ ghost use Rattle.std.specs.Prelude.{◌≡◌, ◌≤◌, ◌++◌, ◌∷◌, c
 ghost use Rattle.std.specs.List.{AllByRecursion, flat_map, list_all};
 ghost use Rattle.qp_model.specs.Output.{is_in_range, is_lane_in_range};
 ghost use Rattle.qp_replay.specs.Orders.{is_record};
-ghost use Rattle.qp_replay.specs.Remaining.{place};
+ghost use Rattle.qp_replay.specs.Remaining.{record_place};
 ghost use Rattle.qp_replay.specs.Text.{AreRecords, head_line, place_line, places_text, replayed_text};
 ghost use Rattle.qp_text.specs.Puts.{Puts};
 
@@ -26,9 +26,9 @@ fn put_place<K: Sink>(
     form: u8,
     at: At,
 ) -> Result<(), SinkFault>
-    requires stands { IsTrue (is_record lanes.now (place at.lane at.place)) }
+    requires stands { IsTrue (is_record lanes.now (record_place at.lane at.place)) }
     requires range { IsTrue (list_all (is_lane_in_range form) lanes.now) }
-    ensures { Puts result (place_line form lanes.now (place at.lane at.place)) (K.written out.old) (K.written out.new)
+    ensures { Puts result (place_line form lanes.now (record_place at.lane at.place)) (K.written out.old) (K.written out.new)
         (K.faults out.old) (K.faults out.new) }
 {
     let lane = &lanes.items[at.lane as usize];

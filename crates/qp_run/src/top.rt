@@ -4,7 +4,7 @@ ghost use Rattle.qp_base.specs.Counts.{Rose};
 ghost use Rattle.qp_base.specs.Sink.{AppendsPrefix, appended};
 ghost use Rattle.qp_run_parts.specs.Notes.{names_file};
 ghost use Rattle.qp_run_parts.specs.Sealed.{Seals};
-ghost use Rattle.qp_run_parts.specs.Verdict.{Agrees, AnswersWords, HasCause, IsCall, NamesFile, IsPutFor, Noted, Prints, AnswerStands, count_of, stream_of, writes_of};
+ghost use Rattle.qp_run_parts.specs.Verdict.{Agrees, AnswersWords, HasCause, IsCall, NamesFile, IsPutFor, Noted, Prints, AnswerStands, count_over, stream_of, writes_of};
 ghost use Rattle.qp_commands.specs.WordTable.{Asked, asked_of, command_in, is_in_limits, texts};
 ghost use Rattle.qp_run_parts.specs.declared.status.Status.{Status};
 
@@ -140,8 +140,8 @@ fn put_line<E: Sink>(status: Status, line: &[u8], notes: &mut E) -> Status
 pub fn tell<E: Sink>(status: Status, notes: &mut E) -> Status
     requires { names_file status ≡ false }
     ensures notes { (asked : Option Asked)
-        → Noted asked (IsPutFor status) (count_of E.faults notes.old notes.new) (E.written notes.old) (E.written notes.new) result }
-    ensures answer { AnswerStands (count_of E.faults notes.old notes.new) status result }
+        → Noted asked (IsPutFor status) (count_over E.faults notes.old notes.new) (E.written notes.old) (E.written notes.new) result }
+    ensures answer { AnswerStands (count_over E.faults notes.old notes.new) status result }
 {
     if status.is_done() {
         return status;
@@ -153,8 +153,8 @@ pub fn tell<E: Sink>(status: Status, notes: &mut E) -> Status
 /// Puts the line about an answer. Only a line that names a file takes memory; it names it by this name.
 pub fn report<E: Sink>(alloc: Global, name: &str, status: Status, notes: &mut E) -> Status
     ensures notes { (asked : Option Asked) → NamesFile asked status name.now
-        → Noted asked (IsPutFor status) (count_of E.faults notes.old notes.new) (E.written notes.old) (E.written notes.new) result }
-    ensures answer { AnswerStands (count_of E.faults notes.old notes.new) status result }
+        → Noted asked (IsPutFor status) (count_over E.faults notes.old notes.new) (E.written notes.old) (E.written notes.new) result }
+    ensures answer { AnswerStands (count_over E.faults notes.old notes.new) status result }
 {
     if !status.names_file() {
         return tell(status, notes);
@@ -183,7 +183,7 @@ pub fn qp_main<R: Threads + Wait + Sync, F: Shelf, O: Sink, E: Sink, G: Gate>(
     // The headline, with what the words ask for by their table: what was answered, printed and noted.
     ensures call { IsCall (F.holds files.old) (command_in (texts words.now))
         (record (writes_of F.faults F.misses O.faults files.old files.new out.old out.new) {
-          notes = count_of E.faults notes.old notes.new;
+          notes = count_over E.faults notes.old notes.new;
         })
         (stream_of O.written out.old out.new) (stream_of E.written notes.old notes.new) result }
     // A run with threads leaves the journal that it printed or summed up.

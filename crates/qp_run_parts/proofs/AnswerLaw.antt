@@ -3,7 +3,7 @@ use Rattle.std.proofs.Common.{◌≡◌, ℕ, ◌≤◌, List, length, Option, S
 use Rattle.qp_base.specs.Limits.{file_limit}
 use Rattle.qp_model.specs.declared.stimulus.Stim.{Stim}
 use Rattle.qp_model.specs.declared.systems.System.{System}
-use Rattle.qp_stim.specs.Stimuli.{Fault, stimuli_of}
+use Rattle.qp_stim.specs.Stimuli.{FaultLine, stimuli_of}
 use Rattle.qp_system_tables.specs.declared.fault.SystemFault.{SystemFault}
 use Rattle.qp_system_tables.specs.declared.fault.SystemFault.TheVariants.{Memory as NoMemory}
 use Rattle.qp_system.specs.SystemOf.{IsSystemOf, RefusesSystem}
@@ -81,7 +81,7 @@ module _ (bytes : List ℕ) where
   run-carries s t p q sources kernel budget a is = subst (λ x. EndsRun x sources kernel budget a) (systems_are_one bytes s t p q) is
 
   module _ (AreNamed : System → List (List Stim) → Type 0) (kernel : KernelName) (budget : ℕ) (s t : System) (p : IsSystemOf bytes s) (q : IsSystemOf bytes t) where
-    sources-run : (found : Result (List (List Stim)) Fault) → ((sources : List (List Stim)) → found ≡ Ok sources → AreNamed s sources) → (a b : Status)
+    sources-run : (found : Result (List (List Stim)) FaultLine) → ((sources : List (List Stim)) → found ≡ Ok sources → AreNamed s sources) → (a b : Status)
         → AnswersSources s kernel budget found a → AnswersSources t kernel budget found b → (a ≡ b) ⊎ EndRuns AreNamed kernel budget a b
     sources-run (Err fault) named a b is are = inl (is ∙ sym are)
     sources-run (Ok sources) named a b is are = ends-either AreNamed kernel budget s sources (named sources refl) a b is (run-carries t s q p sources kernel budget b are)
@@ -176,7 +176,7 @@ module _ (bytes : List ℕ) where
     third-one sources held a b (inr (text, loaded, is)) (inr (other, found, are)) =
         found-one sources (said Text text) a b is (subst (λ x. JudgesFound t sources (said Text x) b) (loaded-one held other text found loaded) are)
 
-    sources-one : (held : Option (List ℕ)) (read : Result (List (List Stim)) Fault) (a b : Status)
+    sources-one : (held : Option (List ℕ)) (read : Result (List (List Stim)) FaultLine) (a b : Status)
         → JudgesStimuli s held read a → JudgesStimuli t held read b → a ≡ b
     sources-one held (Err fault) a b is are = is ∙ sym are
     sources-one held (Ok sources) a b is are = third-one sources held a b is are

@@ -5,14 +5,14 @@ use Rattle.qp_run_parts.specs.declared.status.Status.{Status}
 use Rattle.qp_run_parts.specs.declared.status.Status.TheVariants.{Memory}
 use Rattle.qp_run_parts.specs.Conversions.{Held}
 use Rattle.qp_run_parts.specs.Notes.{names_file}
-use Rattle.qp_run_parts.specs.Verdict.{Agrees, AnswersWords, Count, Counts, HasCause, IsCall, IsOutput, IsPutFor, Noted, Prints, AnswerStands, Stream, WouldAnswer, quiet}
+use Rattle.qp_run_parts.specs.Verdict.{Agrees, AnswersWords, Count, Counts, HasCause, IsCall, IsOutput, IsPutFor, Noted, Prints, AnswerStands, Stream, WouldAnswer, still_count}
 use Rattle.qp_commands.specs.WordTable.{Asked}
 use Rattle.qp_run_parts.proofs.CompleteLemmas.{complete}
 use Rattle.qp_run_parts.proofs.VerdictLemmas.{agrees-stands, answers-stands, cause-stands, failure-agrees, prints-stands, noted-wider}
 
 module _ (held : Option Held) (asked : Option Asked) (n : Counts) (output note : Stream) where
   -- an answer, and how it stands
-  pub call-stands : (told answer : Status) → IfSome held (λ h. Agrees h asked told) → AnswersWords asked told → HasCause (record n { notes = quiet }) told
+  pub call-stands : (told answer : Status) → IfSome held (λ h. Agrees h asked told) → AnswersWords asked told → HasCause (record n { notes = still_count }) told
       → Prints held asked output.before output.after told → AnswerStands n.notes told answer
       → Noted asked (IsPutFor told) n.notes note.before note.after answer → IsCall held asked n output note answer
   call-stands told answer agrees words cause prints stands noted =

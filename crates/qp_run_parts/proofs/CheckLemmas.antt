@@ -8,7 +8,7 @@ use Rattle.qp_check.proofs.JudgedLemmas.{lawful_where_none_fails}
 use Rattle.qp_model.specs.declared.journals.Journal as journal
 use Rattle.qp_model.specs.declared.stimulus.Stim.{Stim}
 use Rattle.qp_model.specs.declared.systems.System.{System}
-use Rattle.qp_stim.specs.Stimuli.{Fault, stimuli_of}
+use Rattle.qp_stim.specs.Stimuli.{FaultLine, stimuli_of}
 use Rattle.qp_model.specs.Sound.{IsSound}
 use Rattle.qp_model.proofs.ObjectLemmas.{priorities-are_bytes}
 use Rattle.qp_system.specs.SystemOf.{IsSystemOf}
@@ -82,7 +82,7 @@ module _ (o : Option Held) (system stimuli held : List ℕ) where
           by h is (inr ends) = inr (by-system h status is (inl ends))
 
       module _ (text : List ℕ) (text_loaded : IfSome o (λ h. IsLoaded (h stimuli) text)) where
-        refused : (found : Result (List (List Stim)) Fault) (other : Option (List ℕ)) (status : Status) → RefusesSecond found status → JudgesStimuli sys other found status
+        refused : (found : Result (List (List Stim)) FaultLine) (other : Option (List ℕ)) (status : Status) → RefusesSecond found status → JudgesStimuli sys other found status
         refused (Err fault) other status is = is
         refused (Ok sources) other status is = absurd is
 

@@ -12,7 +12,7 @@ use Rattle.qp_commands.specs.declared.values.Kind.{Kind}
 use Rattle.qp_commands.specs.declared.values.Kind.TheVariants.{Frames}
 use Rattle.qp_run_parts.specs.Conversions.{AnswersJournal, Held, answer_on, decode_on, migrate_on, said, written}
 use Rattle.qp_run_parts.specs.Loads.{IsLoaded}
-use Rattle.qp_run_parts.specs.Verdict.{Agrees, AnswersFiles, Counts, Ends, EndsCall, EndsMade, EndsMaking, EndsRun, EndsRunning, EndsJudging, HasCause, IsAnswer, IsComplete, is_failure}
+use Rattle.qp_run_parts.specs.Verdict.{Agrees, AnswersFiles, Counts, AnswersUnlessRisen, EndsCall, EndsMade, EndsMaking, EndsRun, EndsRunning, EndsJudging, HasCause, IsAnswer, IsComplete, is_failure}
 use Rattle.qp_run_parts.specs.Checks.{Judges, JudgesFiles}
 use Rattle.qp_commands.specs.WordTable.{Asked, check, decode, generate, migrate, number_of_form, replay, run}
 use Rattle.qp_run_parts.proofs.AnswerLaw.{files-run, loaded-goes_on, loaded-one}
@@ -20,7 +20,7 @@ use Rattle.qp_run_parts.proofs.CheckLemmas.{files-judged}
 use Rattle.qp_run_parts.proofs.ConversionLemmas.{said-written}
 
 -- a failure shows in a count, but for want of memory
-failed-ends : (n : Counts) (wanted answer : Status) → is_failure answer ≡ true → HasCause n answer → Ends n wanted answer
+failed-ends : (n : Counts) (wanted answer : Status) → is_failure answer ≡ true → HasCause n answer → AnswersUnlessRisen n wanted answer
 failed-ends n wanted Memory f c = λ reads out notes. inr refl
 failed-ends n wanted ReadFault f c = λ reads out notes. absurd (reads c)
 failed-ends n wanted WriteFault f (inl risen) = λ reads out notes. absurd (out risen)
@@ -35,7 +35,7 @@ failed-ends n wanted (Spent lane) f c = absurd (false≢true f)
 failed-ends n wanted (Unlawful definition at) f c = absurd (false≢true f)
 
 -- the answer is the wanted one, or a failure
-ends-so : (n : Counts) (wanted answer : Status) → (is_failure answer ≡ true) ⊎ (answer ≡ wanted) → HasCause n answer → Ends n wanted answer
+ends-so : (n : Counts) (wanted answer : Status) → (is_failure answer ≡ true) ⊎ (answer ≡ wanted) → HasCause n answer → AnswersUnlessRisen n wanted answer
 ends-so n wanted answer (inl failed) cause = failed-ends n wanted answer failed cause
 ends-so n wanted answer (inr is) cause = λ reads out notes. inl is
 

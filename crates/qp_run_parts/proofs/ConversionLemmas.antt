@@ -14,8 +14,8 @@ use Rattle.qp_frames.proofs.FramesLaw.{decoded-frames}
 use Rattle.qp_frames.specs.declared.faults.FrameFault as frame_fault
 use Rattle.qp_frames.specs.declared.faults.FrameFault.TheVariants as frame_faults
 use Rattle.qp_frames.specs.declared.stream.Stream.{Stream}
-use Rattle.qp_frames.specs.Faults.{Finds, IsDecoderOf, answer_of}
-use Rattle.qp_frames.specs.Stream.{decoded, ended}
+use Rattle.qp_frames.specs.Faults.{DecodesTo, IsDecoderOf, answer_of}
+use Rattle.qp_frames.specs.Stream.{decoded, stream_ended}
 use Rattle.qp_run_parts.specs.declared.place.Place.TheVariants.{Nowhere}
 use Rattle.qp_run_parts.specs.declared.status.Status.{Status}
 use Rattle.qp_run_parts.specs.declared.status.Status.TheVariants.{Done, Refused}
@@ -37,7 +37,7 @@ unfolding said
 text-refuses text_faults.Memory bytes reads = (refl, inl refl)
 text-refuses (text_faults.Line number code) bytes reads = (refl, inr (ap text_said reads))
 
-pub frames-refuse : (fault : frame_fault.FrameFault) (bytes : List ℕ) → Finds (Err fault) (decoded bytes) → RefusesFile Frames bytes (frame_refusal fault)
+pub frames-refuse : (fault : frame_fault.FrameFault) (bytes : List ℕ) → DecodesTo (Err fault) (decoded bytes) → RefusesFile Frames bytes (frame_refusal fault)
 unfolding said
 frames-refuse frame_faults.Memory bytes finds = (refl, inl refl)
 frames-refuse (frame_faults.At offset code want got) bytes finds = (refl, inr (ap frames_said finds))
@@ -45,7 +45,7 @@ frames-refuse (frame_faults.At offset code want got) bytes finds = (refl, inr (a
 -- what a decoder with a fault refuses
 pub fault-refuses : (fault : frame_fault.FrameFault) (bytes : List ℕ) → IsDecoderOf (Err fault) bytes → RefusesFile Frames bytes (frame_refusal fault)
 fault-refuses frame_faults.Memory bytes stands = (refl, inl refl)
-fault-refuses (frame_faults.At offset code want got) bytes stands = frames-refuse (frame_faults.At offset code want got) bytes (ap ended stands.1)
+fault-refuses (frame_faults.At offset code want got) bytes stands = frames-refuse (frame_faults.At offset code want got) bytes (ap stream_ended stands.1)
 
 -- a decoder that answers a fault
 pub fed-refuses : (state : Result Stream frame_fault.FrameFault) (fault : frame_fault.FrameFault) (bytes : List ℕ) → Err fault ≡ answer_of state → IsDecoderOf state bytes

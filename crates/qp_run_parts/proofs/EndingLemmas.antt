@@ -9,7 +9,7 @@ use Rattle.qp_kernel_end.specs.declared.journal.Outcome.{Outcome}
 use Rattle.qp_kernel_end.specs.declared.journal.Outcome.TheVariants as outcome
 use Rattle.qp_kernel_end.specs.Outcome.{outcome_of}
 use Rattle.qp_run_parts.specs.Endings.{ending_of, status_of}
-use Rattle.qp_run_parts.specs.Verdict.{Count, Counts, HasCause, quiet}
+use Rattle.qp_run_parts.specs.Verdict.{Count, Counts, HasCause, still_count}
 
 -- it is done, or ended at an assertion, or ran out
 ending-by : (P : Status → Type 0) → P Done → ((code n : ℕ) → P (Asserted code n)) → ((n : ℕ) → P (Spent n)) → (j : Journal) → P (ending_of j)
@@ -48,11 +48,11 @@ module _ (j : Journal) (bytes : List ℕ) (old new : Option (List ℕ)) (faults 
       by (inl (same, got)) = subst (PrintsOne IsWhole old new) (sym same) (ending-prints IsWhole old new bytes j is got)
       by (inr (failed, part, rose)) = subst (PrintsOne IsWhole old new) (sym failed) (inr (ending_of j, bytes, is (ending_of j) refl, part))
 
-  pub written-cause : (reads misses : Count) → HasCause (record { reads = reads; misses = misses; out = record { before = faults; after = faults' }; notes = quiet }) answer
+  pub written-cause : (reads misses : Count) → HasCause (record { reads = reads; misses = misses; out = record { before = faults; after = faults' }; notes = still_count }) answer
   written-cause reads misses = by wrote
     where
       n : Counts
-      n = record { reads = reads; misses = misses; out = record { before = faults; after = faults' }; notes = quiet }
+      n = record { reads = reads; misses = misses; out = record { before = faults; after = faults' }; notes = still_count }
 
       by : IsWrittenAs (ending_of j) bytes old new faults faults' answer → HasCause n answer
       by (inl (same, got)) = subst (HasCause n) (sym same) (ending-cause n j)

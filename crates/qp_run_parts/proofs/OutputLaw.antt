@@ -26,12 +26,12 @@ use Rattle.qp_commands.specs.WordTable.{CheckWords, check, decode, generate, mig
 use Rattle.qp_run_parts.specs.declared.status.Status.{Status}
 use Rattle.qp_run_parts.specs.Conversions.{HasJournal, Held, IsDecoded, IsMigrated, WhenDone, said, written}
 use Rattle.qp_system.specs.Made.{IsMade}
-use Rattle.qp_run_parts.specs.Checks.{AreLawful, IsChecked}
+use Rattle.qp_run_parts.specs.Checks.{AreLawful, PrintsLawful}
 use Rattle.qp_run_parts.specs.Endings.{ending_of}
 use Rattle.qp_run_parts.specs.Laws.{MayBeTwo, OneOutput, PrintCycles, PrintRuns}
 use Rattle.qp_run_parts.specs.Printed.{IsPrintOf, PrintsMade, PrintsOf, PrintsRun, made_budget}
 use Rattle.qp_run_parts.specs.Replays.{IsReplayText, IsReplayed}
-use Rattle.qp_run_parts.specs.Verdict.{IsInput, IsRun}
+use Rattle.qp_run_parts.specs.Verdict.{IsInput, IsRunOutput}
 use Rattle.qp_run_parts.proofs.AnswerLaw.{loaded-one, stimuli-one}
 use Rattle.qp_run_parts.proofs.ConversionLemmas.{said-written}
 use Rattle.qp_run_parts.proofs.RunLemmas.{journals-either}
@@ -76,7 +76,7 @@ outputs-one AreNamed bytes text s t xs ys named p q says tells kernel budget out
     (prints-carry bytes t s q p xs kernel budget output form b y (subst (λ zs. PrintsRun t zs kernel budget output form b y) same are))
 
 run-one : (held : Held) (system stimuli : List ℕ) (kernel : KernelName) (budget : ℕ) (output : Output) (form : ℕ) (a b : Status) (x y : List ℕ)
-    → IsRun (Some held) system stimuli kernel budget output form a x → IsRun (Some held) system stimuli kernel budget output form b y
+    → IsRunOutput (Some held) system stimuli kernel budget output form a x → IsRunOutput (Some held) system stimuli kernel budget output form b y
     → ((a ≡ b) × (x ≡ y)) ⊎ PrintRuns (IsInput (Some held) system stimuli) kernel budget output form a b x y
 run-one held system stimuli kernel budget output form a b x y (s, xs, input, is) (t, ys, other, are) =
     let first : other.system ≡ input.system = loaded-one (held system) other.system input.system other.system_held input.system_held in
@@ -124,7 +124,7 @@ module _ (held : Held) (x y : List ℕ) where
       let same = journal-one held name kind form i other j has also in
       inl (is ∙ ap (written kind to) same.1 ∙ sym are)
 
-  checked-one : (w : CheckWords) → IsChecked (Some held) w x → IsChecked (Some held) w y → (x ≡ y) ⊎ ⊥
+  checked-one : (w : CheckWords) → PrintsLawful (Some held) w x → PrintsLawful (Some held) w y → (x ≡ y) ⊎ ⊥
   checked-one w (lawful, is) (also, are) = inl (is ∙ sym are)
 
   -- an order is one, and where there is one there is no cycle
@@ -147,6 +147,6 @@ one-output held None a b x y is are = absurd is
 one-output held (Some (run w)) a b x y is are = run-one held w.system w.stimuli w.kernel w.budget w.out (number_of_form w.form) a b x y is are
 one-output held (Some (decode frames)) a b x y is are = done-one a b x y ⊥ (IsDecoded (Some held) frames) (decoded-one held x y frames) is are
 one-output held (Some (migrate w)) a b x y is are = done-one a b x y ⊥ (IsMigrated (Some held) w.file w.from (number_of_form w.to)) (migrated-one held x y w.file w.from (number_of_form w.to)) is are
-one-output held (Some (check w)) a b x y is are = done-one a b x y ⊥ (IsChecked (Some held) w) (checked-one held x y w) is are
+one-output held (Some (check w)) a b x y is are = done-one a b x y ⊥ (PrintsLawful (Some held) w) (checked-one held x y w) is are
 one-output held (Some (replay w)) a b x y is are = done-one a b x y (PrintCycles held w x y) (IsReplayed (Some held) w) (replayed-one held x y w) is are
 one-output held (Some (generate n)) a b x y is are = made-one n a b x y is are

@@ -17,7 +17,7 @@ use Rattle.qp_commands.specs.declared.values.Output.TheVariants.{Whole, Summary}
 use Rattle.qp_run_parts.specs.Conversions.{Held, IsWrittenAs, PrintsOne, written}
 use Rattle.qp_run_parts.specs.Endings.{ending_of}
 use Rattle.qp_run_parts.specs.Printed.{IsPrintOf, IsPrinted, IsRunUnder, PrintsMade, PrintsOf, PrintsRun, made_budget}
-use Rattle.qp_run_parts.specs.Verdict.{Count, EndsMade, EndsRun, HasCause, IsInput, IsRun, is_failure, quiet}
+use Rattle.qp_run_parts.specs.Verdict.{Count, EndsMade, EndsRun, HasCause, IsInput, IsRunOutput, is_failure, still_count}
 use Rattle.qp_run_parts.proofs.EndingLemmas.{written-about, written-cause, written-prints}
 
 -- ---- what was printed of a journal
@@ -79,10 +79,10 @@ module _ (sys : System) (sources : List (List Stim)) (kernel : KernelName) (budg
         written-about ends.0 whole old new faults faults' answer (wrote-ending told whole ends wrote) words
 
     pub run-cause : IsPrinted Prints old new faults faults' answer
-        → (reads misses : Count) → HasCause (record { reads = reads; misses = misses; out = record { before = faults; after = faults' }; notes = quiet }) answer
+        → (reads misses : Count) → HasCause (record { reads = reads; misses = misses; out = record { before = faults; after = faults' }; notes = still_count }) answer
     unfolding IsPrinted
     run-cause (inl (memory, same)) reads misses =
-        subst (HasCause (record { reads = reads; misses = misses; out = record { before = faults; after = faults' }; notes = quiet })) (sym memory) tt
+        subst (HasCause (record { reads = reads; misses = misses; out = record { before = faults; after = faults' }; notes = still_count })) (sym memory) tt
     run-cause (inr (told, whole, prints, wrote)) reads misses =
         let ends = prints-ends told whole prints in
         written-cause ends.0 whole old new faults faults' answer (wrote-ending told whole ends wrote) reads misses
@@ -105,9 +105,9 @@ module _ (sys : System) (sources : List (List Stim)) (kernel : KernelName) (budg
 
     -- of two files
     pub files-printed : (held : Option Held) (system stimuli : List ℕ) → IsInput held system stimuli sys sources
-        → IsPrinted Prints old new faults faults' answer → PrintsOne (IsRun held system stimuli kernel budget output form) old new answer
+        → IsPrinted Prints old new faults faults' answer → PrintsOne (IsRunOutput held system stimuli kernel budget output form) old new answer
     files-printed held system stimuli input printed =
-        run-prints (IsRun held system stimuli kernel budget output form) (λ told whole prints. (sys, sources, input, prints)) printed
+        run-prints (IsRunOutput held system stimuli kernel budget output form) (λ told whole prints. (sys, sources, input, prints)) printed
 
 -- ---- what was printed of what a number makes
 

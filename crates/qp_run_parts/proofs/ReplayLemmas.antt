@@ -14,7 +14,7 @@ use Rattle.qp_run_parts.specs.Checks.{AreLawful}
 use Rattle.qp_run_parts.specs.Conversions.{Held, IsWrittenAs, PrintsOne, WhenDone}
 use Rattle.qp_run_parts.specs.Printed.{IsPrinted}
 use Rattle.qp_run_parts.specs.Replays.{IsReplayed, IsReplayText}
-use Rattle.qp_run_parts.specs.Verdict.{AgreesCheck, Count, HasCause, JudgesCall, is_failure, quiet}
+use Rattle.qp_run_parts.specs.Verdict.{AgreesCheck, Count, HasCause, JudgesCall, is_failure, still_count}
 use Rattle.qp_run_parts.proofs.EndingLemmas.{done-prints}
 use Rattle.qp_run_parts.proofs.VerdictLemmas.{IfSome-all}
 
@@ -46,12 +46,12 @@ module _ (IsWhole : List ℕ → Type 0) (old new : Option (List ℕ)) (faults f
       by (inr (told, whole, (done, is), inl (same, got))) = subst (AgreesCheck o w) (sym (same ∙ done)) (IfSome_then o judged (λ h fact. inr fact))
       by (inr (told, whole, is, inr (failed, part, rose))) = IfSome-all o (λ h. inl (ap is_failure failed))
 
-  pub replay-cause : (reads misses : Count) → HasCause (record { reads = reads; misses = misses; out = record { before = faults; after = faults' }; notes = quiet }) answer
+  pub replay-cause : (reads misses : Count) → HasCause (record { reads = reads; misses = misses; out = record { before = faults; after = faults' }; notes = still_count }) answer
   unfolding IsPrinted
   replay-cause reads misses = by printed
     where
       by : IsPrinted (WhenDone IsWhole) old new faults faults' answer
-          → HasCause (record { reads = reads; misses = misses; out = record { before = faults; after = faults' }; notes = quiet }) answer
+          → HasCause (record { reads = reads; misses = misses; out = record { before = faults; after = faults' }; notes = still_count }) answer
       by (inl (memory, same)) = rw memory tt
       by (inr (told, whole, (done, is), inl (same, got))) = rw (same ∙ done) tt
       by (inr (told, whole, is, inr (failed, part, rose))) = rw failed (inl rose)

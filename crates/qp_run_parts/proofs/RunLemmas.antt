@@ -15,7 +15,7 @@ use Rattle.qp_model.specs.Lawful.{Lawful}
 use Rattle.qp_kernel_runs.specs.SimRun.{IsQvRun, IsSimRun}
 use Rattle.qp_commands.specs.declared.values.KernelName.{KernelName}
 use Rattle.qp_commands.specs.declared.values.KernelName.TheVariants.{Sim, Qk, Port, Wait, Qv}
-use Rattle.qp_unique.specs.Tidy.{LacksStimulus, is_short}
+use Rattle.qp_unique.specs.Tidy.{LacksStimulus, has_short_lanes}
 use Rattle.qp_run_parts.specs.Laws.{HasSpill, HaveSpilt, MayBeTwo, MayLeave}
 use Rattle.qp_run_parts.specs.Printed.{HaltedFull, IsOnlyRun, IsRunUnder}
 
@@ -55,13 +55,13 @@ module _ (sys : System) (sources : List (List Stim)) (budget : ℕ) (sound : IsS
 
 -- beside a short journal another is the same, or its lane 0 ended with a `spill`
 beside : (IsRun : Journal → Type 0) (i j : Journal) → IsOnlyRun IsRun i → IsOnlyRun IsRun j → (j ≡ i) ⊎ MayLeave i j
-beside IsRun i j is are = by (is_short i) refl
+beside IsRun i j is are = by (has_short_lanes i) refl
   where
     on : (j ≡ i) ⊎ HaltedFull j → (j ≡ i) ⊎ MayLeave i j
     on (inl same) = inl same
     on (inr halted) = inr (inr halted)
 
-    by : (b : Bool) → is_short i ≡ b → (j ≡ i) ⊎ MayLeave i j
+    by : (b : Bool) → has_short_lanes i ≡ b → (j ≡ i) ⊎ MayLeave i j
     by true short = on (is.only short j are.run)
     by false long = inr (inl long)
 

@@ -7,7 +7,7 @@ use Rattle.qp_base.specs.Counts.{Rose}
 use Rattle.qp_base.specs.Sink.{AppendsPrefix, appended}
 use Rattle.qp_model.specs.declared.stimulus.Stim.{Stim}
 use Rattle.qp_model.specs.declared.systems.System.{System}
-use Rattle.qp_stim.specs.Stimuli.{Fault, stimuli_of}
+use Rattle.qp_stim.specs.Stimuli.{FaultLine, stimuli_of}
 use Rattle.qp_system.specs.SystemOf.{IsSystemOf}
 use Rattle.qp_run_parts.specs.declared.status.Status.{Status}
 use Rattle.qp_run_parts.specs.declared.status.Status.TheVariants.{Done, Words, Absent, TooLong, Refused, Asserted, Spent, Memory, ReadFault, WriteFault, Unlawful}
@@ -17,7 +17,7 @@ use Rattle.qp_commands.specs.declared.values.Kind.TheVariants.{Frames}
 use Rattle.qp_run_parts.specs.Loads.{IsLoaded}
 use Rattle.qp_run_parts.specs.Notes.{line_of, names_file, is_quiet_success}
 use Rattle.qp_run_parts.specs.Refusals.{RefusesFirst, RefusesSecond}
-use Rattle.qp_run_parts.specs.Verdict.{Agrees, AgreesCheck, AgreesFiles, AgreesJournal, AgreesRun, AnswersFiles, AnswersSystem, AnswersStimuli, AnswersWords, Count, Counts, FailsToLoad, HasCause, HasRisen, IsAnswer, IsInput, IsPutFor, Noted, AnswerStands, AnswersSources, EndsMade, EndsRun, is_failure, quiet}
+use Rattle.qp_run_parts.specs.Verdict.{Agrees, AgreesCheck, AgreesFiles, AgreesJournal, AgreesRun, AnswersFiles, AnswersSystem, AnswersStimuli, AnswersWords, Count, Counts, FailsToLoad, HasCause, HasRisen, IsAnswer, IsInput, IsPutFor, Noted, AnswerStands, AnswersSources, EndsMade, EndsRun, is_failure, still_count}
 use Rattle.qp_commands.specs.WordTable.{Asked, CheckWords, MigrateWords, RunWords, check, decode, generate, migrate, number_of_form, replay, run}
 
 -- a fact of what the shelf holds, where it tells
@@ -35,7 +35,7 @@ unfolding IsAnswer
 told-unnamed o = IfSome-all o (λ held. inr refl)
 
 -- what refuses the stimuli is the answer on them
-refusal-answers : (sys : System) (kernel : KernelName) (budget : ℕ) (found : Result (List (List Stim)) Fault) (status : Status) → RefusesSecond found status → AnswersSources sys kernel budget found status
+refusal-answers : (sys : System) (kernel : KernelName) (budget : ℕ) (found : Result (List (List Stim)) FaultLine) (status : Status) → RefusesSecond found status → AnswersSources sys kernel budget found status
 refusal-answers sys kernel budget (Err fault) status is = is
 refusal-answers sys kernel budget (Ok sources) status is = absurd is
 
@@ -199,7 +199,7 @@ noted-done asked WouldBe n old WriteFault done = absurd (false≢true done)
 noted-done asked WouldBe n old (Unlawful definition at) done = absurd (false≢true done)
 
 -- an answer as it stands once its line was put
-widened : (n : Counts) (answer : Status) → HasCause (record n { notes = quiet }) answer → HasCause n answer
+widened : (n : Counts) (answer : Status) → HasCause (record n { notes = still_count }) answer → HasCause n answer
 widened n WriteFault (inl out) = inl out
 widened n WriteFault (inr notes) = absurd (omega (arith, notes))
 widened n (Asserted code lane) cause = cause
@@ -213,7 +213,7 @@ widened n Memory cause = cause
 widened n ReadFault cause = cause
 widened n (Unlawful definition at) cause = cause
 
-pub cause-stands : (n : Counts) (told answer : Status) → HasCause (record n { notes = quiet }) told → AnswerStands n.notes told answer → HasCause n answer
+pub cause-stands : (n : Counts) (told answer : Status) → HasCause (record n { notes = still_count }) told → AnswerStands n.notes told answer → HasCause n answer
 cause-stands n told answer cause (inl same) = rw same (widened n told cause)
 cause-stands n told answer cause (inr (inl (memory, names))) = rw memory tt
 cause-stands n told answer cause (inr (inr (failed, rose, other))) = rw failed (inr rose)

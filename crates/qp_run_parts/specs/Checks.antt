@@ -7,7 +7,7 @@ use Rattle.qp_model.specs.declared.journals.Journal as journal
 use Rattle.qp_model.specs.declared.stimulus.Stim.{Stim}
 use Rattle.qp_model.specs.declared.systems.System.{System}
 use Rattle.qp_model.specs.Lawful as lawful
-use Rattle.qp_stim.specs.Stimuli.{Fault, stimuli_of}
+use Rattle.qp_stim.specs.Stimuli.{FaultLine, stimuli_of}
 use Rattle.qp_system.specs.SystemOf.{IsSystemOf}
 use Rattle.qp_run_parts.specs.declared.place.Place.TheVariants.{Line}
 use Rattle.qp_run_parts.specs.declared.status.Status.{Status}
@@ -57,7 +57,7 @@ JudgesThird sys sources held answer =
     EndsAtLoad 3 held answer ⊎ ((bytes : List ℕ) × IsLoaded held bytes × JudgesFound sys sources (said Journal bytes) answer)
 
 -- the answer by what the stimuli's file says
-abbrev pub JudgesStimuli : System → Option (List ℕ) → Result (List (List Stim)) Fault → Status → Type 0
+abbrev pub JudgesStimuli : System → Option (List ℕ) → Result (List (List Stim)) FaultLine → Status → Type 0
 JudgesStimuli sys held (Err fault) answer = answer ≡ Refused 2 fault.code (Line fault.line)
 JudgesStimuli sys held (Ok sources) answer = JudgesThird sys sources held answer
 
@@ -92,5 +92,5 @@ abbrev pub HasLawful : Option Held → CheckWords → Type 0
 HasLawful held w = (sys : System) × (sources : List (List Stim)) × (form : ℕ) × (j : journal.Journal) × AreLawful held w sys sources form j
 
 -- what is printed of a lawful journal
-abbrev pub IsChecked : Option Held → CheckWords → List ℕ → Type 0
-IsChecked held w whole = HasLawful held w × (whole ≡ codes "lawful\n")
+abbrev pub PrintsLawful : Option Held → CheckWords → List ℕ → Type 0
+PrintsLawful held w whole = HasLawful held w × (whole ≡ codes "lawful\n")

@@ -21,7 +21,7 @@ use Rattle.qp_run_parts.specs.Checks.{AreLawful}
 use Rattle.qp_run_parts.specs.Conversions.{Held}
 use Rattle.qp_run_parts.specs.Endings.{ending_of}
 use Rattle.qp_run_parts.specs.Printed.{HaltedFull, IsRunUnder, PrintsOf, made_budget}
-use Rattle.qp_unique.specs.Tidy.{is_short}
+use Rattle.qp_unique.specs.Tidy.{has_short_lanes}
 use Rattle.qp_run_parts.specs.Verdict.{IsAnswer, IsInput, IsOutput}
 
 -- a lane of the journal ended with a `spill`
@@ -30,7 +30,7 @@ HasSpill j = list_any (λ i. is_spill i.body) (all_items j.lanes) ≡ true
 
 -- a lane of the first has more than 999,992 records, or lane 0 of the second ended with a `spill`
 abbrev pub MayLeave : (i j : journal.Journal) → Type 0
-MayLeave i j = IsFalse (is_short i) ⊎ HaltedFull j
+MayLeave i j = IsFalse (has_short_lanes i) ⊎ HaltedFull j
 
 -- where runs with one thread may leave two journals: only where a lane of one of them ended with a `spill`, and each has a lane of more
 -- than 999,992 records unless lane 0 of the other ended with a `spill`

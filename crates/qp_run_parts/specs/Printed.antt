@@ -14,7 +14,7 @@ use Rattle.qp_model.specs.Kernels.{port, qk}
 use Rattle.qp_port_law.specs.ThreadRun.{IsThreadRun}
 use Rattle.qp_system.specs.Made.{IsMade}
 use Rattle.qp_unique.specs.JournalLaws.{IsUnspilt}
-use Rattle.qp_unique.specs.Tidy.{is_short}
+use Rattle.qp_unique.specs.Tidy.{has_short_lanes}
 use Rattle.qp_run_parts.specs.declared.status.Status.{Status}
 use Rattle.qp_run_parts.specs.declared.status.Status.TheVariants.{Memory}
 use Rattle.qp_commands.specs.declared.values.KernelName.{KernelName}
@@ -30,7 +30,7 @@ HaltedFull j = spills_in (lane_items (lane_at j 0)) ≡ true
 
 -- where no lane has more than 999,992 records, this is the only such journal, but for one whose lane 0 ended with a `spill`
 abbrev pub IsOnlyJournal : (Journal → Type 0) → Journal → Type 0
-IsOnlyJournal IsRun j = IsTrue (is_short j) → (other : Journal) → IsRun other → (other ≡ j) ⊎ HaltedFull other
+IsOnlyJournal IsRun j = IsTrue (has_short_lanes j) → (other : Journal) → IsRun other → (other ≡ j) ⊎ HaltedFull other
 
 -- and where no lane ended with a `spill`, it is the only one of these, however long its lanes are
 abbrev pub IsOnlyUnspilt : (Journal → Type 0) → Journal → Type 0

@@ -4,7 +4,7 @@ use Rattle.qp_chart_names.specs.Codes.{NOT_TOML}
 use Rattle.qp_model.specs.declared.stimulus.Stim.{Stim}
 use Rattle.qp_stim.specs.declared.fault.StimFault as stim
 use Rattle.qp_stim.specs.declared.fault.StimFault.TheVariants as stim_fault
-use Rattle.qp_stim.specs.Stimuli.{Fault}
+use Rattle.qp_stim.specs.Stimuli.{FaultLine}
 use Rattle.qp_system_tables.specs.declared.fault.SystemFault as system
 use Rattle.qp_system_tables.specs.declared.fault.SystemFault.TheVariants as system_fault
 use Rattle.qp_system.specs.SystemOf.{RefusesSystem}
@@ -27,6 +27,6 @@ abbrev pub RefusesFirst : List ℕ → Status → Type 0
 RefusesFirst bytes answer = (fault : system.SystemFault) × RefusesSystem bytes fault × (fault ≢ system_fault.Memory) × (answer ≡ system_refusal fault)
 
 -- what the stimuli's file says is refused so
-abbrev pub RefusesSecond : Result (List (List Stim)) Fault → Status → Type 0
+abbrev pub RefusesSecond : Result (List (List Stim)) FaultLine → Status → Type 0
 RefusesSecond (Err fault) answer = answer ≡ Refused 2 fault.code (Line fault.line)
 RefusesSecond (Ok sources) answer = ⊥

@@ -17,9 +17,9 @@ use Rattle.qp_run_parts.specs.Conversions.{Held}
 use Rattle.qp_run_parts.specs.Printed.{IsRunUnder, PrintsOf}
 use Rattle.qp_run_parts.specs.Verdict.{IsInput, Stream}
 
-abbrev pub journal_of : Ran → Journal
-journal_of (Alone ran) = ran.journal
-journal_of (Threaded ran) = ran.sealed.journal
+abbrev pub journal_of_run : Ran → Journal
+journal_of_run (Alone ran) = ran.journal
+journal_of_run (Threaded ran) = ran.sealed.journal
 
 abbrev pub rests_of : Ran → List Rest
 rests_of (Alone ran) = ran.rests.items

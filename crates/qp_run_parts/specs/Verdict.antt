@@ -6,7 +6,7 @@ use Rattle.qp_model.specs.declared.journals.Journal as journal
 use Rattle.qp_model.specs.declared.stimulus.Stim.{Stim}
 use Rattle.qp_model.specs.declared.systems.System.{System}
 use Rattle.qp_system.specs.Made.{IsMade}
-use Rattle.qp_stim.specs.Stimuli.{Fault, stimuli_of}
+use Rattle.qp_stim.specs.Stimuli.{FaultLine, stimuli_of}
 use Rattle.qp_system.specs.SystemOf.{IsSystemOf}
 use Rattle.qp_run_parts.specs.declared.place.Place.TheVariants.{Line}
 use Rattle.qp_run_parts.specs.declared.status.Status.{Status}
@@ -17,7 +17,7 @@ use Rattle.qp_commands.specs.declared.values.Kind.{Kind}
 use Rattle.qp_commands.specs.declared.values.Kind.TheVariants.{Frames, Journal as Text}
 use Rattle.qp_commands.specs.declared.values.Output.{Output}
 use Rattle.qp_run_parts.specs.Conversions.{AnswersJournal, Held, IsDecoded, IsMigrated, PrintsOne, WhenDone, decode_on, migrate_on, written}
-use Rattle.qp_run_parts.specs.Checks.{IsChecked, Judges, JudgesFiles}
+use Rattle.qp_run_parts.specs.Checks.{PrintsLawful, Judges, JudgesFiles}
 use Rattle.qp_run_parts.specs.Endings.{ending_of}
 use Rattle.qp_run_parts.specs.Loads.{EndsAtLoad, IsLoaded}
 use Rattle.qp_run_parts.specs.Notes.{file_of, line_of, names_file}
@@ -32,7 +32,7 @@ abbrev pub EndsRun : System → List (List Stim) → KernelName → ℕ → Stat
 EndsRun sys sources kernel budget answer = (j : journal.Journal) × IsRunUnder kernel sys sources budget j × (answer ≡ ending_of j)
 
 -- the answer by what the stimuli's file says
-abbrev pub AnswersSources : System → KernelName → ℕ → Result (List (List Stim)) Fault → Status → Type 0
+abbrev pub AnswersSources : System → KernelName → ℕ → Result (List (List Stim)) FaultLine → Status → Type 0
 AnswersSources sys kernel budget (Err fault) answer = answer ≡ Refused 2 fault.code (Line fault.line)
 AnswersSources sys kernel budget (Ok sources) answer = EndsRun sys sources kernel budget answer
 
@@ -119,20 +119,20 @@ pub record Counts : Type 0 where
   pub notes : Count
 
 -- a count that stood still
-abbrev pub quiet : Count
-quiet = record { before = 0; after = 0 }
+abbrev pub still_count : Count
+still_count = record { before = 0; after = 0 }
 
 -- a count over a call, by the shelf or the sink before and after it
-abbrev pub count_of : {S : Type 0} → (S → ℕ) → (old new : S) → Count
-count_of count old new = record { before = count old; after = count new }
+abbrev pub count_over : {S : Type 0} → (S → ℕ) → (old new : S) → Count
+count_over count old new = record { before = count old; after = count new }
 
 -- the counts of a call that has only read, by the shelf's faults and misses
 abbrev pub reads_of : {F : Type 0} → (faults misses : F → ℕ) → (old new : F) → Counts
-reads_of faults misses old new = record { reads = count_of faults old new; misses = count_of misses old new; out = quiet; notes = quiet }
+reads_of faults misses old new = record { reads = count_over faults old new; misses = count_over misses old new; out = still_count; notes = still_count }
 
 -- the counts of a call that has read and written, but put no line yet
 abbrev pub writes_of : {F O : Type 0} → (faults misses : F → ℕ) → (O → ℕ) → (old new : F) → (out out' : O) → Counts
-writes_of faults misses out_faults old new out out' = record (reads_of faults misses old new) { out = count_of out_faults out out' }
+writes_of faults misses out_faults old new out out' = record (reads_of faults misses old new) { out = count_over out_faults out out' }
 
 -- an answer that comes before the run
 abbrev pub is_refusal : Status → Bool
@@ -187,18 +187,18 @@ pub record IsInput (held : Option Held) (system_name stimuli_name : List ℕ) (s
   pub stimuli_read : stimuli_of sys stimuli ≡ Ok sources
 
 -- the output of a run, and the answer with it: what is printed of a run of the system and the stimuli of two files
-abbrev pub IsRun : Option Held → (system_name stimuli_name : List ℕ) → KernelName → ℕ → Output → ℕ → Status → List ℕ → Type 0
-IsRun held system_name stimuli_name kernel budget output form answer whole =
+abbrev pub IsRunOutput : Option Held → (system_name stimuli_name : List ℕ) → KernelName → ℕ → Output → ℕ → Status → List ℕ → Type 0
+IsRunOutput held system_name stimuli_name kernel budget output form answer whole =
     (sys : System) × (sources : List (List Stim)) × IsInput held system_name stimuli_name sys sources
     × PrintsRun sys sources kernel budget output form answer whole
 
 -- the whole output of a call that is answered so
 abbrev pub IsOutput : Option Held → Option Asked → Status → List ℕ → Type 0
 IsOutput held None answer whole = ⊥
-IsOutput held (Some (run w)) answer whole = IsRun held w.system w.stimuli w.kernel w.budget w.out (number_of_form w.form) answer whole
+IsOutput held (Some (run w)) answer whole = IsRunOutput held w.system w.stimuli w.kernel w.budget w.out (number_of_form w.form) answer whole
 IsOutput held (Some (decode frames)) answer whole = WhenDone (IsDecoded held frames) answer whole
 IsOutput held (Some (migrate w)) answer whole = WhenDone (IsMigrated held w.file w.from (number_of_form w.to)) answer whole
-IsOutput held (Some (check w)) answer whole = WhenDone (IsChecked held w) answer whole
+IsOutput held (Some (check w)) answer whole = WhenDone (PrintsLawful held w) answer whole
 IsOutput held (Some (replay w)) answer whole = WhenDone (IsReplayed held w) answer whole
 IsOutput held (Some (generate n)) answer whole = PrintsMade n answer whole
 
@@ -207,13 +207,13 @@ abbrev pub Prints : Option Held → Option Asked → (old new : Option (List ℕ
 Prints held asked old new answer = PrintsOne (IsOutput held asked) old new answer
 
 -- where no count rose, the answer is this one, or memory was refused
-abbrev pub Ends : Counts → (wanted answer : Status) → Type 0
-Ends n wanted answer = (HasRisen n.reads → ⊥) → (HasRisen n.out → ⊥) → (HasRisen n.notes → ⊥) → (answer ≡ wanted) ⊎ (answer ≡ Memory)
+abbrev pub AnswersUnlessRisen : Counts → (wanted answer : Status) → Type 0
+AnswersUnlessRisen n wanted answer = (HasRisen n.reads → ⊥) → (HasRisen n.out → ⊥) → (HasRisen n.notes → ⊥) → (answer ≡ wanted) ⊎ (answer ≡ Memory)
 
 -- a file that the shelf tells has a journal as text or as frames, and this is the answer on the journal
 abbrev pub EndsOnJournal : Option (List ℕ) → Kind → (journal.Journal → Status) → Counts → Status → Type 0
 EndsOnJournal held kind on n answer =
-    (form : ℕ) (j : journal.Journal) → IsWritable form j → IsLoaded held (written kind form j) → Ends n (on j) answer
+    (form : ℕ) (j : journal.Journal) → IsWritable form j → IsLoaded held (written kind form j) → AnswersUnlessRisen n (on j) answer
 
 -- a journal of three files that the shelf tells, of the system and the stimuli that the first two have, is judged
 unfoldable pub EndsJudging : (system stimuli held : Option (List ℕ)) → Counts → Status → Type 0
@@ -240,7 +240,7 @@ EndsMaking number n answer =
 -- calls that end: each system is run on its stimuli, frames of a journal are decoded, a journal is migrated to each form that it has,
 -- each journal is judged, and replayed where it is lawful, and what a number makes is run
 abbrev pub EndsCall : Held → Option Asked → Counts → Status → Type 0
-EndsCall held None n answer = Ends n Words answer
+EndsCall held None n answer = AnswersUnlessRisen n Words answer
 EndsCall held (Some (run w)) n answer = EndsRunning (held w.system) (held w.stimuli) w.kernel w.budget n answer
 EndsCall held (Some (decode frames)) n answer = EndsOnJournal (held frames) Frames decode_on n answer
 EndsCall held (Some (migrate w)) n answer = EndsOnJournal (held w.file) w.from (migrate_on (number_of_form w.to)) n answer

@@ -2,7 +2,7 @@
 ghost use Rattle.std.specs.Prelude.{◌≡◌, ◌≢◌, ◌≤◌, ◌⊎◌, length, IfOk, IfErr, true};
 ghost use Rattle.qp_model.specs.Sound.{IsSound};
 ghost use Rattle.qp_stim.specs.Rules.{StimuliFit};
-ghost use Rattle.qp_run_parts.specs.Checks.{AreLawful, IsChecked, IsLawfulText, JudgesFound, is_of_files, third};
+ghost use Rattle.qp_run_parts.specs.Checks.{AreLawful, PrintsLawful, IsLawfulText, JudgesFound, is_of_files, third};
 ghost use Rattle.qp_run_parts.specs.Conversions.{IsFoundIn, PrintsOne, RefusesFile, WhenDone, said};
 ghost use Rattle.qp_run_parts.specs.Verdict.{AgreesCheck, HasCause, JudgesCall, is_failure, is_refusal, reads_of, writes_of};
 ghost use Rattle.qp_commands.specs.WordTable.{check_words};
@@ -113,7 +113,7 @@ pub fn check_files<F: Shelf, O: Sink>(
     ensures told { AgreesCheck (F.holds files.old) (check_words system.now stimuli.now journal.now) result }
     ensures about { result ≢ Status.Words }
     ensures cause { HasCause (writes_of F.faults F.misses O.faults files.old files.new out.old out.new) result }
-    ensures out { PrintsOne (WhenDone (IsChecked (F.holds files.old) (check_words system.now stimuli.now journal.now)))
+    ensures out { PrintsOne (WhenDone (PrintsLawful (F.holds files.old) (check_words system.now stimuli.now journal.now)))
         (O.written out.old) (O.written out.new) result }
     ensures holds { F.holds files.new ≡ F.holds files.old }
 {

@@ -1,7 +1,7 @@
 //! Runs that have ended, and what of them is kept.
 
 ghost use Rattle.std.specs.Prelude.{◌≡◌, option_map};
-ghost use Rattle.qp_run_parts.specs.Sealed.{journal_of, kept_seal, rests_of, sealed_in};
+ghost use Rattle.qp_run_parts.specs.Sealed.{journal_of_run, kept_seal, rests_of, sealed_in};
 
 use crate::status::Status;
 use qp_kernel_end::Rest;
@@ -20,7 +20,7 @@ pub(crate) enum Ran {
 
 impl Ran {
     pub(crate) fn journal(&self) -> &Journal
-        ensures { result.now ≡ journal_of self.now }
+        ensures { result.now ≡ journal_of_run self.now }
     {
         match self {
             Ran::Alone(run) => &run.journal,

@@ -13,8 +13,8 @@ ghost use Rattle.qp_wait_runs.specs.Handed.{WasSealedFor};
 ghost use Rattle.qp_run_parts.specs.Conversions.{PrintsOne};
 ghost use Rattle.qp_run_parts.specs.Endings.{ending_of};
 ghost use Rattle.qp_run_parts.specs.Printed.{IsPrinted, IsRunUnder, PrintsMade, PrintsOf, PrintsRun, made_budget};
-ghost use Rattle.qp_run_parts.specs.Sealed.{IsSealed, IsSealedRun, SealsOne, journal_of, rests_of, sealed_in};
-ghost use Rattle.qp_run_parts.specs.Verdict.{AgreesRun, Count, EndsMade, HasCause, IsInput, IsRun, count_of, is_failure, is_refusal, quiet, reads_of, writes_of};
+ghost use Rattle.qp_run_parts.specs.Sealed.{IsSealed, IsSealedRun, SealsOne, journal_of_run, rests_of, sealed_in};
+ghost use Rattle.qp_run_parts.specs.Verdict.{AgreesRun, Count, EndsMade, HasCause, IsInput, IsRunOutput, count_over, is_failure, is_refusal, still_count, reads_of, writes_of};
 ghost use Rattle.qp_commands.specs.WordTable.{has_threads, is_form_of, number_of_form};
 ghost use Rattle.qp_run_parts.specs.declared.status.Status.{Status};
 ghost use Rattle.qp_commands.specs.declared.values.KernelName.TheVariants.{Sim, Qv};
@@ -145,9 +145,9 @@ fn run_under<R: Threads + Wait + Sync, G: Gate>(
     requires fit { StimuliFit system.now stimuli.now }
     requires some { 0 < budget }
     requires few { budget ≤ 1000000 }
-    ensures run { IfOk result (λ ran. IsRunUnder kernel system.now stimuli.now budget (journal_of ran)) }
-    ensures rests { IfOk result (λ ran. AreRestsIn system.now (journal_of ran) (rests_of ran)) }
-    ensures seal { IfOk result (λ ran. sealed_in ran ≡ if has_threads kernel then Some (journal_of ran) else None) }
+    ensures run { IfOk result (λ ran. IsRunUnder kernel system.now stimuli.now budget (journal_of_run ran)) }
+    ensures rests { IfOk result (λ ran. AreRestsIn system.now (journal_of_run ran) (rests_of ran)) }
+    ensures seal { IfOk result (λ ran. sealed_in ran ≡ if has_threads kernel then Some (journal_of_run ran) else None) }
     ensures sealed { IfOk result (λ ran. IfSome (sealed_in ran) (WasSealedFor system.now)) }
 {
     match kernel {
@@ -246,7 +246,7 @@ pub fn run_files<R: Threads + Wait + Sync, F: Shelf, O: Sink, G: Gate>(
     ensures told { AgreesRun (F.holds files.old) system.now stimuli.now kernel budget result.status }
     ensures about { result.status ≢ Status.Words }
     ensures cause { HasCause (writes_of F.faults F.misses O.faults files.old files.new out.old out.new) result.status }
-    ensures out { PrintsOne (IsRun (F.holds files.old) system.now stimuli.now kernel budget output (number_of_form form))
+    ensures out { PrintsOne (IsRunOutput (F.holds files.old) system.now stimuli.now kernel budget output (number_of_form form))
         (O.written out.old) (O.written out.new) result.status }
     ensures seal { SealsOne (has_threads kernel) result.status
         (IsSealed (F.holds files.old) system.now stimuli.now kernel budget output (number_of_form form) (O.written out.old) (O.written out.new) result.status)
@@ -307,7 +307,7 @@ pub fn run_made<R: Wait, O: Sink>(rt: &R, alloc: Global, number: u32, out: &mut 
     ensures told { (is_failure result ≡ true) ⊎ EndsMade number result }
     ensures about { result ≢ Status.Words }
     ensures cause { (reads misses : Count) → HasCause
-        (record { reads = reads; misses = misses; out = count_of O.faults out.old out.new; notes = quiet }) result }
+        (record { reads = reads; misses = misses; out = count_over O.faults out.old out.new; notes = still_count }) result }
     ensures out { PrintsOne (PrintsMade number) (O.written out.old) (O.written out.new) result }
 {
     match generate(alloc, number) {

@@ -20,13 +20,13 @@ use Rattle.qp_calls.specs.LaneView.{Shown, FreeBlocks, first_shown, codes_in, ha
 use Rattle.qp_calls.specs.Tokens.{Token, Held, Loose, token_of, hands_after}
 use Rattle.qp_calls_log.specs.declared.log.Log.{Log}
 use Rattle.qp_table.specs.Rule.{params_of, mark_in, bits_value, is_serve}
-use Rattle.qp_table.specs.After.{nothing}
+use Rattle.qp_table.specs.After.{empty_view}
 use Rattle.qp_table.specs.declared.view.Serve.{Serve}
 use Rattle.qp_table.specs.declared.view.View.{View}
 use Rattle.qp_table.proofs.Bounds.{map-small}
 use Rattle.qp_table.proofs.Start.{fitting, object-within}
 use Rattle.qp_table.specs.Words.{place_of, is_here, first_value, value_seen, latest, mark_seen, shown_seen, as_shown}
-use Rattle.qp_table.specs.Lane.{own_recs, on_table_of, tell, event_seen, lane_number, tokens, tokens_in, lane_mark, lane_of}
+use Rattle.qp_table.specs.Lane.{own_recs, on_table_of, tell_lane, event_seen, lane_number, tokens, tokens_of_view, lane_mark, lane_of}
 use Rattle.qp_side.specs.Rule.{SideFitting, signal_at, timer_at}
 use Rattle.qp_side.specs.Told.{last_seen}
 use Rattle.qp_side.specs.declared.view.SideView.{SideView}
@@ -35,7 +35,7 @@ use Rattle.qp_shared_lane.specs.Lane.{lane_with}
 use Rattle.qp_shared_ends.proofs.Maps.{free-ascend}
 use Rattle.qp_table.proofs.Maps.{ones-length}
 use Rattle.qp_shared_ends.proofs.SeatPasts.{first-mark}
-use Rattle.qp_shared.specs.Starting.{IsBareLog, AreFirstViews, StartsAs}
+use Rattle.qp_shared.specs.Starting.{IsBareLog, AreFirstViews, IsNewLaneOf}
 
 pub side-fitting : (sys : System) → IsSound sys → SideFitting sys
 side-fitting sys sound = record { few_signals = sound.few_signals; few_timers = sound.few_timers; objects = λ o h. let w = object-within sys sound o h in (w.0, w.1) }
@@ -53,7 +53,7 @@ static-params sys sound sig fixed = go (slice_get sys.signals (sig - 4)) refl
 
 -- views with nothing but a number, numbers to give, and objects
 abbrev pub first_view : ℕ → List ℕ → List Serve → View
-first_view n ks xs = record nothing { logs = record { number = n; recs = [] } ∷ []; lane_numbers = ks; serves = xs }
+first_view n ks xs = record empty_view { logs = record { number = n; recs = [] } ∷ []; lane_numbers = ks; serves = xs }
 
 abbrev pub first_side : ℕ → List ℕ → List Serve → SideView
 first_side n ks xs = record { view = first_view n ks xs; stops = []; answered = [] }
@@ -66,10 +66,10 @@ module _ (sys : System) (sound : IsSound sys) (count n : ℕ) (g : Log) (bare : 
   s = first_side n js xs
 
   pub nothing-told : told_by g [] v ≡ []
-  unfolding tell
-  nothing-told = ap (λ rs. tell (event_seen v.contents) rs []) bare.recs
+  unfolding tell_lane
+  nothing-told = ap (λ rs. tell_lane (event_seen v.contents) rs []) bare.recs
 
-  no-tokens : (t : Token) → tokens t (hands_after [] []) ≡ tokens_in v t
+  no-tokens : (t : Token) → tokens t (hands_after [] []) ≡ tokens_of_view v t
   unfolding hands_after
   no-tokens (Held p b k) = refl
   no-tokens (Loose p b true) = refl
@@ -183,7 +183,7 @@ module _ (sys : System) (sound : IsSound sys) (count n : ℕ) (g : Log) (bare : 
       go true here = as-first w here
       go false here = refl
 
-  pub first-starts : (world : List ℕ) → StartsAs world sys n (lane_with world sys 0 g [] v s)
+  pub first-starts : (world : List ℕ) → IsNewLaneOf world sys n (lane_with world sys 0 g [] v s)
   unfolding lane_of own_after hands_after lane_number
   first-starts world = record {
     new = record {
@@ -211,6 +211,6 @@ module _ (sys : System) (sound : IsSound sys) (count n : ℕ) (g : Log) (bare : 
   holds-at = subst (λ (x : List ℕ × View × SideView). LaneHolds sys count 0 g x.0 x.1 x.2) (λ i. (sym none i, sym views.table i, sym views.side i))
       (first-holds sys sound count n g bare views.numbers views.side_numbers u.serves views.rights views.side_rights)
 
-  pub starts-at : (world : List ℕ) → StartsAs world sys n (lane_with world sys 0 g nums u z)
-  starts-at world = subst (λ (x : List ℕ × View × SideView). StartsAs world sys n (lane_with world sys 0 g x.0 x.1 x.2)) (λ i. (sym none i, sym views.table i, sym views.side i))
+  pub starts-at : (world : List ℕ) → IsNewLaneOf world sys n (lane_with world sys 0 g nums u z)
+  starts-at world = subst (λ (x : List ℕ × View × SideView). IsNewLaneOf world sys n (lane_with world sys 0 g x.0 x.1 x.2)) (λ i. (sym none i, sym views.table i, sym views.side i))
       (first-starts sys sound count n g bare views.numbers views.side_numbers u.serves world)

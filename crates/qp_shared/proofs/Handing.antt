@@ -19,30 +19,30 @@ use Rattle.qp_shared_ends.specs.Joining.{all_both, all_joined, recs_in, side_of,
 use Rattle.qp_shared.specs.declared.lane.SharedLane.{SharedLane}
 use Rattle.qp_shared.specs.declared.shared.Shared.{Shared}
 use Rattle.qp_shared.specs.declared.shared.Root.{Root}
-use Rattle.qp_shared.specs.Ending.{states}
+use Rattle.qp_shared.specs.Ending.{lane_states}
 use Rattle.qp_shared.specs.Lane.{lane_view}
-use Rattle.qp_shared.specs.Starting.{AreFirst, AreGiven, FirstLane, HasLeft, IsGiven, IsRootAt, StartsAs, given, left, objects_for, rest_of, serves_all, serves_one, world_name}
+use Rattle.qp_shared.specs.Starting.{AreFirst, AreGiven, FirstLane, HasLeft, IsGiven, IsRootAt, IsNewLaneOf, lane_serves, root_serves, objects_for, rest_of, serves_all, serves_one, world_name}
 use Rattle.qp_shared.proofs.Serving.{gets, none-left, and-on}
 
 -- one in the midst
-pub each-mid : (P : LaneState → Type 0) (ys : List SharedLane) (l : SharedLane) (zs : List SharedLane) → Each P (states (ys ++ l ∷ zs)) → P l.state
+pub each-mid : (P : LaneState → Type 0) (ys : List SharedLane) (l : SharedLane) (zs : List SharedLane) → Each P (lane_states (ys ++ l ∷ zs)) → P l.state
 each-mid P [] l zs e = e.0
 each-mid P (y ∷ ys) l zs e = each-mid P ys l zs e.1
 
 -- one lane more
-pub joined-more : (ys : List SharedLane) (l : SharedLane) (v : View) → all_joined v (map table_of (states (ys ++ l ∷ []))) ≡ views_joined (all_joined v (map table_of (states ys))) (table_of l.state)
+pub joined-more : (ys : List SharedLane) (l : SharedLane) (v : View) → all_joined v (map table_of (lane_states (ys ++ l ∷ []))) ≡ views_joined (all_joined v (map table_of (lane_states ys))) (table_of l.state)
 joined-more [] l v = refl
 joined-more (y ∷ ys) l v = joined-more ys l (views_joined v (table_of y.state))
 
-pub both-more : (ys : List SharedLane) (l : SharedLane) (v : SideView) → all_both v (map side_of (states (ys ++ l ∷ []))) ≡ both_of (all_both v (map side_of (states ys))) (side_of l.state)
+pub both-more : (ys : List SharedLane) (l : SharedLane) (v : SideView) → all_both v (map side_of (lane_states (ys ++ l ∷ []))) ≡ both_of (all_both v (map side_of (lane_states ys))) (side_of l.state)
 both-more [] l v = refl
 both-more (y ∷ ys) l v = both-more ys l (both_of v (side_of y.state))
 
-pub recs-more : (ys : List SharedLane) (l : SharedLane) (front now new : List (List Rec)) → now ≡ front ++ map recs_in (states ys) → new ≡ now ++ recs_in l.state ∷ [] → new ≡ front ++ map recs_in (states (ys ++ l ∷ []))
+pub recs-more : (ys : List SharedLane) (l : SharedLane) (front now new : List (List Rec)) → now ≡ front ++ map recs_in (lane_states ys) → new ≡ now ++ recs_in l.state ∷ [] → new ≡ front ++ map recs_in (lane_states (ys ++ l ∷ []))
 recs-more ys l front now new was is =
-    is ∙ ap (λ xs. xs ++ recs_in l.state ∷ []) was ∙ append_assoc front (map recs_in (states ys)) (recs_in l.state ∷ []) ∙ ap (λ xs. front ++ xs) (sym (snoc ys))
+    is ∙ ap (λ xs. xs ++ recs_in l.state ∷ []) was ∙ append_assoc front (map recs_in (lane_states ys)) (recs_in l.state ∷ []) ∙ ap (λ xs. front ++ xs) (sym (snoc ys))
   where
-    snoc : (ys : List SharedLane) → map recs_in (states (ys ++ l ∷ [])) ≡ map recs_in (states ys) ++ recs_in l.state ∷ []
+    snoc : (ys : List SharedLane) → map recs_in (lane_states (ys ++ l ∷ [])) ≡ map recs_in (lane_states ys) ++ recs_in l.state ∷ []
     snoc [] = refl
     snoc (y ∷ ys) = ap (λ xs. recs_in y.state ∷ xs) (snoc ys)
 
@@ -56,13 +56,13 @@ snoc-each P k (x ∷ xs) v e p (suc i) u at =
     let up : suc k + i ≡ k + suc i = omega arith in let long : k + suc (length xs) ≡ suc k + length xs = omega arith in
     subst (λ n. P n u) up (snoc-each P (suc k) xs v (λ i u at. let down : k + suc i ≡ suc k + i = omega arith in subst (λ n. P n u) down (e (suc i) u at)) (subst (λ n. P n v) long p) i u at)
 
-pub given-more : (s : Shared) (count : ℕ) (port : Bool) (ls now : List SharedLane) (l : SharedLane) (k : ℕ) → k ≡ length ls + 1 → now ≡ ls ++ l ∷ [] → AreGiven s count port (map lane_view ls) → IsGiven s k count (given s.sys.now port k) (lane_view l)
+pub given-more : (s : Shared) (count : ℕ) (port : Bool) (ls now : List SharedLane) (l : SharedLane) (k : ℕ) → k ≡ length ls + 1 → now ≡ ls ++ l ∷ [] → AreGiven s count port (map lane_view ls) → IsGiven s k count (lane_serves s.sys.now port k) (lane_view l)
     → AreGiven s count port (map lane_view now)
 given-more s count port ls now l k is new e p =
-    let P : ℕ → LaneView → Type 0 = (λ i v. IsGiven s (i + 1) count (given s.sys.now port (i + 1)) v) in
+    let P : ℕ → LaneView → Type 0 = (λ i v. IsGiven s (i + 1) count (lane_serves s.sys.now port (i + 1)) v) in
     let last : k ≡ 0 + length (map lane_view ls) + 1 = let long = length-map ls lane_view in omega arith in
     let all = snoc-each P 0 (map lane_view ls) (lane_view l) (λ i u at. let z : i ≡ 0 + i = omega arith in subst (λ n. P n u) z (e i u at))
-    (subst (λ n. IsGiven s n count (given s.sys.now port n) (lane_view l)) last p) in
+    (subst (λ n. IsGiven s n count (lane_serves s.sys.now port n) (lane_view l)) last p) in
     subst (AreGiven s count port) (sym (ap (map lane_view) new ∙ map-append lane_view ls (l ∷ []))) (λ i u at. let z : 0 + i ≡ i = omega arith in subst (λ n. P n u) z (all i u at))
 
 module _ (s : Shared) (port : Bool) (sound : IsSound s.sys.now) (k m : ℕ) (later : 0 < k) (set : m ≡ objects_for s.sys.now port k) (old : Root) (has : HasLeft s port k old) where
@@ -72,14 +72,14 @@ module _ (s : Shared) (port : Bool) (sound : IsSound s.sys.now) (k m : ℕ) (lat
     serves = λ o. ap (list_any (is_serve o)) is ∙ (ap (λ m. list_any (is_serve o) (failing (in_set m) old.seat.me.0.serves)) set ∙ (gets s.sys.now sound k o later old.seat.me.0.serves port (has.serves o)).1);
   }
 
-  pub given-one : (count : ℕ) (v : LaneView) → IsGiven s k count (λ o. list_any (is_serve o) (passing (in_set m) old.seat.me.0.serves)) v → IsGiven s k count (given s.sys.now port k) v
+  pub given-one : (count : ℕ) (v : LaneView) → IsGiven s k count (λ o. list_any (is_serve o) (passing (in_set m) old.seat.me.0.serves)) v → IsGiven s k count (lane_serves s.sys.now port k) v
   given-one count v g = record {
     starts = g.starts;
     serve = λ o. g.serve o ∙ (ap (λ m. list_any (is_serve o) (passing (in_set m) old.seat.me.0.serves)) set ∙ (gets s.sys.now sound k o later old.seat.me.0.serves port (has.serves o)).0);
   }
 
 -- all lanes are first ones, where each serves what it should
-pub first-ones : (s : Shared) (n : ℕ) (port : Bool) (serves : ℕ → ℕ → Bool) (vs : List LaneView) → ((o : ℕ) → left s.sys.now port n o ≡ serves 0 o) → ((i o : ℕ) → given s.sys.now port (i + 1) o ≡ serves (i + 1) o)
+pub first-ones : (s : Shared) (n : ℕ) (port : Bool) (serves : ℕ → ℕ → Bool) (vs : List LaneView) → ((o : ℕ) → root_serves s.sys.now port n o ≡ serves 0 o) → ((i o : ℕ) → lane_serves s.sys.now port (i + 1) o ≡ serves (i + 1) o)
     → length vs ≡ n → FirstLane s n port vs → AreGiven s n port (rest_of vs) → AreFirst s n serves vs
 first-ones s n port serves [] zero-is more-are long none others = absurd none
 first-ones s n port serves (v ∷ vs) zero-is more-are long one others = record {
@@ -88,9 +88,9 @@ first-ones s n port serves (v ∷ vs) zero-is more-are long one others = record 
   serve = λ i u at o. serve i u at o;
 }
   where
-    starts : (i : ℕ) (u : LaneView) → slice_get (v ∷ vs) i ≡ Some u → StartsAs (world_name s n) s.sys.now i u
-    starts zero u at = let is : v ≡ u = cc in subst (StartsAs (world_name s n) s.sys.now 0) is one.starts
-    starts (suc i) u at = let up : i + 1 ≡ suc i = omega arith in subst (λ k. StartsAs (world_name s n) s.sys.now k u) up (others i u at).starts
+    starts : (i : ℕ) (u : LaneView) → slice_get (v ∷ vs) i ≡ Some u → IsNewLaneOf (world_name s n) s.sys.now i u
+    starts zero u at = let is : v ≡ u = cc in subst (IsNewLaneOf (world_name s n) s.sys.now 0) is one.starts
+    starts (suc i) u at = let up : i + 1 ≡ suc i = omega arith in subst (λ k. IsNewLaneOf (world_name s n) s.sys.now k u) up (others i u at).starts
 
     serve : (i : ℕ) (u : LaneView) → slice_get (v ∷ vs) i ≡ Some u → (o : ℕ) → u.serves o ≡ serves i o
     serve zero u at o = let is : v ≡ u = cc in subst (λ u. u.serves o ≡ serves 0 o) is (one.serve o ∙ zero-is o)

@@ -16,7 +16,7 @@ use Rattle.qp_table.specs.declared.view.SeatLog as table_log
 use Rattle.qp_table.specs.declared.view.Serve.{Serve}
 use Rattle.qp_table.specs.declared.view.View.{View}
 use Rattle.qp_table.specs.Words.{latest, mark_seen, shown_seen}
-use Rattle.qp_table.specs.Lane.{Standing, lane_of, lane_mark, lane_number, own_recs}
+use Rattle.qp_table.specs.Lane.{LaneContext, lane_of, lane_mark, lane_number, own_recs}
 use Rattle.qp_table.specs.Telling.{Meets}
 use Rattle.qp_table.proofs.ViewLawLemmas.{meets_see_both}
 use Rattle.qp_table.proofs.Meeting.{latest-mark}
@@ -24,7 +24,7 @@ use Rattle.qp_side.specs.Rule.{signal_at, timer_at}
 use Rattle.qp_side.specs.Told.{last_seen, served_by, both_of, side_onlooker}
 use Rattle.qp_side.specs.declared.view.SideView.{SideView}
 use Rattle.qp_shared_lane.specs.Holds.{LaneHolds, side_mark, told_by}
-use Rattle.qp_shared_lane.specs.Lane.{standing, lane_with, state_view}
+use Rattle.qp_shared_lane.specs.Lane.{lane_context, lane_with, state_view}
 use Rattle.qp_shared_lane.specs.declared.lane.LaneState.{LaneState}
 use Rattle.qp_shared_lane.proofs.LawLemmas.{looks_keep_the_lane, worlds_name_tables}
 use Rattle.qp_shared_ends.specs.Seats.{IsOnePast}
@@ -93,9 +93,9 @@ heard-marks sys s z (word.Pool p) = refl
 heard-marks sys s z (word.Block p b) = refl
 heard-marks sys s z (word.Queue a) = refl
 
-module _ (world : List ℕ) (sys : System) (by count ceiling : ℕ) (g : Log) (numbers : List ℕ) (v w : View) (s z : SideView) (other : Standing) (theirs : List ToldItem) (more : ℕ) (same : other.sys ≡ sys) (past : IsOnePast sys (met v w)) (side_is : (x : Word) → other.side x ≡ side_mark sys z x) where
-  abbrev at : Standing
-  at = standing world sys by g v s
+module _ (world : List ℕ) (sys : System) (by count ceiling : ℕ) (g : Log) (numbers : List ℕ) (v w : View) (s z : SideView) (other : LaneContext) (theirs : List ToldItem) (more : ℕ) (same : other.sys ≡ sys) (past : IsOnePast sys (met v w)) (side_is : (x : Word) → other.side x ≡ side_mark sys z x) where
+  abbrev at : LaneContext
+  at = lane_context world sys by g v s
 
   both : Meets (lane_of at (told_by g numbers v) g.spare v) (lane_of other theirs more w) (lane_of at (told_by g numbers v) g.spare (met v w))
   both = meets_see_both at other (told_by g numbers v) theirs g.spare more v w past.was same past.one past.first

@@ -3,12 +3,12 @@ use Rattle.std.proofs.Common.{◌≡◌, ℕ, zero, suc, ◌+◌, ◌-◌, ◌<�
 use Rattle.qp_model.specs.Lists.{count_up}
 use Rattle.qp_table.specs.Counting.{many, without}
 use Rattle.qp_table.specs.Rule.{is_number}
-use Rattle.qp_table.specs.After.{nothing, newcomer, passing, failing}
+use Rattle.qp_table.specs.After.{empty_view, newcomer, passing, failing}
 use Rattle.qp_table.specs.declared.view.Serve.{Serve}
 use Rattle.qp_table.specs.declared.view.View.{View}
 use Rattle.qp_side.specs.Told.{side_root, root_less, seat_with}
 use Rattle.qp_side.specs.declared.view.SideView.{SideView}
-use Rattle.qp_shared_ends.specs.Seats.{root_left, lane_new, with_number}
+use Rattle.qp_shared_ends.specs.Seats.{root_left, lane_new, as_lane_seat}
 use Rattle.qp_shared.specs.Starting.{AreFirstViews}
 
 numbers-are : (k : ℕ) → k < 49 → count_up k (49 - k) ≡ k ∷ count_up (k + 1) (49 - (k + 1))
@@ -33,8 +33,8 @@ given-views number count t old beside v s some is side same =
     let serves : passing t old.serves ≡ v.serves = ap (λ (z : View). z.serves) (sym is) in record {
       numbers = [];
       side_numbers = [];
-      table = is ∙ (λ i. record nothing { logs = record { number = number; recs = [] } ∷ []; serves = serves i });
-      side = side ∙ (λ i. record { view = record nothing { logs = record { number = number; recs = [] } ∷ []; serves = (ap (passing t) same ∙ serves) i }; stops = []; answered = [] });
+      table = is ∙ (λ i. record empty_view { logs = record { number = number; recs = [] } ∷ []; serves = serves i });
+      side = side ∙ (λ i. record { view = record empty_view { logs = record { number = number; recs = [] } ∷ []; serves = (ap (passing t) same ∙ serves) i }; stops = []; answered = [] });
       rights = sym (ap (λ (b : Bool). cond b (50 - count) 1) (ne_eqb number 0 (λ e. absurd (omega arith))));
       side_rights = sym (ap (λ (b : Bool). cond b (50 - count) 1) (ne_eqb number 0 (λ e. absurd (omega arith))));
     }
@@ -51,12 +51,12 @@ pub side-left : (k : ℕ) (t : Serve → Bool) (old new : SideView) (xs ys : Lis
 side-left k t old new xs ys some few is left serves = left ∙ (ap (root_less k t) is ∙ (λ i. side_root (without-second k some few i) (serves i)))
 
 -- the views of the root as lane 0
-pub kept-views : (count : ℕ) (v : View) (beside s : SideView) → count ≤ 49 → v ≡ newcomer (count_up count (49 - count)) v.serves → beside ≡ side_root (0 ∷ count_up count (49 - count)) v.serves → s ≡ with_number 0 beside → AreFirstViews 0 count v s
+pub kept-views : (count : ℕ) (v : View) (beside s : SideView) → count ≤ 49 → v ≡ newcomer (count_up count (49 - count)) v.serves → beside ≡ side_root (0 ∷ count_up count (49 - count)) v.serves → s ≡ as_lane_seat 0 beside → AreFirstViews 0 count v s
 kept-views count v beside s few is side number = let l = length-up count (49 - count) in record {
   numbers = count_up count (49 - count);
   side_numbers = count_up count (49 - count);
   table = is;
-  side = number ∙ ap (with_number 0) side;
+  side = number ∙ ap (as_lane_seat 0) side;
   rights = omega arith;
   side_rights = omega arith;
 }

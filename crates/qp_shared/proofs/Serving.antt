@@ -24,7 +24,7 @@ use Rattle.qp_table.specs.After.{passing, failing}
 use Rattle.qp_table.specs.declared.view.Serve.{Serve}
 use Rattle.qp_table.proofs.Start.{object-within, serves-once}
 use Rattle.qp_side.specs.Seats.{in_set}
-use Rattle.qp_shared.specs.Starting.{objects_for, given, left}
+use Rattle.qp_shared.specs.Starting.{objects_for, lane_serves, root_serves}
 
 -- whether the set has the object
 abbrev has_bit : ℕ → ℕ → Bool
@@ -170,8 +170,8 @@ module _ (sys : System) (sound : IsSound sys) (k o : ℕ) (later : 0 < k) (xs : 
   by-place (Some d) at bit is = given-case bit (is_object sys o) before (d.priority == o)
       (λ h. sym is ∙ bit-of d.priority o (at-place sys.objects (k - 1) d sound.ascend at).some (object-within sys sound o h).0) (λ h. (is-here d at h).0) (λ h. (is-here d at h).1)
 
-  pub gets : (port : Bool) → list_any (is_serve o) xs ≡ left sys port k o
-      → (list_any (is_serve o) (passing (in_set (objects_for sys port k)) xs) ≡ given sys port k o) × (list_any (is_serve o) (failing (in_set (objects_for sys port k)) xs) ≡ left sys port (k + 1) o)
+  pub gets : (port : Bool) → list_any (is_serve o) xs ≡ root_serves sys port k o
+      → (list_any (is_serve o) (passing (in_set (objects_for sys port k)) xs) ≡ lane_serves sys port k o) × (list_any (is_serve o) (failing (in_set (objects_for sys port k)) xs) ≡ root_serves sys port (k + 1) o)
   gets false h = (any-passing 0 o xs ∙ (λ i. no-bit o i && list_any (is_serve o) xs), any-failing 0 o xs ∙ (λ i. not (no-bit o i) && h i))
   gets true h =
       let m : ℕ = objects_for sys true k in let z = by-place (slice_get sys.objects (k - 1)) refl (has_bit m o) refl in
@@ -192,7 +192,7 @@ all-served sys sound o = any-first (first_serves sys 32) (is_object sys o) (serv
         go false true e r = r true (omega arith)
         go false false e r = r false (omega arith)
 
-pub all-left : (sys : System) (port : Bool) (o : ℕ) → left sys port 1 o ≡ is_object sys o
+pub all-left : (sys : System) (port : Bool) (o : ℕ) → root_serves sys port 1 o ≡ is_object sys o
 all-left sys true o = and-on (is_object sys o)
 all-left sys false o = and-on (is_object sys o)
 
@@ -208,7 +208,7 @@ pub no-bits-for : (sys : System) (port : Bool) (k : ℕ) → port ≡ true → s
 no-bits-for sys port k is at = sym (λ i. option_map_or (λ (d : ObjectDef). 2 ^ (d.priority - 1)) (at i) 0) ∙ sym (λ i. if is i then option_map_or (λ (d : ObjectDef). 2 ^ (d.priority - 1)) (slice_get sys.objects (k - 1)) 0 else 0)
 
 -- where as many lanes were given out as there are objects, none is left
-pub none-left : (sys : System) (sound : IsSound sys) (n o : ℕ) → length sys.objects < n → left sys true n o ≡ false
+pub none-left : (sys : System) (sound : IsSound sys) (n o : ℕ) → length sys.objects < n → root_serves sys true n o ≡ false
 unfolding is_object object_at
 none-left sys sound n o enough = go (is_object sys o) refl
   where

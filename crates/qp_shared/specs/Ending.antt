@@ -17,8 +17,8 @@ pub record AreAll (s : Shared) (vs : List LaneView) : Type 0 where
   pub once : (n : ℕ) → n < length vs → count_by (λ (v : LaneView). v.lane == n) vs ≡ 1
 
 -- without what callers see
-abbrev pub states : List SharedLane → List LaneState
-states ls = map (λ (l : SharedLane). l.state) ls
+abbrev pub lane_states : List SharedLane → List LaneState
+lane_states ls = map (λ (l : SharedLane). l.state) ls
 
 -- the lane has its seats on these tables
 abbrev pub IsOn : TableId → TableId → LaneState → Type 0

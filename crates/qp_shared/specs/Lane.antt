@@ -13,5 +13,5 @@ lane_view l = state_view l.state
 abbrev pub seat_view : SharedLane → View
 seat_view l = l.state.seat.me.0
 
-abbrev pub records_of : SharedLane → List Rec
-records_of l = l.state.log.recs.items
+abbrev pub shared_records : SharedLane → List Rec
+shared_records l = l.state.log.recs.items

@@ -11,7 +11,7 @@ ghost use Rattle.qp_table.specs.Counting.{Each};
 ghost use Rattle.qp_table.specs.After.{views_joined};
 ghost use Rattle.qp_side.specs.Told.{both_of};
 ghost use Rattle.qp_shared_ends.specs.Joining.{all_both, all_joined, recs_in, side_of, table_of};
-ghost use Rattle.qp_shared.specs.Ending.{IsOn, states};
+ghost use Rattle.qp_shared.specs.Ending.{IsOn, lane_states};
 
 use crate::lane::SharedLane;
 use atomic_table::Seat;
@@ -122,13 +122,13 @@ pub(crate) fn gather(
 ) -> Vec<Lane>
     requires own { (seat.old.table_id ≡ words.now.shared.table_id) × (words.now.shared.table_id.words ≡ 21128) }
     requires beside { (beside.old.table_id ≡ side.now.shared.table_id) × (side.now.shared.table_id.words ≡ 4489) }
-    requires on { Each (IsOn words.now.shared.table_id side.now.shared.table_id) (states lanes.items) }
+    requires on { Each (IsOn words.now.shared.table_id side.now.shared.table_id) (lane_states lanes.items) }
     requires room { length room.items + length lanes.items ≤ vec_capacity room }
     ensures own { seat.new.table_id ≡ seat.old.table_id }
     ensures beside { beside.new.table_id ≡ beside.old.table_id }
-    ensures table { seat.new.me.0 ≡ all_joined seat.old.me.0 (map table_of (states lanes.entry.items)) }
-    ensures side { beside.new.me.0 ≡ all_both beside.old.me.0 (map side_of (states lanes.entry.items)) }
-    ensures records { result.items ≡ room.items ++ map recs_in (states lanes.entry.items) }
+    ensures table { seat.new.me.0 ≡ all_joined seat.old.me.0 (map table_of (lane_states lanes.entry.items)) }
+    ensures side { beside.new.me.0 ≡ all_both beside.old.me.0 (map side_of (lane_states lanes.entry.items)) }
+    ensures records { result.items ≡ room.items ++ map recs_in (lane_states lanes.entry.items) }
 {
     let mut records = room;
     for lane in lanes {

@@ -14,12 +14,12 @@ pub struct SharedLane<'a> {
 }
 
 impl SharedLane<'_> {
-    ghost use Rattle.qp_shared.specs.Lane.{lane_view, records_of};
+    ghost use Rattle.qp_shared.specs.Lane.{lane_view, shared_records};
 
     /// The records of the lane so far.
     pub fn records(&self) -> &[Rec]
         ensures items { lane_items result.now ≡ untold_all (lane_view self.now).told }
-        ensures records { result.now ≡ records_of self.now }
+        ensures records { result.now ≡ shared_records self.now }
     {
         self.state.log.recs.as_slice()
     }

@@ -3,7 +3,7 @@
 ghost use Rattle.std.specs.Prelude.{◌≡◌, ◌≤◌, [], map, length, IfOk};
 ghost use Rattle.std.specs.Vec.{vec_capacity};
 ghost use Rattle.qp_port_law.specs.Sealed.{SealsLanes};
-ghost use Rattle.qp_shared.specs.Lane.{lane_view, records_of};
+ghost use Rattle.qp_shared.specs.Lane.{lane_view, shared_records};
 ghost use Rattle.qp_shared.specs.Ending.{AreAll};
 ghost use Rattle.qp_shared.specs.WasSealed.{WasSealed, WasSealed-prop, WasSealedFor};
 
@@ -43,7 +43,7 @@ impl Shared<'_> {
         budget: u32,
     ) -> Result<Sealed, Memory>
         requires all { AreAll self.now (map lane_view lanes.items) }
-        ensures records { IfOk result (λ s. s.journal.lanes ≡ map records_of lanes.entry.items) }
+        ensures records { IfOk result (λ s. s.journal.lanes ≡ map shared_records lanes.entry.items) }
         ensures seals { IfOk result (λ s. SealsLanes self.now.sys.now kernel budget (map lane_view lanes.entry.items) s.journal) }
         ensures sealed { IfOk result (λ s. WasSealedFor self.now.sys.now s.journal) }
     {
@@ -58,7 +58,7 @@ impl Shared<'_> {
         requires all { AreAll self.now (map lane_view lanes.items) }
         requires empty { room.items ≡ [] }
         requires room { length lanes.items ≤ vec_capacity room }
-        ensures records { result.lanes ≡ map records_of lanes.entry.items }
+        ensures records { result.lanes ≡ map shared_records lanes.entry.items }
         ensures seals { SealsLanes self.now.sys.now kernel budget (map lane_view lanes.entry.items) result }
     {
         let mut others = lanes;

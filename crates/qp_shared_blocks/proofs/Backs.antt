@@ -28,15 +28,15 @@ use Rattle.qp_calls.specs.Clauses.{GoesBack, StandsFresh}
 use Rattle.qp_calls.specs.declared.tokens.Fresh.{Fresh}
 use Rattle.qp_calls_log.specs.declared.log.Log.{Log}
 use Rattle.qp_table.specs.Words.{place_of, is_here, value_seen, mark_seen}
-use Rattle.qp_table.specs.Lane.{lane_of, tokens, tokens_in, event_seen, told_as}
+use Rattle.qp_table.specs.Lane.{lane_of, tokens, tokens_of_view, event_seen, told_as}
 use Rattle.qp_table.proofs.Gaining.{mark-here, mark-was, mark-rises, shown-here}
 use Rattle.qp_table.proofs.Hands.{tokens-out, loose-true}
 use Rattle.qp_table.specs.Told.{HasPlace}
 use Rattle.qp_shared_lane.specs.declared.lane.LaneState.{LaneState}
 use Rattle.qp_shared_lane.specs.Holds.{LaneHolds, told_by}
-use Rattle.qp_shared_lane.specs.Lane.{world_in, lane_with, state_view}
+use Rattle.qp_shared_lane.specs.Lane.{world_of_lane, lane_with, state_view}
 use Rattle.qp_shared_lane.specs.More.{IsPut, OnTable}
-use Rattle.qp_shared_lane.specs.Laws.{Kept}
+use Rattle.qp_shared_lane.specs.Laws.{LaneGainsRecord}
 use Rattle.qp_shared_lane.proofs.LawLemmas.{table_records_keep_the_lane}
 use Rattle.qp_shared_blocks.specs.Ends.{ReturnTold}
 use Rattle.qp_shared_blocks.proofs.Lanes.{used-place, used}
@@ -59,11 +59,11 @@ spot-same : (q c p b : ℕ) (x : Spot) → is_spot p b x ≡ true → is_spot q 
 spot-same q c p b x h = let z = and_parts (eqb x.pool p) (eqb x.block b) h in (λ i. eqb (eqb-true x.pool p z.0 i) q && eqb (eqb-true x.block b z.1 i) c)
 
 -- the hands without the block
-pub back-hands : (hands : List Token) (v u : View) (p b : ℕ) → ((t : Token) → tokens t hands ≡ tokens_in v t) → IsTrue (stands (Loose p b true) hands) → 0 < many (is_spot p b) v.used
-    → u.hands ≡ v.hands → u.fresh ≡ v.fresh → u.used ≡ without (is_spot p b) v.used → (t : Token) → tokens t (take_out (Loose p b true) hands) ≡ tokens_in u t
+pub back-hands : (hands : List Token) (v u : View) (p b : ℕ) → ((t : Token) → tokens t hands ≡ tokens_of_view v t) → IsTrue (stands (Loose p b true) hands) → 0 < many (is_spot p b) v.used
+    → u.hands ≡ v.hands → u.fresh ≡ v.fresh → u.used ≡ without (is_spot p b) v.used → (t : Token) → tokens t (take_out (Loose p b true) hands) ≡ tokens_of_view u t
 back-hands hands v u p b all here mine refs fresh gone t = go t (tokens-out t (Loose p b true) hands here) (all t)
   where
-    go : (t : Token) → tokens t (take_out (Loose p b true) hands) + cond (same_token t (Loose p b true)) 1 0 ≡ tokens t hands → tokens t hands ≡ tokens_in v t → tokens t (take_out (Loose p b true) hands) ≡ tokens_in u t
+    go : (t : Token) → tokens t (take_out (Loose p b true) hands) + cond (same_token t (Loose p b true)) 1 0 ≡ tokens t hands → tokens t hands ≡ tokens_of_view v t → tokens t (take_out (Loose p b true) hands) ≡ tokens_of_view u t
     go (Held q c s) out was = let i = ap (many (is_ref q c s)) refs in omega arith
     go (Loose q c false) out was = let i = ap (many (is_spot q c)) fresh in let z = ap (λ (t : Bool). cond {A = ℕ} t 1 0) (and-off ((q == p) && (c == b))) in omega arith
     go (Loose q c true) out was =
@@ -141,20 +141,20 @@ module _ (l : LaneState) (f : Fresh) (u : View) (m n : ℕ) (g : Log) (more : Li
     borne = refl;
   }
 
-  pub back-kept : Kept (world_in l) l.sys.now l.by l.count l.ceiling l.log l.numbers.list v l.side.seat.me.0 g more u l.side.seat.me.0 l.ceiling last
-  back-kept = table_records_keep_the_lane (world_in l) l.sys.now l.by l.count l.ceiling l.log l.numbers.list v l.side.seat.me.0 g more u r 0 last w (suc (n / 4294967296)) l.holds put step
+  pub back-kept : LaneGainsRecord (world_of_lane l) l.sys.now l.by l.count l.ceiling l.log l.numbers.list v l.side.seat.me.0 g more u l.side.seat.me.0 l.ceiling last
+  back-kept = table_records_keep_the_lane (world_of_lane l) l.sys.now l.by l.count l.ceiling l.log l.numbers.list v l.side.seat.me.0 g more u r 0 last w (suc (n / 4294967296)) l.holds put step
 
   some-free : 0 < count_ones (x % 4294967296)
   some-free = dite (ℕ_discrete (count_ones (x % 4294967296)) 0)
       (λ none. let zero_now = zero_from_ones (x % 4294967296) none in let pos = pow_pos f.block in let s = room-left in absurd (omega arith))
       (λ some_. omega arith)
 
-  pub goes-back : g.spare + 1 ≡ l.log.spare → GoesBack f (state_view l) (lane_with (world_in l) l.sys.now l.by g more u l.side.seat.me.0)
+  pub goes-back : g.spare + 1 ≡ l.log.spare → GoesBack f (state_view l) (lane_with (world_of_lane l) l.sys.now l.by g more u l.side.seat.me.0)
   unfolding lane_of
   goes-back spare = record {
     number = n / 4294967296;
     others = count_ones (x % 4294967296) - 1;
-    adds = record { grows = subst (λ k. Gains (for_object l.by (plain (Back f.pool (n / 4294967296) f.block k)) ∷ []) (state_view l) (lane_with (world_in l) l.sys.now l.by g more u l.side.seat.me.0)) (sym end-is) back-kept.gains; spare = spare };
+    adds = record { grows = subst (λ k. Gains (for_object l.by (plain (Back f.pool (n / 4294967296) f.block k)) ∷ []) (state_view l) (lane_with (world_of_lane l) l.sys.now l.by g more u l.side.seat.me.0)) (sym end-is) back-kept.gains; spare = spare };
     draws = record {
       up = let a = told.0.1.found.le in let y = mark-was l.sys.now w v u x told.0.1.saw in let z = mark-here l.sys.now w v u x told.0.1.saw in let k = mark-is in
           let p = place.1 in let b = low-mark (pool_at f.pool) n (omega arith) in omega arith;
@@ -177,5 +177,5 @@ module _ (l : LaneState) (f : Fresh) (p b : ℕ) (same : record { pool = p; bloc
   pub back-holds : LaneHolds l.sys.now l.count l.ceiling g more u l.side.seat.me.0
   back-holds = (back-kept l f u m n g more r stand old end-of told-of put is-of).holds
 
-  pub back-clause : g.spare + 1 ≡ l.log.spare → GoesBack f (state_view l) (lane_with (world_in l) l.sys.now l.by g more u l.side.seat.me.0)
+  pub back-clause : g.spare + 1 ≡ l.log.spare → GoesBack f (state_view l) (lane_with (world_of_lane l) l.sys.now l.by g more u l.side.seat.me.0)
   back-clause = goes-back l f u m n g more r stand old end-of told-of put is-of

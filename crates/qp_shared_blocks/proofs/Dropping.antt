@@ -23,21 +23,21 @@ use Rattle.qp_calls.specs.Clauses.{DropsOne, StandsHold}
 use Rattle.qp_calls.proofs.HandLemmas.{same-equal}
 use Rattle.qp_calls_log.specs.declared.log.Log.{Log}
 use Rattle.qp_table.specs.Words.{mark_seen}
-use Rattle.qp_table.specs.Lane.{lane_of, tokens, tokens_in, has_content, event_seen, told_as}
+use Rattle.qp_table.specs.Lane.{lane_of, tokens, tokens_of_view, has_content, event_seen, told_as}
 use Rattle.qp_table.proofs.Gaining.{mark-here, mark-was, mark-rises, shown-here}
 use Rattle.qp_table.proofs.Hands.{tokens-out, refs-out, loose-true}
 use Rattle.qp_table.specs.Told.{DropTold, HasPlace}
 use Rattle.qp_shared_lane.specs.declared.lane.LaneState.{LaneState}
 use Rattle.qp_shared_lane.specs.Holds.{LaneHolds, told_by, was_seen, IsPlaced, IsWorn}
-use Rattle.qp_shared_lane.specs.Lane.{world_in, lane_with, state_view}
+use Rattle.qp_shared_lane.specs.Lane.{world_of_lane, lane_with, state_view}
 use Rattle.qp_shared_lane.specs.More.{IsPut, OnTable}
-use Rattle.qp_shared_lane.specs.Laws.{Kept}
+use Rattle.qp_shared_lane.specs.Laws.{LaneGainsRecord}
 use Rattle.qp_shared_lane.proofs.LawLemmas.{table_records_keep_the_lane}
 use Rattle.qp_shared_blocks.proofs.Lanes.{held, held-place, held-known}
 use Rattle.qp_shared_blocks.proofs.Parts.{grown-same, read-without, still-same, seen-last, held-parts, spot-is}
 
 -- the hands after it, where so many are left, and the block's life ended at m
-module _ (hands : List Token) (v u : View) (p b k left m : ℕ) (all : (t : Token) → tokens t hands ≡ tokens_in v t) (here : IsTrue (stands (Held p b k) hands)) (mine : 0 < many (is_ref p b k) v.hands)
+module _ (hands : List Token) (v u : View) (p b k left m : ℕ) (all : (t : Token) → tokens t hands ≡ tokens_of_view v t) (here : IsTrue (stands (Held p b k) hands)) (mine : 0 < many (is_ref p b k) v.hands)
     (refs : u.hands ≡ without (is_ref p b k) v.hands) (fresh : u.fresh ≡ v.fresh) (used : u.used ≡ cond (eqb left 0) (v.used ++ spot p b m ∷ []) v.used) where
   abbrev rest : List Token
   rest = take_out (Held p b k) hands
@@ -58,10 +58,10 @@ module _ (hands : List Token) (v u : View) (p b k left m : ℕ) (all : (t : Toke
   used-left q c zero is before = let s = many-snoc (is_spot q c) v.used (spot p b m) in let z = ap (λ (t : Bool). cond {A = ℕ} t 1 0) (loose-true q c p b) in let i = ap (many (is_spot q c)) is in omega arith
   used-left q c (suc l) is before = before ∙ sym (ap (many (is_spot q c)) (is ∙ ap (λ (t : Bool). cond {A = List Spot} t (v.used ++ spot p b m ∷ []) v.used) (ne_eqb (suc l) 0 (λ e. absurd (omega arith)))))
 
-  pub drop-hands : (t : Token) → tokens t (with_left p b (Left left) rest) ≡ tokens_in u t
+  pub drop-hands : (t : Token) → tokens t (with_left p b (Left left) rest) ≡ tokens_of_view u t
   drop-hands t = go t (tokens-out t (Held p b k) hands here) (all t)
     where
-      go : (t : Token) → tokens t rest + cond (same_token t (Held p b k)) 1 0 ≡ tokens t hands → tokens t hands ≡ tokens_in v t → tokens t (with_left p b (Left left) rest) ≡ tokens_in u t
+      go : (t : Token) → tokens t rest + cond (same_token t (Held p b k)) 1 0 ≡ tokens t hands → tokens t hands ≡ tokens_of_view v t → tokens t (with_left p b (Left left) rest) ≡ tokens_of_view u t
       go (Held q c s) out was = held-left q c s left ∙ (let r = refs-out q c s p b k v.hands mine in let i = ap (many (is_ref q c s)) refs in omega arith)
       go (Loose q c false) out was = fresh-left q c left ∙ (let i = ap (many (is_spot q c)) fresh in omega arith)
       go (Loose q c true) out was = used-left q c left used (omega arith)
@@ -166,11 +166,11 @@ module _ (l : LaneState) (h : Hold) (u : View) (n : ℕ) (g : Log) (more : List 
         (seen-last v.seen (block_at h.pool h.block) (n + 4294967295) (λ x. eqb (x / 4294967296) (n / 4294967296 + 1) && eqb (x % 4294967296) left) (and_from _ _ (eq-eqb _ _ (let e = end-is in omega arith)) (eq-eqb _ _ left-is))));
   }
 
-  pub dec-kept : Kept (world_in l) l.sys.now l.by l.count l.ceiling l.log l.numbers.list v l.side.seat.me.0 g more u l.side.seat.me.0 l.ceiling last
-  dec-kept = table_records_keep_the_lane (world_in l) l.sys.now l.by l.count l.ceiling l.log l.numbers.list v l.side.seat.me.0 g more u r left last w (suc (n / 4294967296)) l.holds put step
+  pub dec-kept : LaneGainsRecord (world_of_lane l) l.sys.now l.by l.count l.ceiling l.log l.numbers.list v l.side.seat.me.0 g more u l.side.seat.me.0 l.ceiling last
+  dec-kept = table_records_keep_the_lane (world_of_lane l) l.sys.now l.by l.count l.ceiling l.log l.numbers.list v l.side.seat.me.0 g more u r left last w (suc (n / 4294967296)) l.holds put step
 
   -- what contracts see of it
-  pub drops-one : g.spare + 1 ≡ l.log.spare → DropsOne h left (state_view l) (lane_with (world_in l) l.sys.now l.by g more u l.side.seat.me.0)
+  pub drops-one : g.spare + 1 ≡ l.log.spare → DropsOne h left (state_view l) (lane_with (world_of_lane l) l.sys.now l.by g more u l.side.seat.me.0)
   unfolding lane_of
   drops-one spare = record {
     number = n / 4294967296;
@@ -194,5 +194,5 @@ module _ (l : LaneState) (h : Hold) (p b k : ℕ) (same : record { pool = p; blo
   pub dec-holds : LaneHolds l.sys.now l.count l.ceiling g more u l.side.seat.me.0
   dec-holds = (dec-kept l h u n g more r stand told-of put is-of).holds
 
-  pub dec-drops : (left : ℕ) → n % 4294967296 - 1 ≡ left → g.spare + 1 ≡ l.log.spare → DropsOne h left (state_view l) (lane_with (world_in l) l.sys.now l.by g more u l.side.seat.me.0)
-  dec-drops left is spare = subst (λ x. DropsOne h x (state_view l) (lane_with (world_in l) l.sys.now l.by g more u l.side.seat.me.0)) is (drops-one l h u n g more r stand told-of put is-of spare)
+  pub dec-drops : (left : ℕ) → n % 4294967296 - 1 ≡ left → g.spare + 1 ≡ l.log.spare → DropsOne h left (state_view l) (lane_with (world_of_lane l) l.sys.now l.by g more u l.side.seat.me.0)
+  dec-drops left is spare = subst (λ x. DropsOne h x (state_view l) (lane_with (world_of_lane l) l.sys.now l.by g more u l.side.seat.me.0)) is (drops-one l h u n g more r stand told-of put is-of spare)

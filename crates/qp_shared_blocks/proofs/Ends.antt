@@ -7,7 +7,7 @@ use Rattle.qp_model.specs.Lists.{with_number}
 use Rattle.qp_model.specs.Sites.{blocks_of}
 use Rattle.qp_table.specs.Counting.{many}
 use Rattle.qp_table.specs.Rule.{pool_at, block_at, is_ref, is_spot_at}
-use Rattle.qp_table.specs.After.{HasRoom, Steps}
+use Rattle.qp_table.specs.After.{HasRoom, WordSteps}
 use Rattle.qp_table.specs.declared.view.View.{View}
 use Rattle.qp_table.proofs.Bounds.{Ascends, pool-ascends, map-small, bits-on}
 use Rattle.qp_table.proofs.Steps.{pool-of, x-is}
@@ -24,7 +24,7 @@ with-ascends b lo n (x ∷ xs) l h a = go (λ gt. with-ascends b (x + 1) n xs gt
     go rest false true e f = a
     go rest false false e f = let gt : x + 1 ≤ b = grind (arith, nat_tests) in (a.0, a.1, rest gt)
 
-pub returns-tell : (sys : System) (id : ℕ) (v : View) → HasRoom v → (o p b m : ℕ) → b < 32 → 0 < many (is_spot_at p b m) v.used → Steps sys id v (pool_at p) (λ n. (n + (4294967296 + 2 ^ b)) % 18446744073709551616) (ReturnTold sys o p b m v)
+pub returns-tell : (sys : System) (id : ℕ) (v : View) → HasRoom v → (o p b m : ℕ) → b < 32 → 0 < many (is_spot_at p b m) v.used → WordSteps sys id v (pool_at p) (λ n. (n + (4294967296 + 2 ^ b)) % 18446744073709551616) (ReturnTold sys o p b m v)
 returns-tell sys id v own o p b m low mine words views holds at small =
     let few : 2 ^ b ≤ 2 ^ 31 = pow_mono {j = 31} (omega arith) in
     let z = backs_tell sys id v own o p b m (4294967296 + 2 ^ b) refl (omega arith) mine words views holds at small in
@@ -39,7 +39,7 @@ returns-tell sys id v own o p b m low mine words views holds at small =
     let pos = pow_pos b in
     (z.0, z.1, (z.2, omega arith))
 
-pub another-tells : (sys : System) (id : ℕ) (v : View) → HasRoom v → (o p b k : ℕ) → 0 < p → 0 < many (is_ref p b k) v.hands → Steps sys id v (block_at p b) (λ n. (n + 4294967297) % 18446744073709551616) (AnotherTold sys o p b v)
+pub another-tells : (sys : System) (id : ℕ) (v : View) → HasRoom v → (o p b k : ℕ) → 0 < p → 0 < many (is_ref p b k) v.hands → WordSteps sys id v (block_at p b) (λ n. (n + 4294967297) % 18446744073709551616) (AnotherTold sys o p b v)
 another-tells sys id v own o p b k pos mine words views holds at small =
     let z = more_references_tell sys id v own o p b k pos mine words views holds at small in
     let there = held-stands sys views holds.now id v at holds.tokens p b k pos mine in

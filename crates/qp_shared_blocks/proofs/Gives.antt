@@ -27,11 +27,11 @@ use Rattle.qp_table.proofs.Steps.{new-says}
 use Rattle.qp_table.proofs.Looks.{short-says, no_block-says}
 use Rattle.qp_calls.specs.Tokens.{Token, Held, Loose, same_token, token_of, hands_by, hands_after, handles}
 use Rattle.qp_calls.specs.LaneView.{Shown, Gains, FreeBlocks, References, first_shown}
-use Rattle.qp_calls.specs.Clauses.{FitsPool, GivesOut, GivesNone as NoneGiven, Tries, shortage_of}
+use Rattle.qp_calls.specs.Clauses.{FitsPool, GivesOut, GivesNone as NoneGiven, FewTries, shortage_of}
 use Rattle.qp_calls.specs.declared.tokens.Fresh.{Fresh}
 use Rattle.qp_calls_log.specs.declared.log.Log.{Log}
 use Rattle.qp_table.specs.Words.{value_seen, mark_seen, shown_seen, as_shown}
-use Rattle.qp_table.specs.Lane.{lane_of, lane_mark, tokens, tokens_in, event_seen, told_as, lane_number}
+use Rattle.qp_table.specs.Lane.{lane_of, lane_mark, tokens, tokens_of_view, event_seen, told_as, lane_number}
 use Rattle.qp_table.specs.Telling.{Saw, Touches, TouchesTwo, Rises}
 use Rattle.qp_table.proofs.Gaining.{mark-here, mark-was, mark-else, mark-rises, shown-here, shown-else}
 use Rattle.qp_table.proofs.ViewLawLemmas.{seen_words_rise, gives_gain}
@@ -39,13 +39,13 @@ use Rattle.qp_table.proofs.Saying.{same-more, logged-one, logged-number}
 use Rattle.qp_table.proofs.Hands.{eq-turned}
 use Rattle.qp_table.specs.Asked.{size_of}
 use Rattle.qp_table.specs.Told.{HasPlace, free_of, shortage_rec}
-use Rattle.qp_shared_loops.specs.Ends.{LoopGives, GivesNone, GiveEnds, was_seen_as, word_without}
+use Rattle.qp_shared_loops.specs.Ends.{LoopGives, LoopGivesNone, GiveEnds, was_seen_as, word_without}
 use Rattle.qp_shared_loops.specs.declared.gives.Life.{Life}
 use Rattle.qp_shared_lane.specs.declared.lane.LaneState.{LaneState}
 use Rattle.qp_shared_lane.specs.Holds.{LaneHolds, told_by, was_seen, side_mark, is_borne_out, IsPlaced}
-use Rattle.qp_shared_lane.specs.Lane.{world_in, lane_with, state_view}
-use Rattle.qp_shared_lane.specs.More.{IsPut, OnTable, Follows, SideFollows, AddsRecord}
-use Rattle.qp_shared_lane.specs.Laws.{Kept, RecordKept}
+use Rattle.qp_shared_lane.specs.Lane.{world_of_lane, lane_with, state_view}
+use Rattle.qp_shared_lane.specs.More.{IsPut, OnTable, ViewFollows, SideFollows, AddsRecord}
+use Rattle.qp_shared_lane.specs.Laws.{LaneGainsRecord, RecordKept}
 use Rattle.qp_shared_lane.proofs.LawLemmas.{records_keep_the_lane, table_records_keep_the_lane}
 use Rattle.qp_shared_lane.proofs.Adding.{side-skips}
 use Rattle.qp_shared_lane.proofs.Keeping.{keeps-all}
@@ -80,7 +80,7 @@ module _ (l : LaneState) (p : ℕ) (u : View) (x : ℕ) (small : p < 16) (saw : 
 
 -- Too few free blocks.
 
-module _ (l : LaneState) (p : ℕ) (reserve : Option ℕ) (u : View) (x : ℕ) (g : Log) (more : List ℕ) (r : Rec) (small : p < 16) (told : GivesNone l.sys.now p l.by reserve l.seat.me.0 x u)
+module _ (l : LaneState) (p : ℕ) (reserve : Option ℕ) (u : View) (x : ℕ) (g : Log) (more : List ℕ) (r : Rec) (small : p < 16) (told : LoopGivesNone l.sys.now p l.by reserve l.seat.me.0 x u)
     (put : IsPut r 0 l.log l.numbers.list g more) (is : item_of r ≡ record { of = l.by; body = shortage_of reserve p (x / 4294967296) (free_of x) }) where
   abbrev v : View
   v = l.seat.me.0
@@ -144,18 +144,18 @@ module _ (l : LaneState) (p : ℕ) (reserve : Option ℕ) (u : View) (x : ℕ) (
     borne = borne-is reserve;
   }
     where
-      same-tokens : (t : Token) → tokens_in v t ≡ tokens_in u t
+      same-tokens : (t : Token) → tokens_of_view v t ≡ tokens_of_view u t
       same-tokens (Held q c s) = ap (λ (z : View). many (is_ref q c s) z.hands) (sym told.is)
       same-tokens (Loose q c false) = ap (λ (z : View). many (is_spot q c) z.fresh) (sym told.is)
       same-tokens (Loose q c true) = ap (λ (z : View). many (is_spot q c) z.used) (sym told.is)
 
-  short-kept : Kept (world_in l) l.sys.now l.by l.count l.ceiling l.log l.numbers.list v l.side.seat.me.0 g more u l.side.seat.me.0 l.ceiling last
-  short-kept = table_records_keep_the_lane (world_in l) l.sys.now l.by l.count l.ceiling l.log l.numbers.list v l.side.seat.me.0 g more u r 0 last (word.Pool p) n l.holds put step
+  short-kept : LaneGainsRecord (world_of_lane l) l.sys.now l.by l.count l.ceiling l.log l.numbers.list v l.side.seat.me.0 g more u l.side.seat.me.0 l.ceiling last
+  short-kept = table_records_keep_the_lane (world_of_lane l) l.sys.now l.by l.count l.ceiling l.log l.numbers.list v l.side.seat.me.0 g more u r 0 last (word.Pool p) n l.holds put step
 
   pub short-kept-holds : LaneHolds l.sys.now l.count l.ceiling g more u l.side.seat.me.0
   short-kept-holds = short-kept.holds
 
-  pub short-gives : g.spare + 1 ≡ l.log.spare → NoneGiven p reserve n (free_of x) (state_view l) (lane_with (world_in l) l.sys.now l.by g more u l.side.seat.me.0)
+  pub short-gives : g.spare + 1 ≡ l.log.spare → NoneGiven p reserve n (free_of x) (state_view l) (lane_with (world_of_lane l) l.sys.now l.by g more u l.side.seat.me.0)
   unfolding lane_of
   short-gives spare = record {
     adds = record { grows = short-kept.gains; spare = spare };
@@ -163,7 +163,7 @@ module _ (l : LaneState) (p : ℕ) (reserve : Option ℕ) (u : View) (x : ℕ) (
     says = shown-here l.sys.now (word.Pool p) v u x told.told.saw;
   }
 
-  pub short-tries : (before after : ℕ) → before ≤ after → after + mark_in (pool_at p) (value_seen l.sys.now (word.Pool p) v.seen) ≤ before + 1 + mark_in (pool_at p) x → Tries (word.Pool p) 0 before after (state_view l) (lane_with (world_in l) l.sys.now l.by g more u l.side.seat.me.0)
+  pub short-tries : (before after : ℕ) → before ≤ after → after + mark_in (pool_at p) (value_seen l.sys.now (word.Pool p) v.seen) ≤ before + 1 + mark_in (pool_at p) x → FewTries (word.Pool p) 0 before after (state_view l) (lane_with (world_of_lane l) l.sys.now l.by g more u l.side.seat.me.0)
   unfolding lane_of
   short-tries before after up few = record { up = up; few = let a = pool-was l p u x small told.told.saw in let b = pool-now l p u x small told.told.saw in let c = low-mark (pool_at p) x (omega arith) in omega arith }
 
@@ -193,10 +193,10 @@ and-on false = refl
 loose-false : (q c p b : ℕ) → same_token (Loose q c false) (Loose p b false) ≡ (eqb p q && eqb b c)
 loose-false q c p b = and-on ((q == p) && (c == b)) ∙ (λ i. sym (eq-turned p q) i && sym (eq-turned b c) i)
 
-new-hands : (hands : List Token) (v u : View) (p b from : ℕ) → ((t : Token) → tokens t hands ≡ tokens_in v t) → u.hands ≡ v.hands → u.fresh ≡ v.fresh ++ spot p b from ∷ [] → u.used ≡ v.used → (t : Token) → tokens t (Loose p b false ∷ hands) ≡ tokens_in u t
+new-hands : (hands : List Token) (v u : View) (p b from : ℕ) → ((t : Token) → tokens t hands ≡ tokens_of_view v t) → u.hands ≡ v.hands → u.fresh ≡ v.fresh ++ spot p b from ∷ [] → u.used ≡ v.used → (t : Token) → tokens t (Loose p b false ∷ hands) ≡ tokens_of_view u t
 new-hands hands v u p b from all refs fresh used t = go t (all t)
   where
-    go : (t : Token) → tokens t hands ≡ tokens_in v t → tokens t (Loose p b false ∷ hands) ≡ tokens_in u t
+    go : (t : Token) → tokens t hands ≡ tokens_of_view v t → tokens t (Loose p b false ∷ hands) ≡ tokens_of_view u t
     go (Held q c s) was = let i = ap (many (is_ref q c s)) refs in omega arith
     go (Loose q c false) was = let i = ap (many (is_spot q c)) fresh in let s = many-snoc (is_spot q c) v.fresh (spot p b from) in let z = ap (λ (t : Bool). cond {A = ℕ} t 1 0) (loose-false q c p b) in omega arith
     go (Loose q c true) was = let i = ap (many (is_spot q c)) used in let z = ap (λ (t : Bool). cond {A = ℕ} t 1 0) (and-off ((q == p) && (c == b))) in omega arith
@@ -254,7 +254,7 @@ module _ (l : LaneState) (p : ℕ) (reserve : Option ℕ) (ev : Event) (b from :
   seen-is : u.seen ≡ told.glances ++ two
   seen-is = ap (λ (z : View). z.seen) told.is ∙ append_assoc told.glances (record { word = pool_at p; value = word_without x b } ∷ []) (record { word = block_at p b; value = from * 4294967296 } ∷ [])
 
-  follows : Follows l.sys.now was u
+  follows : ViewFollows l.sys.now was u
   follows = record {
     logs = ap (λ (z : View). length z.logs) told.is ∙ logged-one (rec_of 15 l.by (p ∷ number ∷ b ∷ from ∷ ev.sig ∷ ev.pars)) was.logs;
     number = logged-number (rec_of 15 l.by (p ∷ number ∷ b ∷ from ∷ ev.sig ∷ ev.pars)) was u (ap (λ (z : View). z.logs) told.is);
@@ -306,15 +306,15 @@ module _ (l : LaneState) (p : ℕ) (reserve : Option ℕ) (ev : Event) (b from :
     former = tt;
   }
 
-  kept : RecordKept (world_in l) l.sys.now l.by l.count l.ceiling l.log l.numbers.list was l.side.seat.me.0 g more u l.side.seat.me.0 newest pool (suc number)
-  kept = records_keep_the_lane (world_in l) l.sys.now l.by l.count l.ceiling l.log l.numbers.list was l.side.seat.me.0 g more u l.side.seat.me.0 r (free_of x) newest pool (suc number) l.holds put follows side-still adds
+  kept : RecordKept (world_of_lane l) l.sys.now l.by l.count l.ceiling l.log l.numbers.list was l.side.seat.me.0 g more u l.side.seat.me.0 newest pool (suc number)
+  kept = records_keep_the_lane (world_of_lane l) l.sys.now l.by l.count l.ceiling l.log l.numbers.list was l.side.seat.me.0 g more u l.side.seat.me.0 r (free_of x) newest pool (suc number) l.holds put follows side-still adds
 
   pub given-holds : LaneHolds l.sys.now l.count l.ceiling g more u l.side.seat.me.0
   given-holds = kept.holds
 
-  after-is : lane_of (record { world = world_in l; sys = l.sys.now; number = lane_number was; by = l.by; stops = l.log.stops.list; answered = l.log.answered.list; side = side_mark l.sys.now l.side.seat.me.0 }) (told_by l.log l.numbers.list was ++ newest ∷ []) g.spare u
-      ≡ lane_with (world_in l) l.sys.now l.by g more u l.side.seat.me.0
-  after-is = (λ i. lane_of (record { world = world_in l; sys = l.sys.now; number = sym follows.number i; by = l.by; stops = sym put.stops i; answered = sym put.answered i; side = side_mark l.sys.now l.side.seat.me.0 }) (sym kept.told i) g.spare u)
+  after-is : lane_of (record { world = world_of_lane l; sys = l.sys.now; number = lane_number was; by = l.by; stops = l.log.stops.list; answered = l.log.answered.list; side = side_mark l.sys.now l.side.seat.me.0 }) (told_by l.log l.numbers.list was ++ newest ∷ []) g.spare u
+      ≡ lane_with (world_of_lane l) l.sys.now l.by g more u l.side.seat.me.0
+  after-is = (λ i. lane_of (record { world = world_of_lane l; sys = l.sys.now; number = sym follows.number i; by = l.by; stops = sym put.stops i; answered = sym put.answered i; side = side_mark l.sys.now l.side.seat.me.0 }) (sym kept.told i) g.spare u)
 
   pool-rises : Rises pool (suc number) (lane_mark l.sys.now was.seen (side_mark l.sys.now l.side.seat.me.0)) (lane_mark l.sys.now told.mid.seen (side_mark l.sys.now l.side.seat.me.0)) (shown_seen l.sys.now was.seen) (shown_seen l.sys.now told.mid.seen)
   pool-rises = subst (λ k. Rises pool k (lane_mark l.sys.now was.seen (side_mark l.sys.now l.side.seat.me.0)) (lane_mark l.sys.now told.mid.seen (side_mark l.sys.now l.side.seat.me.0)) (shown_seen l.sys.now was.seen) (shown_seen l.sys.now told.mid.seen)) pool-mark
@@ -324,10 +324,10 @@ module _ (l : LaneState) (p : ℕ) (reserve : Option ℕ) (ev : Event) (b from :
   block-rises = subst (λ k. Rises block k (lane_mark l.sys.now told.mid.seen (side_mark l.sys.now l.side.seat.me.0)) (lane_mark l.sys.now u.seen (side_mark l.sys.now l.side.seat.me.0)) (shown_seen l.sys.now told.mid.seen) (shown_seen l.sys.now u.seen)) block-mark
       (seen_words_rise l.sys.now (side_mark l.sys.now l.side.seat.me.0) block told.mid u (from * 4294967296) told.shown.saw).0
 
-  gained : Gains (newest ∷ []) (state_view l) (lane_with (world_in l) l.sys.now l.by g more u l.side.seat.me.0)
+  gained : Gains (newest ∷ []) (state_view l) (lane_with (world_of_lane l) l.sys.now l.by g more u l.side.seat.me.0)
   gained = subst (Gains (newest ∷ []) (state_view l)) after-is
-      (gives_gain (record { world = world_in l; sys = l.sys.now; number = lane_number was; by = l.by; stops = l.log.stops.list; answered = l.log.answered.list; side = side_mark l.sys.now l.side.seat.me.0 }) (told_by l.log l.numbers.list was) l.log.spare g.spare was told.mid u pool block (suc number) from newest
-      pool-rises block-rises touches (keeps-all l.sys.now l.count l.ceiling l.log l.numbers.list was l.side.seat.me.0 l.holds (world_in l) l.by u follows))
+      (gives_gain (record { world = world_of_lane l; sys = l.sys.now; number = lane_number was; by = l.by; stops = l.log.stops.list; answered = l.log.answered.list; side = side_mark l.sys.now l.side.seat.me.0 }) (told_by l.log l.numbers.list was) l.log.spare g.spare was told.mid u pool block (suc number) from newest
+      pool-rises block-rises touches (keeps-all l.sys.now l.count l.ceiling l.log l.numbers.list was l.side.seat.me.0 l.holds (world_of_lane l) l.by u follows))
 
   shown-of : mark_seen l.sys.now was.seen pool ≡ number → shown_seen l.sys.now was.seen pool ≡ FreeBlocks (free_of x)
   unfolding shown_seen
@@ -342,7 +342,7 @@ module _ (l : LaneState) (p : ℕ) (reserve : Option ℕ) (ev : Event) (b from :
   free-less : free_of (word_without x b) ≡ free_of x - 1
   free-less = let e = told.left in omega arith
 
-  out : g.spare + 1 ≡ l.log.spare → GivesOut p reserve ev (record { pool = p; block = b; used = false }) (state_view l) (lane_with (world_in l) l.sys.now l.by g more u l.side.seat.me.0)
+  out : g.spare + 1 ≡ l.log.spare → GivesOut p reserve ev (record { pool = p; block = b; used = false }) (state_view l) (lane_with (world_of_lane l) l.sys.now l.by g more u l.side.seat.me.0)
   unfolding lane_of
   out spare = record {
     number = number;
@@ -360,10 +360,10 @@ module _ (l : LaneState) (p : ℕ) (reserve : Option ℕ) (ev : Event) (b from :
     bare = shown-here l.sys.now block told.mid u (from * 4294967296) told.shown.saw ∙ ap References (omega arith);
   }
 
-  pub given-out : (f : Fresh) → f ≡ record { pool = p; block = b; used = false } → g.spare + 1 ≡ l.log.spare → GivesOut p reserve ev f (state_view l) (lane_with (world_in l) l.sys.now l.by g more u l.side.seat.me.0)
-  given-out f f_is spare = subst (λ (y : Fresh). GivesOut p reserve ev y (state_view l) (lane_with (world_in l) l.sys.now l.by g more u l.side.seat.me.0)) (sym f_is) (out spare)
+  pub given-out : (f : Fresh) → f ≡ record { pool = p; block = b; used = false } → g.spare + 1 ≡ l.log.spare → GivesOut p reserve ev f (state_view l) (lane_with (world_of_lane l) l.sys.now l.by g more u l.side.seat.me.0)
+  given-out f f_is spare = subst (λ (y : Fresh). GivesOut p reserve ev y (state_view l) (lane_with (world_of_lane l) l.sys.now l.by g more u l.side.seat.me.0)) (sym f_is) (out spare)
 
-  pub given-tries : (before after : ℕ) → before ≤ after → after + mark_in (pool_at p) (value_seen l.sys.now (word.Pool p) was.seen) ≤ before + 1 + mark_in (pool_at p) x → Tries (word.Pool p) 1 before after (state_view l) (lane_with (world_in l) l.sys.now l.by g more u l.side.seat.me.0)
+  pub given-tries : (before after : ℕ) → before ≤ after → after + mark_in (pool_at p) (value_seen l.sys.now (word.Pool p) was.seen) ≤ before + 1 + mark_in (pool_at p) x → FewTries (word.Pool p) 1 before after (state_view l) (lane_with (world_of_lane l) l.sys.now l.by g more u l.side.seat.me.0)
   unfolding lane_of
   given-tries before after up few = record { up = up; few = let a = mark-was l.sys.now pool was told.mid (word_without x b) told.told.saw in let c = end-mark in let k = low-mark (pool_at p) x (omega arith) in omega arith }
 
@@ -380,16 +380,16 @@ module _ (l : LaneState) (p : ℕ) (reserve : Option ℕ) (ev : Event) (x : ℕ)
   pub give-holds : LaneHolds l.sys.now l.count l.ceiling g more u l.side.seat.me.0
   give-holds = given-holds l p reserve ev life.block life.from u x g more r (fits-small l p ev fits) gave put-free is
 
-  pub give-out : (f : Fresh) → f ≡ record { pool = p; block = life.block; used = false } → g.spare + 1 ≡ l.log.spare → GivesOut p reserve ev f (state_view l) (lane_with (world_in l) l.sys.now l.by g more u l.side.seat.me.0)
+  pub give-out : (f : Fresh) → f ≡ record { pool = p; block = life.block; used = false } → g.spare + 1 ≡ l.log.spare → GivesOut p reserve ev f (state_view l) (lane_with (world_of_lane l) l.sys.now l.by g more u l.side.seat.me.0)
   give-out = given-out l p reserve ev life.block life.from u x g more r (fits-small l p ev fits) gave put-free is
 
-  pub give-tries : (before after : ℕ) → before ≤ after → after + mark_in (pool_at p) (value_seen l.words.now.shared.key (word.Pool p) l.seat.me.0.seen) ≤ before + 1 + mark_in (pool_at p) x → Tries (word.Pool p) 1 before after (state_view l) (lane_with (world_in l) l.sys.now l.by g more u l.side.seat.me.0)
+  pub give-tries : (before after : ℕ) → before ≤ after → after + mark_in (pool_at p) (value_seen l.words.now.shared.key (word.Pool p) l.seat.me.0.seen) ≤ before + 1 + mark_in (pool_at p) x → FewTries (word.Pool p) 1 before after (state_view l) (lane_with (world_of_lane l) l.sys.now l.by g more u l.side.seat.me.0)
   give-tries before after up few = given-tries l p reserve ev life.block life.from u x g more r (fits-small l p ev fits) gave put-free is before after up
       (subst (λ s. after + mark_in (pool_at p) (value_seen s (word.Pool p) l.seat.me.0.seen) ≤ before + 1 + mark_in (pool_at p) x) l.key few)
 
 module _ (l : LaneState) (p : ℕ) (reserve : Option ℕ) (ev : Event) (x : ℕ) (o : Option Life) (none_given : o ≡ None) (u : View) (ends : GiveEnds l.words.now.shared.key p l.by reserve ev.sig ev.pars l.seat.me.0 x o u) (fits : FitsPool (state_view l).sys p ev)
     (g : Log) (more : List ℕ) (r : Rec) (put : IsPut r 0 l.log l.numbers.list g more) (k : ℕ) (k_is : k ≡ free_of x) (is : item_of r ≡ record { of = l.by; body = shortage_of reserve p (x / 4294967296) k }) where
-  gave-none : GivesNone l.sys.now p l.by reserve l.seat.me.0 x u
+  gave-none : LoopGivesNone l.sys.now p l.by reserve l.seat.me.0 x u
   gave-none = subst (λ s. GiveEnds s p l.by reserve ev.sig ev.pars l.seat.me.0 x None u) l.key (subst (λ q. GiveEnds l.words.now.shared.key p l.by reserve ev.sig ev.pars l.seat.me.0 x q u) none_given ends)
 
   says-free : item_of r ≡ record { of = l.by; body = shortage_of reserve p (x / 4294967296) (free_of x) }
@@ -398,10 +398,10 @@ module _ (l : LaneState) (p : ℕ) (reserve : Option ℕ) (ev : Event) (x : ℕ)
   pub none-holds : LaneHolds l.sys.now l.count l.ceiling g more u l.side.seat.me.0
   none-holds = short-kept-holds l p reserve u x g more r (fits-small l p ev fits) gave-none put says-free
 
-  pub none-given : g.spare + 1 ≡ l.log.spare → NoneGiven p reserve (x / 4294967296) k (state_view l) (lane_with (world_in l) l.sys.now l.by g more u l.side.seat.me.0)
-  none-given spare = subst (λ n. NoneGiven p reserve (x / 4294967296) n (state_view l) (lane_with (world_in l) l.sys.now l.by g more u l.side.seat.me.0)) (sym k_is) (short-gives l p reserve u x g more r (fits-small l p ev fits) gave-none put says-free spare)
+  pub none-given : g.spare + 1 ≡ l.log.spare → NoneGiven p reserve (x / 4294967296) k (state_view l) (lane_with (world_of_lane l) l.sys.now l.by g more u l.side.seat.me.0)
+  none-given spare = subst (λ n. NoneGiven p reserve (x / 4294967296) n (state_view l) (lane_with (world_of_lane l) l.sys.now l.by g more u l.side.seat.me.0)) (sym k_is) (short-gives l p reserve u x g more r (fits-small l p ev fits) gave-none put says-free spare)
 
-  pub none-tries : (before after : ℕ) → before ≤ after → after + mark_in (pool_at p) (value_seen l.words.now.shared.key (word.Pool p) l.seat.me.0.seen) ≤ before + 1 + mark_in (pool_at p) x → Tries (word.Pool p) 0 before after (state_view l) (lane_with (world_in l) l.sys.now l.by g more u l.side.seat.me.0)
+  pub none-tries : (before after : ℕ) → before ≤ after → after + mark_in (pool_at p) (value_seen l.words.now.shared.key (word.Pool p) l.seat.me.0.seen) ≤ before + 1 + mark_in (pool_at p) x → FewTries (word.Pool p) 0 before after (state_view l) (lane_with (world_of_lane l) l.sys.now l.by g more u l.side.seat.me.0)
   none-tries before after up few = short-tries l p reserve u x g more r (fits-small l p ev fits) gave-none put says-free before after up
       (subst (λ s. after + mark_in (pool_at p) (value_seen s (word.Pool p) l.seat.me.0.seen) ≤ before + 1 + mark_in (pool_at p) x) l.key few)
 
@@ -409,5 +409,5 @@ module _ (l : LaneState) (p : ℕ) (reserve : Option ℕ) (ev : Event) (x : ℕ)
 pub none-few : (sys : System) (p o : ℕ) (reserve : Option ℕ) (sig : ℕ) (pars : List ℕ) (v : View) (x : ℕ) (q : Option Life) (u : View) → GiveEnds sys p o reserve sig pars v x q u → q ≡ None → free_of x ≤ unwrap_or reserve 0
 none-few sys p o reserve sig pars v x q u ends none_given = (few (subst (λ z. GiveEnds sys p o reserve sig pars v x z u) none_given ends))
   where
-    few : GivesNone sys p o reserve v x u → free_of x ≤ unwrap_or reserve 0
+    few : LoopGivesNone sys p o reserve v x u → free_of x ≤ unwrap_or reserve 0
     few g = g.few

@@ -12,7 +12,7 @@ use Rattle.qp_model.specs.declared.bodies.Body.TheVariants.{Inc}
 use Rattle.qp_model.specs.Record.{Item, item_of}
 use Rattle.qp_model.specs.Told.{ToldItem, Event, plain, for_object}
 use Rattle.qp_table.specs.Counting.{many, without}
-use Rattle.qp_table.specs.Rule.{block_at, mark_in, is_ref, is_spot, is_entry, is_serve, event_in}
+use Rattle.qp_table.specs.Rule.{block_at, mark_in, is_ref, is_spot, is_entry, is_serve, event_of_content}
 use Rattle.qp_table.specs.After.{rec_of, ref}
 use Rattle.qp_table.specs.declared.view.Content.{Content}
 use Rattle.qp_table.specs.declared.view.Spot.{Spot}
@@ -27,16 +27,16 @@ use Rattle.qp_calls.specs.declared.tokens.Fresh.{Fresh}
 use Rattle.qp_calls.proofs.HandLemmas.{same-equal}
 use Rattle.qp_calls_log.specs.declared.log.Log.{Log}
 use Rattle.qp_table.specs.Words.{mark_seen, shown_seen}
-use Rattle.qp_table.specs.Lane.{lane_of, event_read, event_seen, tokens, tokens_in, has_content, is_read, told_as}
+use Rattle.qp_table.specs.Lane.{lane_of, event_read, event_seen, tokens, tokens_of_view, has_content, is_read, told_as}
 use Rattle.qp_table.specs.Telling.{Saw}
 use Rattle.qp_table.proofs.Gaining.{mark-here, mark-was, mark-rises, shown-here}
 use Rattle.qp_table.proofs.Hands.{tokens-out, refs-in, eq-turned}
 use Rattle.qp_table.specs.Told.{FirstTold, HasPlace}
 use Rattle.qp_shared_lane.specs.declared.lane.LaneState.{LaneState}
 use Rattle.qp_shared_lane.specs.Holds.{LaneHolds, told_by, IsRead}
-use Rattle.qp_shared_lane.specs.Lane.{world_in, lane_with, state_view}
-use Rattle.qp_shared_lane.specs.More.{IsPut, Grown, OnTable}
-use Rattle.qp_shared_lane.specs.Laws.{Kept}
+use Rattle.qp_shared_lane.specs.Lane.{world_of_lane, lane_with, state_view}
+use Rattle.qp_shared_lane.specs.More.{IsPut, KeepsContents, OnTable}
+use Rattle.qp_shared_lane.specs.Laws.{LaneGainsRecord}
 use Rattle.qp_shared_lane.proofs.LawLemmas.{table_records_keep_the_lane}
 use Rattle.qp_shared_blocks.specs.Ends.{AnotherTold}
 use Rattle.qp_shared_blocks.proofs.Lanes.{fresh-place, fresh}
@@ -50,7 +50,7 @@ event-more [] q e h = absurd (cc)
 event-more (x ∷ qs) q e h = go (is_entry e x.entry) h (event-more qs q e)
   where
     go : (t : Bool) → (t || list_any (λ (c : Content). is_entry e c.entry) qs) ≡ true → (list_any (λ (c : Content). is_entry e c.entry) qs ≡ true → event_read (qs ++ q ∷ []) e ≡ event_read qs e)
-        → cond {A = Event} t (event_in x.event) (event_read (qs ++ q ∷ []) e) ≡ cond {A = Event} t (event_in x.event) (event_read qs e)
+        → cond {A = Event} t (event_of_content x.event) (event_read (qs ++ q ∷ []) e) ≡ cond {A = Event} t (event_of_content x.event) (event_read qs e)
     go true h r = refl
     go false h r = r h
 
@@ -69,7 +69,7 @@ seen-more qs q e h = go (eqb e.pool 0) h
     go true h = refl
     go false h = event-more qs q e h
 
-pub grown-more : (v u : View) (q : Content) → u.contents ≡ v.contents ++ q ∷ [] → Grown v u
+pub grown-more : (v u : View) (q : Content) → u.contents ≡ v.contents ++ q ∷ [] → KeepsContents v u
 grown-more v u q is e has = (subst (λ (qs : List Content). IsTrue (has_content qs e)) (sym is) (has-more v.contents q e has), ap (λ (qs : List Content). event_seen qs e) is ∙ seen-more v.contents q e has)
 
 -- the new reference is known
@@ -122,11 +122,11 @@ spot-same : (q c p b : ℕ) (x : Spot) → is_spot p b x ≡ true → is_spot q 
 spot-same q c p b x h = let z = and_parts (eqb x.pool p) (eqb x.block b) h in (λ i. eqb (eqb-true x.pool p z.0 i) q && eqb (eqb-true x.block b z.1 i) c)
 
 -- the first reference: the block is no longer loose
-pub began-hands : (hands : List Token) (v u : View) (p b k : ℕ) → ((t : Token) → tokens t hands ≡ tokens_in v t) → IsTrue (stands (Loose p b false) hands) → 0 < many (is_spot p b) v.fresh
-    → u.hands ≡ v.hands ++ ref p b k ∷ [] → u.fresh ≡ without (is_spot p b) v.fresh → u.used ≡ v.used → (t : Token) → tokens t (Held p b k ∷ take_out (Loose p b false) hands) ≡ tokens_in u t
+pub began-hands : (hands : List Token) (v u : View) (p b k : ℕ) → ((t : Token) → tokens t hands ≡ tokens_of_view v t) → IsTrue (stands (Loose p b false) hands) → 0 < many (is_spot p b) v.fresh
+    → u.hands ≡ v.hands ++ ref p b k ∷ [] → u.fresh ≡ without (is_spot p b) v.fresh → u.used ≡ v.used → (t : Token) → tokens t (Held p b k ∷ take_out (Loose p b false) hands) ≡ tokens_of_view u t
 began-hands hands v u p b k all here mine refs fresh used t = go t (tokens-out t (Loose p b false) hands here) (all t)
   where
-    go : (t : Token) → tokens t (take_out (Loose p b false) hands) + cond (same_token t (Loose p b false)) 1 0 ≡ tokens t hands → tokens t hands ≡ tokens_in v t → tokens t (Held p b k ∷ take_out (Loose p b false) hands) ≡ tokens_in u t
+    go : (t : Token) → tokens t (take_out (Loose p b false) hands) + cond (same_token t (Loose p b false)) 1 0 ≡ tokens t hands → tokens t hands ≡ tokens_of_view v t → tokens t (Held p b k ∷ take_out (Loose p b false) hands) ≡ tokens_of_view u t
     go (Held q c s) out was = let r = refs-in q c s p b k v.hands in let i = ap (many (is_ref q c s)) refs in omega arith
     go (Loose q c false) out was =
         let m = many-without (is_spot p b) (is_spot q c) (eqb p q && eqb b c) (λ x e. spot-same q c p b x e) v.fresh mine in
@@ -143,13 +143,13 @@ take-none x (y ∷ ys) h = go (same_token x y) h (take-none x ys)
     go true h r = absurd (omega arith)
     go false h r = ap (λ zs. y ∷ zs) (r (omega arith))
 
-pub nothing-loose : (hands : List Token) (v : View) (p b : ℕ) → ((t : Token) → tokens t hands ≡ tokens_in v t) → many (is_spot p b) v.fresh ≡ 0 → take_out (Loose p b false) hands ≡ hands
+pub nothing-loose : (hands : List Token) (v : View) (p b : ℕ) → ((t : Token) → tokens t hands ≡ tokens_of_view v t) → many (is_spot p b) v.fresh ≡ 0 → take_out (Loose p b false) hands ≡ hands
 nothing-loose hands v p b all none = take-none (Loose p b false) hands (all (Loose p b false) ∙ none)
 
-pub doubled-hands : (hands : List Token) (v u : View) (p b k : ℕ) → ((t : Token) → tokens t hands ≡ tokens_in v t) → u.hands ≡ v.hands ++ ref p b k ∷ [] → u.fresh ≡ v.fresh → u.used ≡ v.used → (t : Token) → tokens t (Held p b k ∷ hands) ≡ tokens_in u t
+pub doubled-hands : (hands : List Token) (v u : View) (p b k : ℕ) → ((t : Token) → tokens t hands ≡ tokens_of_view v t) → u.hands ≡ v.hands ++ ref p b k ∷ [] → u.fresh ≡ v.fresh → u.used ≡ v.used → (t : Token) → tokens t (Held p b k ∷ hands) ≡ tokens_of_view u t
 doubled-hands hands v u p b k all refs fresh used t = go t (all t)
   where
-    go : (t : Token) → tokens t hands ≡ tokens_in v t → tokens t (Held p b k ∷ hands) ≡ tokens_in u t
+    go : (t : Token) → tokens t hands ≡ tokens_of_view v t → tokens t (Held p b k ∷ hands) ≡ tokens_of_view u t
     go (Held q c s) was = let r = refs-in q c s p b k v.hands in let i = ap (many (is_ref q c s)) refs in omega arith
     go (Loose q c false) was = let i = ap (many (is_spot q c)) fresh in omega arith
     go (Loose q c true) was = let i = ap (many (is_spot q c)) used in omega arith
@@ -226,13 +226,13 @@ module _ (l : LaneState) (f : Fresh) (u : View) (n : ℕ) (g : Log) (more : List
     borne = refl;
   }
 
-  first-kept : Kept (world_in l) l.sys.now l.by l.count l.ceiling l.log l.numbers.list v l.side.seat.me.0 g more u l.side.seat.me.0 l.ceiling last
-  first-kept = table_records_keep_the_lane (world_in l) l.sys.now l.by l.count l.ceiling l.log l.numbers.list v l.side.seat.me.0 g more u r 0 last w (suc (n / 4294967296)) l.holds put step
+  first-kept : LaneGainsRecord (world_of_lane l) l.sys.now l.by l.count l.ceiling l.log l.numbers.list v l.side.seat.me.0 g more u l.side.seat.me.0 l.ceiling last
+  first-kept = table_records_keep_the_lane (world_of_lane l) l.sys.now l.by l.count l.ceiling l.log l.numbers.list v l.side.seat.me.0 g more u r 0 last w (suc (n / 4294967296)) l.holds put step
 
   pub first-kept-holds : LaneHolds l.sys.now l.count l.ceiling g more u l.side.seat.me.0
   first-kept-holds = first-kept.holds
 
-  pub first-makes : g.spare + 1 ≡ l.log.spare → Makes f.pool f.block 1 (state_view l) (lane_with (world_in l) l.sys.now l.by g more u l.side.seat.me.0) (record { pool = f.pool; block = f.block; name = n / 4294967296 })
+  pub first-makes : g.spare + 1 ≡ l.log.spare → Makes f.pool f.block 1 (state_view l) (lane_with (world_of_lane l) l.sys.now l.by g more u l.side.seat.me.0) (record { pool = f.pool; block = f.block; name = n / 4294967296 })
   unfolding lane_of
   first-makes spare = record {
     adds = record { grows = first-kept.gains; spare = spare };
@@ -257,8 +257,8 @@ module _ (l : LaneState) (f : Fresh) (p b : ℕ) (same : record { pool = p; bloc
   pub first-holds : LaneHolds l.sys.now l.count l.ceiling g more u l.side.seat.me.0
   first-holds = first-kept-holds l f u n g more r small stand unused first-told put first-is
 
-  pub first-clause : (made : Hold) → made ≡ record { pool = p; block = b; name = n / 4294967296 } → g.spare + 1 ≡ l.log.spare → Makes f.pool f.block 1 (state_view l) (lane_with (world_in l) l.sys.now l.by g more u l.side.seat.me.0) made
-  first-clause made is spare = subst (Makes f.pool f.block 1 (state_view l) (lane_with (world_in l) l.sys.now l.by g more u l.side.seat.me.0)) (sym (is ∙ ap (λ (x : Fresh). record { pool = x.pool; block = x.block; name = n / 4294967296 }) same))
+  pub first-clause : (made : Hold) → made ≡ record { pool = p; block = b; name = n / 4294967296 } → g.spare + 1 ≡ l.log.spare → Makes f.pool f.block 1 (state_view l) (lane_with (world_of_lane l) l.sys.now l.by g more u l.side.seat.me.0) made
+  first-clause made is spare = subst (Makes f.pool f.block 1 (state_view l) (lane_with (world_of_lane l) l.sys.now l.by g more u l.side.seat.me.0)) (sym (is ∙ ap (λ (x : Fresh). record { pool = x.pool; block = x.block; name = n / 4294967296 }) same))
       (first-makes l f u n g more r small stand unused first-told put first-is spare)
 
 -- Another reference.
@@ -308,13 +308,13 @@ module _ (l : LaneState) (h : Hold) (u : View) (n : ℕ) (g : Log) (more : List 
     borne = refl;
   }
 
-  inc-kept : Kept (world_in l) l.sys.now l.by l.count l.ceiling l.log l.numbers.list before l.side.seat.me.0 g more u l.side.seat.me.0 l.ceiling newest
-  inc-kept = table_records_keep_the_lane (world_in l) l.sys.now l.by l.count l.ceiling l.log l.numbers.list before l.side.seat.me.0 g more u r 0 newest block (suc (n / 4294967296)) l.holds put again
+  inc-kept : LaneGainsRecord (world_of_lane l) l.sys.now l.by l.count l.ceiling l.log l.numbers.list before l.side.seat.me.0 g more u l.side.seat.me.0 l.ceiling newest
+  inc-kept = table_records_keep_the_lane (world_of_lane l) l.sys.now l.by l.count l.ceiling l.log l.numbers.list before l.side.seat.me.0 g more u r 0 newest block (suc (n / 4294967296)) l.holds put again
 
   pub inc-kept-holds : LaneHolds l.sys.now l.count l.ceiling g more u l.side.seat.me.0
   inc-kept-holds = inc-kept.holds
 
-  pub inc-makes : g.spare + 1 ≡ l.log.spare → MakesMore h (state_view l) (lane_with (world_in l) l.sys.now l.by g more u l.side.seat.me.0) (record { pool = h.pool; block = h.block; name = n / 4294967296 })
+  pub inc-makes : g.spare + 1 ≡ l.log.spare → MakesMore h (state_view l) (lane_with (world_of_lane l) l.sys.now l.by g more u l.side.seat.me.0) (record { pool = h.pool; block = h.block; name = n / 4294967296 })
   unfolding lane_of hands_after hands_by
   inc-makes spare = record {
     others = n % 4294967296;
@@ -342,6 +342,6 @@ module _ (l : LaneState) (h : Hold) (p b k : ℕ) (same : record { pool = p; blo
   pub inc-holds : LaneHolds l.sys.now l.count l.ceiling g more u l.side.seat.me.0
   inc-holds = inc-kept-holds l h u n g more r small inc-told put inc-is
 
-  pub inc-clause : (made : Hold) → made ≡ record { pool = p; block = b; name = n / 4294967296 } → g.spare + 1 ≡ l.log.spare → MakesMore h (state_view l) (lane_with (world_in l) l.sys.now l.by g more u l.side.seat.me.0) made
-  inc-clause made is spare = subst (MakesMore h (state_view l) (lane_with (world_in l) l.sys.now l.by g more u l.side.seat.me.0)) (sym (is ∙ ap (λ (x : Hold). record { pool = x.pool; block = x.block; name = n / 4294967296 }) same))
+  pub inc-clause : (made : Hold) → made ≡ record { pool = p; block = b; name = n / 4294967296 } → g.spare + 1 ≡ l.log.spare → MakesMore h (state_view l) (lane_with (world_of_lane l) l.sys.now l.by g more u l.side.seat.me.0) made
+  inc-clause made is spare = subst (MakesMore h (state_view l) (lane_with (world_of_lane l) l.sys.now l.by g more u l.side.seat.me.0)) (sym (is ∙ ap (λ (x : Hold). record { pool = x.pool; block = x.block; name = n / 4294967296 }) same))
       (inc-makes l h u n g more r small inc-told put inc-is spare)

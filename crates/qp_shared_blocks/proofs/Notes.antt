@@ -11,7 +11,7 @@ use Rattle.qp_model.specs.Told.{ToldItem, Event, for_object}
 use Rattle.qp_model.specs.Knowing.{ceiling_after}
 use Rattle.qp_model.proofs.RecordLemmas.{lane-length}
 use Rattle.qp_calls.specs.LaneView.{LaneView, Roomier, GrowsOf, Gains, codes_in, handled_in, ceiling_in}
-use Rattle.qp_calls.specs.Notes.{IsNote, MayNote, told_as as noted_as, told_note}
+use Rattle.qp_calls.specs.Notes.{IsNote, MayNote, note_told as noted_as, told_note}
 use Rattle.qp_calls.specs.Tokens.{Token, hands_after, handles}
 use Rattle.qp_calls_log.specs.declared.log.Log.{Log}
 use Rattle.qp_calls_log.specs.LaneLaws.{TellsLog, told-items}
@@ -19,13 +19,13 @@ use Rattle.qp_calls_log.proofs.NoteLemmas.{note-off, note-hands, note-handles}
 use Rattle.qp_table.specs.Lane.{lane_of, told_as}
 use Rattle.qp_shared_lane.specs.declared.lane.LaneState.{LaneState}
 use Rattle.qp_shared_lane.specs.Holds.{LaneHolds, FormerIs}
-use Rattle.qp_shared_lane.specs.Lane.{world_in, lane_with, state_view}
+use Rattle.qp_shared_lane.specs.Lane.{world_of_lane, lane_with, state_view}
 use Rattle.qp_shared_lane.specs.More.{IsPut, IsNoted}
-use Rattle.qp_shared_lane.specs.Laws.{Kept, LogKept}
+use Rattle.qp_shared_lane.specs.Laws.{LaneGainsRecord, LogKept}
 use Rattle.qp_shared_lane.proofs.LawLemmas.{notes_keep_the_lane, logs_keep_the_lane, lanes_tell_their_logs}
 
 pub tells : (l : LaneState) → TellsLog l.log (state_view l)
-tells l = lanes_tell_their_logs (world_in l) l.sys.now l.by l.count l.ceiling l.log l.numbers.list l.seat.me.0 l.side.seat.me.0 l.holds
+tells l = lanes_tell_their_logs (world_of_lane l) l.sys.now l.by l.count l.ceiling l.log l.numbers.list l.seat.me.0 l.side.seat.me.0 l.holds
 
 pub told-long : (l : LaneState) → length (state_view l).told ≡ length l.log.recs.items
 told-long l = told-items l.log (state_view l) (tells l) ∙ lane-length l.log.recs.items
@@ -33,21 +33,21 @@ told-long l = told-items l.log (state_view l) (tells l) ∙ lane-length l.log.re
 -- Room.
 
 module _ (l : LaneState) (g : Log) (recs : g.recs.items ≡ l.log.recs.items) (stops : g.stops.list ≡ l.log.stops.list) (answered : g.answered.list ≡ l.log.answered.list) where
-  kept : LogKept (world_in l) l.sys.now l.by l.count l.ceiling l.log l.numbers.list l.seat.me.0 l.side.seat.me.0 g l.side.seat.me.0
-  kept = logs_keep_the_lane (world_in l) l.sys.now l.by l.count l.ceiling l.log l.numbers.list l.seat.me.0 l.side.seat.me.0 g l.side.seat.me.0 l.holds recs refl (stops ∙ l.holds.stops) (ap codes_in answered ∙ l.holds.answered)
+  kept : LogKept (world_of_lane l) l.sys.now l.by l.count l.ceiling l.log l.numbers.list l.seat.me.0 l.side.seat.me.0 g l.side.seat.me.0
+  kept = logs_keep_the_lane (world_of_lane l) l.sys.now l.by l.count l.ceiling l.log l.numbers.list l.seat.me.0 l.side.seat.me.0 g l.side.seat.me.0 l.holds recs refl (stops ∙ l.holds.stops) (ap codes_in answered ∙ l.holds.answered)
 
   pub room-holds : LaneHolds l.sys.now l.count l.ceiling g l.numbers.list l.seat.me.0 l.side.seat.me.0
   room-holds = kept.holds
 
-  pub room-view : lane_with (world_in l) l.sys.now l.by g l.numbers.list l.seat.me.0 l.side.seat.me.0 ≡ record (state_view l) { spare = g.spare }
+  pub room-view : lane_with (world_of_lane l) l.sys.now l.by g l.numbers.list l.seat.me.0 l.side.seat.me.0 ≡ record (state_view l) { spare = g.spare }
   unfolding lane_of
   room-view = kept.is ∙ (λ i. record (state_view l) { spare = g.spare; stops = stops i; answered = codes_in (answered i); asked = length (answered i) })
 
-  pub roomier : l.log.spare ≤ g.spare → Roomier (state_view l) (lane_with (world_in l) l.sys.now l.by g l.numbers.list l.seat.me.0 l.side.seat.me.0)
+  pub roomier : l.log.spare ≤ g.spare → Roomier (state_view l) (lane_with (world_of_lane l) l.sys.now l.by g l.numbers.list l.seat.me.0 l.side.seat.me.0)
   unfolding lane_of
   roomier more = record { same = room-view; more = more }
 
-  pub room-refused : g.spare ≡ l.log.spare → lane_with (world_in l) l.sys.now l.by g l.numbers.list l.seat.me.0 l.side.seat.me.0 ≡ state_view l
+  pub room-refused : g.spare ≡ l.log.spare → lane_with (world_of_lane l) l.sys.now l.by g l.numbers.list l.seat.me.0 l.side.seat.me.0 ≡ state_view l
   unfolding lane_of
   room-refused same = room-view ∙ ap (λ n. record (state_view l) { spare = n }) same
 
@@ -120,11 +120,11 @@ module _ (l : LaneState) (r : Rec) (may : MayNote r (state_view l)) where
   spill-told is ev = spill-known (body_of r) is ev r.of 0 l.ceiling
 
   module _ (g : Log) (more : List ℕ) (n : ℕ) (put : IsPut r n l.log l.numbers.list g more) (told : (ev : Entry → Event) → told_as ev (item_of r) n ≡ note) (after : ℕ) (after_is : after ≡ ceiling_after l.ceiling (body_of r)) where
-    note-kept : Kept (world_in l) l.sys.now l.by l.count l.ceiling l.log l.numbers.list l.seat.me.0 l.side.seat.me.0 g more l.seat.me.0 l.side.seat.me.0 (ceiling_after l.ceiling note.told.body) note
-    note-kept = notes_keep_the_lane (world_in l) l.sys.now l.by l.count l.ceiling l.log l.numbers.list l.seat.me.0 l.side.seat.me.0 g more r n note l.holds put (is-noted n told)
+    note-kept : LaneGainsRecord (world_of_lane l) l.sys.now l.by l.count l.ceiling l.log l.numbers.list l.seat.me.0 l.side.seat.me.0 g more l.seat.me.0 l.side.seat.me.0 (ceiling_after l.ceiling note.told.body) note
+    note-kept = notes_keep_the_lane (world_of_lane l) l.sys.now l.by l.count l.ceiling l.log l.numbers.list l.seat.me.0 l.side.seat.me.0 g more r n note l.holds put (is-noted n told)
 
     pub note-holds : LaneHolds l.sys.now l.count after g more l.seat.me.0 l.side.seat.me.0
     note-holds = subst (λ c. LaneHolds l.sys.now l.count c g more l.seat.me.0 l.side.seat.me.0) (ap (ceiling_after l.ceiling) body-is ∙ sym after_is) note-kept.holds
 
-    pub note-grows : GrowsOf r.of (told_note r (state_view l)) (state_view l) (lane_with (world_in l) l.sys.now l.by g more l.seat.me.0 l.side.seat.me.0)
-    note-grows = subst (λ (ts : List ToldItem). Gains ts (state_view l) (lane_with (world_in l) l.sys.now l.by g more l.seat.me.0 l.side.seat.me.0)) (sym noted-is) note-kept.gains
+    pub note-grows : GrowsOf r.of (told_note r (state_view l)) (state_view l) (lane_with (world_of_lane l) l.sys.now l.by g more l.seat.me.0 l.side.seat.me.0)
+    note-grows = subst (λ (ts : List ToldItem). Gains ts (state_view l) (lane_with (world_of_lane l) l.sys.now l.by g more l.seat.me.0 l.side.seat.me.0)) (sym noted-is) note-kept.gains

@@ -18,10 +18,10 @@ use Rattle.qp_table.specs.Words.{mark_seen}
 use Rattle.qp_table.specs.Lane.{tokens, has_content, is_read, event_seen}
 use Rattle.qp_table.specs.Asked.{is_unfinished, is_begun}
 use Rattle.qp_shared_lane.specs.Holds.{IsRead, IsStill, IsPlaced, IsWorn, was_seen}
-use Rattle.qp_shared_lane.specs.More.{Grown}
+use Rattle.qp_shared_lane.specs.More.{KeepsContents}
 
 -- Where nothing else was read.
-pub grown-same : (v u : View) → u.contents ≡ v.contents → Grown v u
+pub grown-same : (v u : View) → u.contents ≡ v.contents → KeepsContents v u
 grown-same v u contents e has = (subst (λ (qs : List Content). IsTrue (has_content qs e)) (sym contents) has, ap (λ (qs : List Content). event_seen qs e) contents)
 
 without-le : {A : Type 0} (p q : A → Bool) (xs : List A) → many q (without p xs) ≤ many q xs

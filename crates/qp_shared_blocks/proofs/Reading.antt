@@ -15,7 +15,7 @@ use Rattle.qp_shared_lane.specs.declared.lane.LaneState.{LaneState}
 use Rattle.qp_shared_lane.specs.Holds.{LaneHolds}
 use Rattle.qp_shared_lane.specs.Used.{HasEnds}
 use Rattle.qp_shared_lane.proofs.Used.{ends-same}
-use Rattle.qp_shared_lane.specs.Lane.{world_in, lane_with, state_view}
+use Rattle.qp_shared_lane.specs.Lane.{world_of_lane, lane_with, state_view}
 
 -- a look that leaves the view
 module _ (l : LaneState) (u : View) (same : u ≡ l.seat.me.0) where
@@ -25,8 +25,8 @@ module _ (l : LaneState) (u : View) (same : u ≡ l.seat.me.0) where
   pub still-holds : LaneHolds l.sys.now l.count l.ceiling l.log l.numbers.list u l.side.seat.me.0
   still-holds = subst (λ (z : View). LaneHolds l.sys.now l.count l.ceiling l.log l.numbers.list z l.side.seat.me.0) (sym same) l.holds
 
-  pub still-view : lane_with (world_in l) l.sys.now l.by l.log l.numbers.list u l.side.seat.me.0 ≡ state_view l
-  still-view = ap (λ (z : View). lane_with (world_in l) l.sys.now l.by l.log l.numbers.list z l.side.seat.me.0) same
+  pub still-view : lane_with (world_of_lane l) l.sys.now l.by l.log l.numbers.list u l.side.seat.me.0 ≡ state_view l
+  still-view = ap (λ (z : View). lane_with (world_of_lane l) l.sys.now l.by l.log l.numbers.list z l.side.seat.me.0) same
 
 module _ (l : LaneState) (h : Hold) (p b k : ℕ) (same : record { pool = p; block = b; name = k } ≡ h) (u : View) (n j : ℕ) (told : ReadTold l.words.now.shared.key p b k j l.seat.me.0 n u) where
   abbrev ev : Event

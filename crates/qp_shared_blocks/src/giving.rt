@@ -4,7 +4,7 @@ ghost use Rattle.std.specs.Prelude.{◌≡◌, ◌≤◌, ◌<◌};
 ghost use Rattle.std.specs.Option.{unwrap_or};
 ghost use Rattle.qp_model.specs.Record.{item_of};
 ghost use Rattle.qp_model.specs.declared.words.Word.TheVariants as word;
-ghost use Rattle.qp_calls.specs.Clauses.{FitsPool, GivesBlock, Tries, draws_given, event_of, shortage_of};
+ghost use Rattle.qp_calls.specs.Clauses.{FitsPool, GivesBlock, FewTries, draws_given, event_of, shortage_of};
 ghost use Rattle.qp_shared_lane.specs.Lane.{state_view};
 
 use qp_base::{Ev, Steps};
@@ -38,7 +38,7 @@ pub fn give<L: Ledger>(
     requires room { 0 < (state_view lane.old).spare }
     requires fits { FitsPool (state_view lane.old).sys pool (event_of ev.now) }
     ensures gives { GivesBlock pool reserve (event_of ev.now) (state_view lane.old) (state_view lane.new) result }
-    ensures tries { Tries (word.Pool pool) (draws_given result)
+    ensures tries { FewTries (word.Pool pool) (draws_given result)
         steps.old steps.new (state_view lane.old) (state_view lane.new) }
 {
     let by = lane.by;

@@ -12,7 +12,7 @@ use Rattle.qp_model.specs.declared.bodies.Body.TheVariants.{Back}
 use Rattle.qp_model.specs.declared.words.Word.TheVariants as word
 use Rattle.qp_model.specs.WordLaw.{is_block}
 use Rattle.qp_table.specs.Counting.{many, without}
-use Rattle.qp_table.specs.Rule.{pool_at, block_at, event_word_at, is_ref, is_spot, is_spot_at, is_value, fills_of, gives_of, Holds}
+use Rattle.qp_table.specs.Rule.{pool_at, block_at, event_word_at, is_ref, is_spot, is_spot_at, fills_with, fills_of, gives_of, Holds}
 use Rattle.qp_table.specs.After.{HasRoom, rec_of, spot, ref}
 use Rattle.qp_table.specs.declared.view.PendingGive.{PendingGive}
 use Rattle.qp_table.specs.declared.view.Glance.{Glance}
@@ -23,8 +23,8 @@ use Rattle.qp_table.proofs.Tokens.{fresh-alone, used-alone, standing, held-stand
 use Rattle.qp_table.proofs.Steps.{inc-says, dec-says, back-says, block-below, x-count, y-is}
 use Rattle.qp_table.specs.Asked.{is_begun, is_asked, size_of as room_of}
 use Rattle.qp_table.specs.Told.{DropTold, FirstTold, MoreTold, BackTold, FromTold, FillTold, ReadTold}
-use Rattle.qp_core_steps.specs.Seats.{may_act, may_add, glance, noting}
-use Rattle.qp_core_steps.specs.Blocks.{added, number_of_word, bit_of, size_of, has_left, is_unfinished, asks_for, is_ref_to, is_give_over, has_ready, with_ref, without_ref}
+use Rattle.qp_core_steps.specs.Seats.{seat_may_act, may_add, glance, noting}
+use Rattle.qp_core_steps.specs.Blocks.{added, number_of_word, bit_of, block_size, has_left, is_unfinished, asks_for, is_ref_to, is_give_over, has_ready, with_ref, without_ref}
 use Rattle.qp_core_steps.specs.declared.seats.Seat.{Seat}
 use Rattle.qp_core_steps.specs.declared.ops.Op.TheVariants as op
 use Rattle.qp_shared_core.specs.CoreStep.{seat_of, IsCoreStep}
@@ -182,15 +182,15 @@ module _ (sys : System) (words : List ℕ) (views : List View) (holds : Holds sy
     goes = (set-get_or words (block_at p b) 0, ap (seat_of o) told.0);
   }
 
-  pub fill-is : (p b j n : ℕ) → 0 < many (is_value p b j n) v.fills → IsTrue (list_any (is_asked p b j n) v.gives) → (u : View) → FillTold p b j n v (get_or words (event_word_at p b j) 0) u
+  pub fill-is : (p b j n : ℕ) → 0 < many (fills_with p b j n) v.fills → IsTrue (list_any (is_asked p b j n) v.gives) → (u : View) → FillTold p b j n v (get_or words (event_word_at p b j) 0) u
       → IsCoreStep sys o (op.Fill p b j n) words v (set words (event_word_at p b j) n) u
   fill-is p b j n left asked u told = record {
-    may = and_from (may_act 49 x) (list_any (asks_for v.fills p b j n) v.gives) (acts sys words views holds id v at o) (any-then (is_asked p b j n) (asks_for v.fills p b j n) asks v.gives asked);
+    may = and_from (seat_may_act 49 x) (list_any (asks_for v.fills p b j n) v.gives) (acts sys words views holds id v at o) (any-then (is_asked p b j n) (asks_for v.fills p b j n) asks v.gives asked);
     goes = (refl, ap (seat_of o) told);
   }
     where
       filling : list_any (fills_of p b) v.fills ≡ true
-      filling = any-then (is_value p b j n) (fills_of p b) (λ f h. (and_parts (fills_of p b f) (eqb f.place j) (and_parts (fills_of p b f && eqb f.place j) (eqb f.value n) h).0).0) v.fills (many-any (is_value p b j n) v.fills left)
+      filling = any-then (fills_with p b j n) (fills_of p b) (λ f h. (and_parts (fills_of p b f) (eqb f.place j) (and_parts (fills_of p b f && eqb f.place j) (eqb f.value n) h).0).0) v.fills (many-any (fills_with p b j n) v.fills left)
 
       asks : (g : PendingGive) → is_asked p b j n g ≡ true → asks_for v.fills p b j n g ≡ true
       asks g h =
@@ -206,6 +206,6 @@ module _ (sys : System) (words : List ℕ) (views : List View) (holds : Holds sy
       let stands = standing sys views holds.now id v at holds.tokens p b k (held-stands sys views holds.now id v at holds.tokens p b k pos mine) in
       let size = size-is sys p in
       record {
-        may = and_from (is_block sys p b && list_any (is_ref_to p b) v.hands) (nat_le j (size_of sys p)) (and_from (is_block sys p b) (list_any (is_ref_to p b) v.hands) stands.0 (ref-to p b k v.hands mine)) (le-of j (size_of sys p) (omega arith));
+        may = and_from (is_block sys p b && list_any (is_ref_to p b) v.hands) (nat_le j (block_size sys p)) (and_from (is_block sys p b) (list_any (is_ref_to p b) v.hands) stands.0 (ref-to p b k v.hands mine)) (le-of j (block_size sys p) (omega arith));
         goes = (set-get_or words (event_word_at p b j) 0, ap (seat_of o) told.0);
       }

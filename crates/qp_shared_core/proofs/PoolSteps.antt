@@ -33,7 +33,7 @@ use Rattle.qp_table.specs.Told.{EyePoolTold, GiveTold, IsLowest, free_of, shorta
 use Rattle.qp_table.proofs.Found.{get-set}
 use Rattle.qp_table.proofs.Maps.{ones-length, give-map}
 use Rattle.qp_core_steps.specs.Seats.{may_add, glance, noting}
-use Rattle.qp_core_steps.specs.Blocks.{added, number_of_word, low_in, lowest, bit_of, size_of, fits, with_give}
+use Rattle.qp_core_steps.specs.Blocks.{added, number_of_word, low_in, lowest, bit_of, block_size, fits, with_give}
 use Rattle.qp_core_steps.specs.declared.seats.Seat.{Seat}
 use Rattle.qp_core_steps.proofs.BlockLemmas.{lowest-first}
 use Rattle.qp_core_steps.specs.Looks.{ones, states_pool, states}
@@ -116,9 +116,9 @@ module _ (sys : System) (words : List ℕ) (views : List View) (holds : Holds sy
 
     fitting : fits sys p ev.sig pars ≡ true
     fitting = let size = size-is sys p in let f = content.from in let w = content.within in
-        and_from ((nat_le 4 ev.sig && nat_lt ev.sig (length sys.signals + 4)) && (length pars == params_of sys ev.sig)) (nat_le (length pars) (size_of sys p))
+        and_from ((nat_le 4 ev.sig && nat_lt ev.sig (length sys.signals + 4)) && (length pars == params_of sys ev.sig)) (nat_le (length pars) (block_size sys p))
         (and_from (nat_le 4 ev.sig && nat_lt ev.sig (length sys.signals + 4)) (length pars == params_of sys ev.sig) (and_from (nat_le 4 ev.sig) (nat_lt ev.sig (length sys.signals + 4)) (le-of 4 ev.sig f) (lt-of ev.sig (length sys.signals + 4) w)) (eq-eqb (length pars) (params_of sys ev.sig) content.params))
-        (le-of (length pars) (size_of sys p) (omega arith))
+        (le-of (length pars) (block_size sys p) (omega arith))
 
     module _ (same : n ≡ old) (after : Holds sys (set words (pool_at p) new) (set views id u)) (from : ℕ)
         (is : u ≡ gave v (pool_at p) new (rec_of 15 o (p ∷ (old / 4294967296) ∷ b ∷ from ∷ ev.sig ∷ pars)) p b from (ev.sig ∷ pars)) where

@@ -20,7 +20,7 @@ use Rattle.qp_model.specs.Sites.{ring_of}
 use Rattle.qp_model.specs.WordLaw.{is_block, is_object}
 use Rattle.qp_table.specs.Counting.{Each, many}
 use Rattle.qp_table.specs.Now.{Now}
-use Rattle.qp_table.specs.Rule.{queue_at, cell_at, mark_in, is_ref, is_place, on_queue, is_serve, is_lifo, is_took, records, Served, code, Holds}
+use Rattle.qp_table.specs.Rule.{queue_at, cell_at, mark_in, is_ref, is_place, on_queue, is_serve, is_lifo, is_take_of, records, Served, code, Holds}
 use Rattle.qp_table.specs.After.{HasRoom, InHand, rec_of, place, bump, glanced, noted, laid, learned}
 use Rattle.qp_table.specs.QueueLaws.{f_in, l_in, m_in, cells_of, front_cell}
 use Rattle.qp_table.specs.declared.view.CellPlace.{CellPlace}
@@ -35,11 +35,11 @@ use Rattle.qp_table.proofs.Looks.{seen-says, nil-says, full-says, no_entry-says,
 use Rattle.qp_table.proofs.Own.{served-own}
 use Rattle.qp_table.specs.Asked.{older, oldest, IsOldest}
 use Rattle.qp_table.specs.Told.{SeenTold, NilTold, nil_rec, free_in, refusal_rec, EyeTold, TryTold, claimed_at, SwapTold, freed, FreeTold, EyeLastTold, LastTold, put_first_at, before_front}
-use Rattle.qp_core_steps.specs.Seats.{may_act, may_add, glance, noting}
+use Rattle.qp_core_steps.specs.Seats.{seat_may_act, may_add, glance, noting}
 use Rattle.qp_core_steps.specs.Blocks.{added}
 use Rattle.qp_core_steps.specs.declared.seats.Seat.{Seat}
-use Rattle.qp_core_steps.specs.Looks.{counts_match, entries_in, states_queue, states}
-use Rattle.qp_core_steps.specs.Queues.{entry_for, in_hand, has_room, count_in, serves_it, bumped, with_claim, with_lifo, without_take, older as core_older, oldest as core_oldest, is_claimed, front_at, before_at, entry_in, front_cell_of}
+use Rattle.qp_core_steps.specs.Looks.{counts_match, entry_count, states_queue, states}
+use Rattle.qp_core_steps.specs.Queues.{entry_for, in_hand, has_free_entry, operations_in, serves_it, bumped, with_claim, with_lifo, without_take, older as core_older, oldest_claim as core_oldest, is_claimed, front_at, before_at, decoded_entry, front_cell_of}
 use Rattle.qp_core_steps.specs.declared.ops.Op.{Op}
 use Rattle.qp_core_steps.specs.declared.ops.Op.TheVariants as op
 use Rattle.qp_core_steps.proofs.QueueLemmas.{code-is, code-read, claim-inside}
@@ -129,15 +129,15 @@ module _ (sys : System) (words : List ℕ) (views : List View) (holds : Holds sy
   counts = λ i. (self (f_in n) i && self (l_in n) i) && self (m_in n) i
 
   -- no more entries stand than there are cells
-  short : entries_in n ≤ ring_of sys a + 1
+  short : entry_count n ≤ ring_of sys a + 1
   short =
       let q = holds.queues.queue a object in let s = q.short in let c = q.counted in let l = line-shows sys words views holds a object in let l0 = l.0 in let l1 = l.1 in let l2 = l.2 in omega arith
 
   refused : (margin : Option ℕ) → free_in (ring_of sys a) n ≤ unwrap_or margin 0 → states sys words (word.Queue a) o (refusal_rec margin o a n) ≡ true
   refused (Some k) few = subst (λ (b : Body). states_queue (ring_of sys a) n a o o b ≡ true) (sym (body-is _ _ (full-says o a (f_in n) (l_in n) (m_in n) k)))
-      (λ i. ((self o i && self a i) && counts i) && le-of (ring_of sys a + 1 - entries_in n) k few i)
+      (λ i. ((self o i && self a i) && counts i) && le-of (ring_of sys a + 1 - entry_count n) k few i)
   refused None few = subst (λ (b : Body). states_queue (ring_of sys a) n a o o b ≡ true) (sym (body-is _ _ (no_entry-says o a (f_in n) (l_in n) (m_in n))))
-      (λ i. ((self o i && self a i) && counts i) && eq-eqb (entries_in n) (ring_of sys a + 1) (let s = short in omega arith) i)
+      (λ i. ((self o i && self a i) && counts i) && eq-eqb (entry_count n) (ring_of sys a + 1) (let s = short in omega arith) i)
 
   pub seen-is : HasRoom v → (u : View) → SeenTold sys a v n u → IsCoreStep sys o (op.Look (word.Queue a) (Some (rec_of 7 0 (a ∷ f_in n ∷ l_in n ∷ m_in n ∷ [])))) words v (set words (queue_at a) n) u
   seen-is room u told = noted-is room (rec_of 7 0 (a ∷ f_in n ∷ l_in n ∷ m_in n ∷ []))
@@ -148,13 +148,13 @@ module _ (sys : System) (words : List ℕ) (views : List View) (holds : Holds sy
 
   -- Claims.
 
-  count-is : (k : ℕ) → mark_in (queue_at a) k ≡ count_in k
+  count-is : (k : ℕ) → mark_in (queue_at a) k ≡ operations_in k
   count-is k = high-mark (queue_at a) k (omega arith)
 
   word-below : n < 9000000000000000000
   word-below = let q = holds.shows.queues a object in let c = own-counts sys words views holds a object in let f = first-small sys words views holds a object in omega arith
 
-  free-there : (margin : Option ℕ) → unwrap_or margin 0 < free_in (ring_of sys a) n → has_room sys a n ≡ true
+  free-there : (margin : Option ℕ) → unwrap_or margin 0 < free_in (ring_of sys a) n → has_free_entry sys a n ≡ true
   free-there margin some_free = lt-of (f_in n + l_in n) (m_in n + (ring_of sys a + 1)) (omega arith)
 
   -- by the names that the core gives to an entry
@@ -174,9 +174,9 @@ module _ (sys : System) (words : List ℕ) (views : List View) (holds : Holds sy
   claim-named room margin e some_free u is p b k e_is hand =
       let below = word-below in let m : n + 1 ≡ added n 1 = sym (mod-eq_of_lt (omega arith)) in
       let r : Rec = rec_of 20 o (a ∷ (f_in n + 1) ∷ l_in n ∷ m_in n ∷ e.pool ∷ e.block ∷ e.name ∷ []) in
-      let number : mark_in (queue_at a) (n + 1) ≡ count_in (added n 1) = count-is (n + 1) ∙ ap count_in m in
+      let number : mark_in (queue_at a) (n + 1) ≡ operations_in (added n 1) = count-is (n + 1) ∙ ap operations_in m in
       record {
-        may = and_from ((may_add 49 x && is_object sys a) && in_hand sys x p b k) (has_room sys a n) (and_from (may_add 49 x && is_object sys a) (in_hand sys x p b k) (and_from (may_add 49 x) (is_object sys a) (adds sys words views holds id v at o room) object) hand) (free-there margin some_free);
+        may = and_from ((may_add 49 x && is_object sys a) && in_hand sys x p b k) (has_free_entry sys a n) (and_from (may_add 49 x && is_object sys a) (in_hand sys x p b k) (and_from (may_add 49 x) (is_object sys a) (adds sys words views holds id v at o room) object) hand) (free-there margin some_free);
         goes = (
           r,
           post-says o a (f_in n + 1) (l_in n) (m_in n) e ∙ (λ i. record { of = o; body = Post a (f_in n + 1) (l_in n) (m_in n) (e_is i) }),
@@ -203,11 +203,11 @@ module _ (sys : System) (words : List ℕ) (views : List View) (holds : Holds sy
       let ring = (holds.fitting.objects a object).1 in
       let cell : j % 256 ≡ j = mod-eq_of_lt (omega arith) in
       record {
-        may = and_from (may_act 49 x) (is_claimed (core_oldest a v.claims)) (acts sys words views holds id v at o) (ap is_claimed there);
+        may = and_from (seat_may_act 49 x) (is_claimed (core_oldest a v.claims)) (acts sys words views holds id v at o) (ap is_claimed there);
         goes = (c, there, (λ i. set words (cell_at a (sym cell i)) (sym (code-is sys e in_ring.1) i)), ap (seat_of o) is);
       }
 
-  module _ (l m : ℕ) (serves : IsTrue (list_any (is_serve a) v.serves)) (l_is : l ≡ records (is_lifo a) v.logs) (m_is : m ≡ records (is_took a) v.logs) (idle : many (on_queue a) v.takes ≡ 0) (u : View) where
+  module _ (l m : ℕ) (serves : IsTrue (list_any (is_serve a) v.serves)) (l_is : l ≡ records (is_lifo a) v.logs) (m_is : m ≡ records (is_take_of a) v.logs) (idle : many (on_queue a) v.takes ≡ 0) (u : View) where
     abbrev j : ℕ
     j = front_cell sys a l m
 
@@ -220,8 +220,8 @@ module _ (sys : System) (words : List ℕ) (views : List View) (holds : Holds sy
         let r : ring_of sys a + 1 - 1 ≡ ring_of sys a = omega arith in
         λ i. ((m_is ∙ (sym own.1 ∙ sym s.2)) i + r i * (l_is ∙ (sym own.0 ∙ sym s.1)) i) % (ring_of sys a + 1)
 
-    may-serve : ((may_act 49 x && is_object sys a) && serves_it x a) ≡ true
-    may-serve = and_from (may_act 49 x && is_object sys a) (serves_it x a) (and_from (may_act 49 x) (is_object sys a) (acts sys words views holds id v at o) object) serves
+    may-serve : ((seat_may_act 49 x && is_object sys a) && serves_it x a) ≡ true
+    may-serve = and_from (seat_may_act 49 x && is_object sys a) (serves_it x a) (and_from (seat_may_act 49 x) (is_object sys a) (acts sys words views holds id v at o) object) serves
 
     pub swap-is : SwapTold sys a j v found u → IsCoreStep sys o (empty_or_peek a found) words v (set words (cell_at a j) 0) u
     swap-is told = dite (ℕ_discrete found 0)
@@ -230,15 +230,15 @@ module _ (sys : System) (words : List ℕ) (views : List View) (holds : Holds sy
           goes = (ap (set words (cell_at a j)) (sym none) ∙ set-get_or words (cell_at a j) 0, ap (seat_of o) (told.0 none));
         }))
         (λ full. let t = told.1 full in
-        let read : entry_in found ≡ t.0 = code-read sys t.0 found t.1 t.2 in
+        let read : decoded_entry found ≡ t.0 = code-read sys t.0 found t.1 t.2 in
         let there : found ≡ get_or words (front_cell_of sys words a) 0 = ap (λ k. get_or words (cell_at a k) 0) front in
         rw (ne_eqb found 0 full) (record {
-          may = and_from (((may_act 49 x && is_object sys a) && serves_it x a) && not (list_any (on_queue a) v.takes)) (not (get_or words (front_cell_of sys words a) 0 == 0))
-              (and_from ((may_act 49 x && is_object sys a) && serves_it x a) (not (list_any (on_queue a) v.takes)) may-serve (ap not (none-any (on_queue a) v.takes idle)))
+          may = and_from (((seat_may_act 49 x && is_object sys a) && serves_it x a) && not (list_any (on_queue a) v.takes)) (not (get_or words (front_cell_of sys words a) 0 == 0))
+              (and_from ((seat_may_act 49 x && is_object sys a) && serves_it x a) (not (list_any (on_queue a) v.takes)) may-serve (ap not (none-any (on_queue a) v.takes idle)))
               (ap (λ k. not (k == 0)) (sym there) ∙ ap not (ne_eqb found 0 full));
           goes = (
             ap (λ k. set words (cell_at a k) 0) front,
-            ap (seat_of o) t.3 ∙ (λ i. record x { takes = v.takes ++ place a (front i) ((sym read ∙ ap entry_in there) i) 0 ∷ [] }),
+            ap (seat_of o) t.3 ∙ (λ i. record x { takes = v.takes ++ place a (front i) ((sym read ∙ ap decoded_entry there) i) 0 ∷ [] }),
           );
         }))
 
@@ -261,18 +261,18 @@ module _ (sys : System) (words : List ℕ) (views : List View) (holds : Holds sy
   pub eye-last-is : (u : View) → EyeLastTold sys a v k u → IsCoreStep sys a (look_for_last sys a k) words v (set words (queue_at a) k) u
   eye-last-is u told = either-is sys words views holds id v at a a object room (full_rec a k) (eqb (free_in (ring_of sys a) k) 0)
       (λ e. subst (λ (b : Body). states_queue (ring_of sys a) k a a a b ≡ true) (sym (body-is _ _ (no_lifo-says a a (f_in k) (l_in k) (m_in k))))
-      (λ i. ((alike a i && alike a i) && counts sys words views holds id v at a a object i) && eq-eqb (entries_in k) (ring_of sys a + 1) (let s = short sys words views holds id v at a a object in let z = eqb-true (free_in (ring_of sys a) k) 0 e in omega arith) i)) u told.0
+      (λ i. ((alike a i && alike a i) && counts sys words views holds id v at a a object i) && eq-eqb (entry_count k) (ring_of sys a + 1) (let s = short sys words views holds id v at a a object in let z = eqb-true (free_in (ring_of sys a) k) 0 e in omega arith) i)) u told.0
 
   last-named : (e : Entry) → IsTrue (list_any (is_serve a) v.serves) → many (on_queue a) v.takes ≡ 0 → 0 < free_in (ring_of sys a) k → (u : View) → u ≡ put_first_at sys a e v k → (p b c : ℕ) → e ≡ entry_for p b c → in_hand sys y p b c ≡ true
       → IsCoreStep sys a (op.Lifo a p b c) words v (set words (queue_at a) (k + 2097152)) u
   last-named e serves idle some_free u is p b c e_is hand =
       let below = word-below sys words views holds id v at a a object in let m : k + 2097152 ≡ added k 2097152 = sym (mod-eq_of_lt (omega arith)) in
       let r : Rec = rec_of 21 a (f_in k ∷ (l_in k + 1) ∷ m_in k ∷ e.pool ∷ e.block ∷ e.name ∷ []) in
-      let number : mark_in (queue_at a) (k + 2097152) ≡ count_in (added k 2097152) = count-is sys words views holds id v at a a object (k + 2097152) ∙ ap count_in m in
+      let number : mark_in (queue_at a) (k + 2097152) ≡ operations_in (added k 2097152) = count-is sys words views holds id v at a a object (k + 2097152) ∙ ap operations_in m in
       let home = holds.queues.home id v at in
       let cell : before_front sys a k ≡ before_at sys a k = (let z : ring_of sys a + 1 - 1 ≡ ring_of sys a = omega arith in λ i. (m_in k + z i * l_in k + z i) % (ring_of sys a + 1)) in
       record {
-        may = and_from ((((may_add 49 y && is_object sys a) && serves_it y a) && not (list_any (on_queue a) v.takes)) && in_hand sys y p b c) (has_room sys a k)
+        may = and_from ((((may_add 49 y && is_object sys a) && serves_it y a) && not (list_any (on_queue a) v.takes)) && in_hand sys y p b c) (has_free_entry sys a k)
             (and_from (((may_add 49 y && is_object sys a) && serves_it y a) && not (list_any (on_queue a) v.takes)) (in_hand sys y p b c)
             (and_from ((may_add 49 y && is_object sys a) && serves_it y a) (not (list_any (on_queue a) v.takes)) (and_from (may_add 49 y && is_object sys a) (serves_it y a) (and_from (may_add 49 y) (is_object sys a) (adds sys words views holds id v at a room) object) serves) (ap not (none-any (on_queue a) v.takes idle))) hand)
             (free-there sys words views holds id v at a a object None some_free);

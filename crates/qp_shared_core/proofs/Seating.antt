@@ -11,13 +11,13 @@ use Rattle.qp_model.specs.declared.systems.PoolDef.{PoolDef}
 use Rattle.qp_model.specs.declared.systems.System.{System}
 use Rattle.qp_model.specs.Record.{Item, item_of, body_of}
 use Rattle.qp_model.specs.Parts.{sizes_of}
-use Rattle.qp_table.specs.Counting.{Each, total, many}
+use Rattle.qp_table.specs.Counting.{Each, sum_over, many}
 use Rattle.qp_table.specs.Rule.{Holds}
 use Rattle.qp_table.specs.After.{HasRoom, logged}
 use Rattle.qp_table.specs.declared.view.SeatLog.{SeatLog}
 use Rattle.qp_table.specs.declared.view.View.{View}
-use Rattle.qp_core_steps.specs.Seats.{may_act, may_add}
-use Rattle.qp_core_steps.specs.Blocks.{size_of}
+use Rattle.qp_core_steps.specs.Seats.{seat_may_act, may_add}
+use Rattle.qp_core_steps.specs.Blocks.{block_size}
 use Rattle.qp_table.specs.Asked.{size_of as room_of}
 use Rattle.qp_table.specs.Lane.{first_number}
 use Rattle.qp_shared_core.specs.CoreStep.{seat_of}
@@ -79,7 +79,7 @@ size-at [] (suc i) = refl
 size-at (x ∷ xs) zero = refl
 size-at (x ∷ xs) (suc i) = size-at xs i
 
-pub size-is : (sys : System) (p : ℕ) → room_of sys p ≡ size_of sys p
+pub size-is : (sys : System) (p : ℕ) → room_of sys p ≡ block_size sys p
 unfolding sizes_of
 size-is sys p = size-at sys.pools (p - 1)
 
@@ -91,8 +91,8 @@ module _ (sys : System) (words : List ℕ) (views : List View) (holds : Holds sy
       go [] e = omega arith
       go (g ∷ gs) e = let w = within holds.lanes g.number g.recs e.0 in let c = holds.logs.count in omega arith
 
-  pub acts : may_act 49 (seat_of o v) ≡ true
+  pub acts : seat_may_act 49 (seat_of o v) ≡ true
   acts = lt-of (first_number v.logs) 49 below
 
   pub adds : HasRoom v → may_add 49 (seat_of o v) ≡ true
-  adds room = and_from (nat_lt (first_number v.logs) 49) (nat_lt (total (λ (g : SeatLog). length g.recs) v.logs) 1000001) (lt-of (first_number v.logs) 49 below) (lt-of (total (λ (g : SeatLog). length g.recs) v.logs) 1000001 room.room)
+  adds room = and_from (nat_lt (first_number v.logs) 49) (nat_lt (sum_over (λ (g : SeatLog). length g.recs) v.logs) 1000001) (lt-of (first_number v.logs) 49 below) (lt-of (sum_over (λ (g : SeatLog). length g.recs) v.logs) 1000001 room.room)

@@ -11,7 +11,7 @@ use Rattle.qp_model.specs.declared.words.Word.TheVariants as word
 use Rattle.qp_model.specs.Sites.{ring_of}
 use Rattle.qp_model.specs.WordLaw.{is_pool, is_object}
 use Rattle.qp_table.specs.Counting.{many}
-use Rattle.qp_table.specs.Rule.{pool_at, block_at, event_word_at, queue_at, cell_at, is_ref, is_spot, is_spot_at, is_value, fills_of, is_place, on_queue, is_serve, is_lifo, is_took, records, code, IsContent}
+use Rattle.qp_table.specs.Rule.{pool_at, block_at, event_word_at, queue_at, cell_at, is_ref, is_spot, is_spot_at, fills_with, fills_of, is_place, on_queue, is_serve, is_lifo, is_take_of, records, code, IsContent}
 use Rattle.qp_table.specs.After.{HasRoom, InHand, rec_of}
 use Rattle.qp_table.specs.QueueLaws.{f_in, l_in, m_in, cells_of, front_cell}
 use Rattle.qp_table.specs.declared.view.View.{View}
@@ -41,7 +41,7 @@ abbrev pub BeginningsAreCore : Type 0
 BeginningsAreCore = (sys : System) (o : ℕ) (v : View) (p b m : ℕ) → AreCore sys o v (block_at p b) (λ n. n) (λ n. op.Look (word.Block p b) None) (FromTold sys p b m v)
 
 abbrev pub FillsAreCore : Type 0
-FillsAreCore = (sys : System) (o : ℕ) (v : View) (p b j x : ℕ) → 0 < many (is_value p b j x) v.fills → IsTrue (list_any (is_asked p b j x) v.gives) → AreCore sys o v (event_word_at p b j) (λ n. x) (λ n. op.Fill p b j x) (FillTold p b j x v)
+FillsAreCore = (sys : System) (o : ℕ) (v : View) (p b j x : ℕ) → 0 < many (fills_with p b j x) v.fills → IsTrue (list_any (is_asked p b j x) v.gives) → AreCore sys o v (event_word_at p b j) (λ n. x) (λ n. op.Fill p b j x) (FillTold p b j x v)
 
 -- at a place that the pool's blocks have
 abbrev pub ReadsAreCore : Type 0
@@ -87,7 +87,7 @@ abbrev pub LaysAreCore : Type 0
 LaysAreCore = (sys : System) (o : ℕ) (v : View) (a j : ℕ) (e : Entry) → IsTrue (is_object sys a) → j < cells_of sys a → 0 < many (is_place a j e) v.claims → IsOldest a j e v.claims → AreCore sys o v (cell_at a j) (λ n. code e) (λ n. op.Lay a) (LayTold a j e v)
 
 abbrev pub SwapsAreCore : Type 0
-SwapsAreCore = (sys : System) (o : ℕ) (v : View) (a l m : ℕ) → IsTrue (is_object sys a) → IsTrue (list_any (is_serve a) v.serves) → l ≡ records (is_lifo a) v.logs → m ≡ records (is_took a) v.logs → many (on_queue a) v.takes ≡ 0
+SwapsAreCore = (sys : System) (o : ℕ) (v : View) (a l m : ℕ) → IsTrue (is_object sys a) → IsTrue (list_any (is_serve a) v.serves) → l ≡ records (is_lifo a) v.logs → m ≡ records (is_take_of a) v.logs → many (on_queue a) v.takes ≡ 0
     → AreCore sys o v (cell_at a (front_cell sys a l m)) (λ n. 0) (empty_or_peek a) (SwapTold sys a (front_cell sys a l m) v)
 
 abbrev pub FreesAreCore : Type 0

@@ -32,7 +32,7 @@ use Rattle.qp_plain_sound.specs.Sound.{facts_in, is_event, is_good, names_block,
 use Rattle.qp_table.specs.Counting.{Each, many, upto}
 use Rattle.qp_table.specs.TwoTables.{on_table, Thins}
 use Rattle.qp_table.specs.Now.{content_by, content_from}
-use Rattle.qp_table.specs.Rule.{is_ref, is_entry, HasEvent, IsContent, Codable, event_in, Holds}
+use Rattle.qp_table.specs.Rule.{is_ref, is_entry, HasEvent, IsContent, Codable, event_of_content, Holds}
 use Rattle.qp_table.specs.declared.view.View.{View}
 use Rattle.qp_table.proofs.Bounds.{refs-named}
 use Rattle.qp_table.proofs.Tokens.{fresh-alone, used-alone, standing, held-stands, above-at}
@@ -118,7 +118,7 @@ module _ (sys : System) (v : View) (end : AtEnd sys v) (js : List (List Rec)) (t
     unfolding life_in cell_in
     is-given = subst (λ t. IsGiven (life_in js p b) t (cell_in js p b)) content (given b (hist (word.Pool p) (all_items js)))
 
-    tracks : (r : ℕ) → (life_in js p b).out ≡ true → (life_in js p b).edge ≤ r → last_given b r None (hist (word.Pool p) (all_items js)) ≡ Some (event_in (content_from b [] (hist (word.Pool p) (all_items js))))
+    tracks : (r : ℕ) → (life_in js p b).out ≡ true → (life_in js p b).edge ≤ r → last_given b r None (hist (word.Pool p) (all_items js)) ≡ Some (event_of_content (content_from b [] (hist (word.Pool p) (all_items js))))
     unfolding life_in
     tracks r out low = tracks-first b r (hist (word.Pool p) (all_items js)) out low
 
@@ -139,7 +139,7 @@ module _ (sys : System) (v : View) (end : AtEnd sys v) (js : List (List Rec)) (t
           subst (λ (t : Bool). (if t then Some (record { sig = b; pars = [] }) else life_event (facts_in sys js) p b r) ≡ cell_in js p b) (sym (ne_eqb p 0 (λ e. absurd (omega arith))))
           (subst (λ (t : Bool). (if t then last_given b r None (hist (word.Pool p) (all_items js)) else None) ≡ cell_in js p b) (sym (lt-true r (length (hist (word.Block p b) (all_items js))) (let c = counted in omega arith)))
           (tracks r out (let e = edge-is sys end.words end.views h end.id v end.is end.all js thin p b block in omega arith)
-          ∙ (ap (λ t. Some (event_in t)) (content ∙ g.2) ∙ sym g.3)));
+          ∙ (ap (λ t. Some (event_of_content t)) (content ∙ g.2) ∙ sym g.3)));
     }
       where
         counted : (h.now.refs p b).count ≡ length (hist (word.Block p b) (all_items js))

@@ -19,7 +19,7 @@ use Rattle.qp_model.proofs.WordLawLemmas.{references-counts}
 use Rattle.qp_plain_sound.specs.Sound.{facts_in}
 use Rattle.qp_table.specs.Counting.{Each}
 use Rattle.qp_table.specs.TwoTables.{on_table, Thins}
-use Rattle.qp_table.specs.Rule.{is_entry, event_in, IsKnown, Holds}
+use Rattle.qp_table.specs.Rule.{is_entry, event_of_content, IsKnown, Holds}
 use Rattle.qp_table.specs.declared.view.Content.{Content}
 use Rattle.qp_table.specs.declared.view.View.{View}
 use Rattle.qp_table.proofs.Steps.{pool-of}
@@ -36,16 +36,16 @@ module _ (sys : System) (v : View) (end : AtEnd sys v) (js : List (List Rec)) (t
   h = end.holds
 
   -- the event of a life
-  life-is : (e : Entry) (q : Content) → 0 < e.pool → q.entry ≡ e → IsKnown sys h.lanes h.now q → life_event (facts_in sys js) e.pool e.block e.name ≡ Some (event_in q.event)
+  life-is : (e : Entry) (q : Content) → 0 < e.pool → q.entry ≡ e → IsKnown sys h.lanes h.now q → life_event (facts_in sys js) e.pool e.block e.name ≡ Some (event_of_content q.event)
   unfolding life_event
   life-is e q pos is known =
       let k = subst (λ (x : Entry). (0 < x.pool → IsTrue (is_block sys x.pool x.block)) × (0 < x.pool → x.name < (h.now.refs x.pool x.block).count)
-      × (0 < x.pool → last_given x.block x.name None (hist (word.Pool x.pool) (all_items h.lanes)) ≡ Some (event_in q.event))) is (known.block, known.made, known.given) in
+      × (0 < x.pool → last_given x.block x.name None (hist (word.Pool x.pool) (all_items h.lanes)) ≡ Some (event_of_content q.event))) is (known.block, known.made, known.given) in
       let block = k.0 pos in let made = k.1 pos in
       let count : (h.now.refs e.pool e.block).count ≡ length (hist (word.Block e.pool e.block) (all_items js)) =
       ap (λ (s : Refs). s.count) (sym (h.leaves.refs e.pool e.block block)) ∙ (count-after references references-counts (hist (word.Block e.pool e.block) (all_items h.lanes)) (h.leaves.law.blocks e.pool e.block block).allowed
       ∙ ap length (sym (block-hist sys end.words end.views h end.id v end.is end.all js thin e.pool e.block block))) in
-      subst (λ (t : Bool). (if t then last_given e.block e.name None (hist (word.Pool e.pool) (all_items js)) else None) ≡ Some (event_in q.event)) (sym (lt-true e.name (length (hist (word.Block e.pool e.block) (all_items js))) (omega arith)))
+      subst (λ (t : Bool). (if t then last_given e.block e.name None (hist (word.Pool e.pool) (all_items js)) else None) ≡ Some (event_of_content q.event)) (sym (lt-true e.name (length (hist (word.Block e.pool e.block) (all_items js))) (omega arith)))
       (ap (last_given e.block e.name None) (pool-hist sys end.words end.views h end.id v end.is end.all js thin e.pool (pool-of sys e.pool e.block block).0) ∙ k.2 pos)
 
   entry-is : (e : Entry) (q : Content) → is_entry e q.entry ≡ true → q.entry ≡ e
@@ -57,7 +57,7 @@ module _ (sys : System) (v : View) (end : AtEnd sys v) (js : List (List Rec)) (t
   contents-is e (q ∷ qs) pos known there = go (is_entry e q.entry) refl there (λ k. contents-is e qs pos known.1 k)
     where
       go : (t : Bool) → is_entry e q.entry ≡ t → (t || list_any (λ (q : Content). is_entry e q.entry) qs) ≡ true → (list_any (λ (q : Content). is_entry e q.entry) qs ≡ true → life_event (facts_in sys js) e.pool e.block e.name ≡ Some (event_read qs e))
-          → life_event (facts_in sys js) e.pool e.block e.name ≡ Some (cond {A = Event} t (event_in q.event) (event_read qs e))
+          → life_event (facts_in sys js) e.pool e.block e.name ≡ Some (cond {A = Event} t (event_of_content q.event) (event_read qs e))
       go true is k r = life-is e q pos (entry-is e q is) known.0
       go false is k r = r k
 

@@ -21,7 +21,7 @@ use Rattle.qp_model.specs.WordLaw.{Words, is_pool, is_block, is_object}
 use Rattle.qp_model.proofs.LifeLemmas.{free-out}
 use Rattle.qp_model_order.proofs.Orders.{words-ordered, words-emptied, hist-ordered}
 use Rattle.qp_plain_sound.specs.WordStates.{pool_in, life_in, refs_in, line_in}
-use Rattle.qp_table.specs.Counting.{total, many}
+use Rattle.qp_table.specs.Counting.{sum_over, many}
 use Rattle.qp_table.specs.TwoTables.{on_table, on_side, Thins, SideWords}
 use Rattle.qp_table.specs.Now.{content_from}
 use Rattle.qp_table.specs.Rule.{is_log, is_number, Idle, Holds}
@@ -30,12 +30,12 @@ use Rattle.qp_table.proofs.Counting.{alone-total, many-le}
 use Rattle.qp_table.proofs.Views.{total-two}
 use Rattle.qp_table.proofs.Steps.{pool-of}
 use Rattle.qp_table.proofs.Thin.{hist-thins, words-joined}
-use Rattle.qp_port_law.specs.Sealed.{is_on_table}
+use Rattle.qp_port_law.specs.Sealed.{is_event_table_word}
 use Rattle.qp_shared_ends.specs.Lanes.{lanes_recs}
 use Rattle.qp_shared_ends.proofs.Ordering.{lanes-ordered, empties}
 
 -- a record that isn't of the table touches no word of it
-covered : (w : Word) → is_on_table w ≡ true → (u : Touch) → on_table u ≡ false → mark_of w u ≡ None
+covered : (w : Word) → is_event_table_word w ≡ true → (u : Touch) → on_table u ≡ false → mark_of w u ≡ None
 covered w h Neither e = refl
 covered (word.Signal c) h (Draws x n) e = absurd (cc)
 covered (word.Signal c) h (Shows x n) e = absurd (cc)
@@ -89,13 +89,13 @@ module _ (sys : System) (words : List ℕ) (views : List View) (holds : Holds sy
   no-rights : (j : ℕ) (z : View) → j ≢ id → get_elem? views j ≡ some z → length z.logs + length z.lane_numbers ≡ 0
   no-rights j z ne there = let t = total-two (λ (y : View). length y.logs + length y.lane_numbers) views id j v z at_id there (λ e. ne (sym e)) in let r = holds.logs.rights in omega arith
 
-  pub alone : (f : View → ℕ) → ((z : View) → Idle z → f z ≡ 0) → total f views ≡ f v
+  pub alone : (f : View → ℕ) → ((z : View) → Idle z → f z ≡ 0) → sum_over f views ≡ f v
   alone f h = alone-total f views id v at_id (λ j z ne there. h z (holds.idle j z there (no-rights j z ne there)))
 
-  logs-alone : (n : ℕ) → total (λ (z : View). many (is_log n) z.logs) views ≡ many (is_log n) v.logs
+  logs-alone : (n : ℕ) → sum_over (λ (z : View). many (is_log n) z.logs) views ≡ many (is_log n) v.logs
   logs-alone n = alone-total (λ (z : View). many (is_log n) z.logs) views id v at_id (λ j z ne there. let r = no-rights j z ne there in let l = many-le (is_log n) z.logs in omega arith)
 
-  numbers-alone : (n : ℕ) → total (λ (z : View). many (is_number n) z.lane_numbers) views ≡ many (is_number n) v.lane_numbers
+  numbers-alone : (n : ℕ) → sum_over (λ (z : View). many (is_number n) z.lane_numbers) views ≡ many (is_number n) v.lane_numbers
   numbers-alone n = alone-total (λ (z : View). many (is_number n) z.lane_numbers) views id v at_id (λ j z ne there. let r = no-rights j z ne there in let l = many-le (is_number n) z.lane_numbers in omega arith)
 
   order : (k : ℕ) × IsPermutation (lanes_recs v.logs ++ replicate k []) holds.lanes
@@ -111,7 +111,7 @@ module _ (sys : System) (words : List ℕ) (views : List View) (holds : Holds sy
     abbrev past : List Item
     past = all_items holds.lanes
 
-    pub hist-same : (w : Word) → is_on_table w ≡ true → is_numbered w past ≡ true → hist w items ≡ hist w past
+    pub hist-same : (w : Word) → is_event_table_word w ≡ true → is_numbered w past ≡ true → hist w items ≡ hist w past
     hist-same w on numbers = let o = order in
         sym (hist-thins w (λ i. on_table (touch i)) (λ i e. covered w on (touch i) e) js (lanes_recs v.logs) thin)
         ∙ (ap (hist w) (sym (empties (lanes_recs v.logs) o.0))

@@ -18,11 +18,11 @@ use Rattle.qp_model.proofs.HistoryLemmas.{length-hist}
 use Rattle.qp_calls.specs.LaneView.{Shown, FreeBlocks, References, Counts, first_shown}
 use Rattle.qp_plain_sound.specs.WordStates.{pool_in, refs_in, line_in}
 use Rattle.qp_plain_sound.specs.View.{shown_in}
-use Rattle.qp_port_law.specs.Sealed.{is_on_table}
+use Rattle.qp_port_law.specs.Sealed.{is_event_table_word}
 use Rattle.qp_table.specs.Counting.{Each}
 use Rattle.qp_table.specs.TwoTables.{on_table, Thins}
 use Rattle.qp_table.specs.Rule.{pool_at, block_at, queue_at, bits_value, mark_in, Holds}
-use Rattle.qp_table.specs.After.{nothing}
+use Rattle.qp_table.specs.After.{empty_view}
 use Rattle.qp_table.specs.declared.view.Glance.{Glance}
 use Rattle.qp_table.specs.declared.view.View.{View}
 use Rattle.qp_table.proofs.Counting.{get-last}
@@ -58,7 +58,7 @@ module _ (sys : System) (v : View) (end : AtEnd sys v) (js : List (List Rec)) (t
 
   first-behind : (w : Word) → IsTrue (is_here sys w) → Behind (place_of w) (first_value sys w)
   unfolding value_seen latest
-  first-behind w here = let a = found-ahead sys end.words (end.views ++ nothing ∷ []) (adds-nothing sys end.words end.views h) (length end.views) nothing (get-last end.views nothing) w here in (a.le, a.same)
+  first-behind w here = let a = found-ahead sys end.words (end.views ++ empty_view ∷ []) (adds-nothing sys end.words end.views h) (length end.views) empty_view (get-last end.views empty_view) w here in (a.le, a.same)
 
   glance-behind : (g : Glance) → SawFrom end.words h.was g → Behind g.word g.value
   glance-behind g s = (s.1, λ e. s.2 ∙ (ap (h.was g.word) e ∙ sym (h.seen.now g.word s.0)))
@@ -81,7 +81,7 @@ module _ (sys : System) (v : View) (end : AtEnd sys v) (js : List (List Rec)) (t
     unfolding value_seen
     value-behind w here = latest-behind (place_of w) (first_value sys w) seen (first-behind w here) saw
 
-    numbers : (w : Word) → is_on_table w ≡ true → IsTrue (is_here sys w) → is_numbered w items ≡ true
+    numbers : (w : Word) → is_event_table_word w ≡ true → IsTrue (is_here sys w) → is_numbered w items ≡ true
     numbers (word.Pool p) on here = (law.pools p here).numbers
     numbers (word.Block p b) on here = (law.blocks p b here).numbers
     numbers (word.Queue a) on here = (law.queues a here).numbers
@@ -92,14 +92,14 @@ module _ (sys : System) (v : View) (end : AtEnd sys v) (js : List (List Rec)) (t
     queue-long a object = queue-mark sys end.words end.views h a object ∙ ap length (sym (queue-hist sys end.words end.views h end.id v end.is end.all js thin a object))
 
     -- a word shows as many operations as its history has
-    long : (w : Word) → is_on_table w ≡ true → IsTrue (is_here sys w) → mark_in (place_of w) (at w) ≡ total w items
+    long : (w : Word) → is_event_table_word w ≡ true → IsTrue (is_here sys w) → mark_in (place_of w) (at w) ≡ total w items
     long (word.Pool p) on here = pool-long sys v end js thin p here ∙ length-hist (word.Pool p) items (numbers (word.Pool p) on here)
     long (word.Block p b) on here = block-long sys v end js thin p b here ∙ length-hist (word.Block p b) items (numbers (word.Block p b) on here)
     long (word.Queue a) on here = queue-long a here ∙ length-hist (word.Queue a) items (numbers (word.Queue a) on here)
     long (word.Signal s) on here = absurd (cc)
     long (word.Timer t) on here = absurd (cc)
 
-    pub mark-known : (w : Word) → is_on_table w ≡ true → mark_seen sys seen w ≤ total w items
+    pub mark-known : (w : Word) → is_event_table_word w ≡ true → mark_seen sys seen w ≤ total w items
     unfolding mark_seen
     mark-known w on = go (is_here sys w) refl
       where
@@ -108,7 +108,7 @@ module _ (sys : System) (v : View) (end : AtEnd sys v) (js : List (List Rec)) (t
         go false here = omega arith
 
     -- what the words show at the end
-    shows-now : (w : Word) → is_on_table w ≡ true → IsTrue (is_here sys w) → as_shown w (at w) ≡ shown_in sys js w
+    shows-now : (w : Word) → is_event_table_word w ≡ true → IsTrue (is_here sys w) → as_shown w (at w) ≡ shown_in sys js w
     unfolding shown_in
     shows-now (word.Pool p) on here =
         let few = (h.fitting.small p here).1 in let up = pool-ascends sys h.lanes h.now h.leaves h.logs.count h.logs.room p here in
@@ -130,7 +130,7 @@ module _ (sys : System) (v : View) (end : AtEnd sys v) (js : List (List Rec)) (t
     no-hist w none = ap (numbered w items) none
 
     -- a word that the system hasn't and that had no operation
-    shows-first : (w : Word) → is_on_table w ≡ true → total w items ≡ 0 → first_shown sys w ≡ shown_in sys js w
+    shows-first : (w : Word) → is_event_table_word w ≡ true → total w items ≡ 0 → first_shown sys w ≡ shown_in sys js w
     unfolding shown_in pool_in refs_in line_in after after_from
     shows-first (word.Pool p) on none = ap FreeBlocks (sym (rw (no-hist (word.Pool p) none) (length-up 0 (blocks_of sys p))))
     shows-first (word.Block p b) on none = ap References (sym (rw (no-hist (word.Block p b) none) refl))
@@ -138,7 +138,7 @@ module _ (sys : System) (v : View) (end : AtEnd sys v) (js : List (List Rec)) (t
     shows-first (word.Signal s) on none = absurd (cc)
     shows-first (word.Timer t) on none = absurd (cc)
 
-    pub mark-says : (w : Word) → is_on_table w ≡ true → mark_seen sys seen w ≡ total w items → shown_seen sys seen w ≡ shown_in sys js w
+    pub mark-says : (w : Word) → is_event_table_word w ≡ true → mark_seen sys seen w ≡ total w items → shown_seen sys seen w ≡ shown_in sys js w
     unfolding mark_seen shown_seen
     mark-says w on = go (is_here sys w) refl
       where

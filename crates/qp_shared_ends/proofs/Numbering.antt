@@ -4,7 +4,7 @@ use mathlib.Core.Option.{some, some-injective, some-ne-none}
 use lib.ListN.{get_elem?}
 use Rattle.atomic_table.proofs.Lists.{at_map}
 use Rattle.qp_model.specs.declared.systems.System.{System}
-use Rattle.qp_table.specs.Counting.{Each, total, many, without}
+use Rattle.qp_table.specs.Counting.{Each, sum_over, many, without}
 use Rattle.qp_table.specs.Rule.{is_log, is_number, is_serve, Logs}
 use Rattle.qp_table.specs.declared.view.SeatLog.{SeatLog}
 use Rattle.qp_table.specs.declared.view.View.{View}
@@ -14,9 +14,9 @@ use Rattle.qp_side.specs.Rule.{KnowsItsOwn, SideHolds, views_of, member_from, me
 use Rattle.qp_side.specs.declared.view.SideView.{SideView}
 use Rattle.qp_side.proofs.Places.{fits}
 use Rattle.qp_side.proofs.StepLemmas.{at-view}
-use Rattle.qp_shared_ends.specs.Seats.{with_number}
+use Rattle.qp_shared_ends.specs.Seats.{as_lane_seat}
 
-total-map : {A B : Type 0} (f : A → B) (g : B → ℕ) (xs : List A) → total g (map f xs) ≡ total (λ x. g (f x)) xs
+total-map : {A B : Type 0} (f : A → B) (g : B → ℕ) (xs : List A) → sum_over g (map f xs) ≡ sum_over (λ x. g (f x)) xs
 total-map f g [] = refl
 total-map f g (x ∷ xs) = ap (λ k. g (f x) + k) (total-map f g xs)
 
@@ -38,12 +38,12 @@ less-one n k xs h = many-without (is_number n) (is_number k) (eqb n k) (λ x e. 
 
 module _ (sys : System) (words : List ℕ) (views : List SideView) (holds : SideHolds sys words views) (id : ℕ) (v : SideView) (at_id : get_elem? views id ≡ some v) (n : ℕ) (few : n < 49) (mine : 0 < many (is_number n) v.view.lane_numbers) (bare : v.view.logs ≡ []) where
   abbrev seat : SideView
-  seat = with_number n v
+  seat = as_lane_seat n v
 
   abbrev more : List SideView
   more = set views id seat
 
-  sums : (f : SideView → ℕ) → total f more + f v ≡ total f views + f seat
+  sums : (f : SideView → ℕ) → sum_over f more + f v ≡ sum_over f views + f seat
   sums f = total-set f views id v seat at_id
 
   each-more : (P : SideView → Type 0) → P seat → ((j : ℕ) (x : SideView) → get_elem? views j ≡ some x → P x) → (j : ℕ) (x : SideView) → get_elem? more j ≡ some x → P x
@@ -52,10 +52,10 @@ module _ (sys : System) (words : List ℕ) (views : List SideView) (holds : Side
   in-views : (P : View → Type 0) → ((j : ℕ) (x : SideView) → get_elem? more j ≡ some x → P x.view) → (j : ℕ) (y : View) → get_elem? (views_of more) j ≡ some y → P y
   in-views P all j y e = let z = from-map (λ (x : SideView). x.view) more j y e in subst P z.2 (all j z.0 z.1)
 
-  sums-views : (f : View → ℕ) → total f (views_of more) + f v.view ≡ total f (views_of views) + f seat.view
+  sums-views : (f : View → ℕ) → sum_over f (views_of more) + f v.view ≡ sum_over f (views_of views) + f seat.view
   sums-views f = let a = total-map (λ (x : SideView). x.view) f more in let b = total-map (λ (x : SideView). x.view) f views in let c = sums (λ x. f x.view) in omega arith
 
-  some-there : 0 < total (λ (x : View). many (is_number n) x.lane_numbers) (views_of views)
+  some-there : 0 < sum_over (λ (x : View). many (is_number n) x.lane_numbers) (views_of views)
   some-there = let z = total-at (λ (x : View). many (is_number n) x.lane_numbers) (views_of views) id v.view (at-view sys words views holds id v at_id) in omega arith
 
   new-logs : Logs holds.lanes (views_of more)

@@ -6,7 +6,7 @@ use Rattle.atomic_table.proofs.Lists.{set_again, set_here, set_else}
 use Rattle.qp_model.specs.declared.systems.System.{System}
 use Rattle.qp_table.specs.Counting.{Each, many}
 use Rattle.qp_table.specs.Rule.{is_number, on_queue, Holds}
-use Rattle.qp_table.specs.After.{nothing, onlooker, passing, handed, granting, granted, views_joined}
+use Rattle.qp_table.specs.After.{empty_view, onlooker, passing, handed, granting, granted, views_joined}
 use Rattle.qp_table.specs.Whole.{Unused}
 use Rattle.qp_table.specs.declared.view.CellPlace.{CellPlace}
 use Rattle.qp_table.specs.declared.view.Serve.{Serve}
@@ -57,33 +57,33 @@ each-passing takes t (x ∷ xs) none e = go (t x) (each-passing takes t xs none 
 
 module _ (sys : System) (id : ℕ) (v : View) where
   -- a view with nothing beside
-  added : (words : List ℕ) (views : List View) → Holds sys words views → get_elem? views id ≡ some v → Holds sys words (set views id v ++ nothing ∷ [])
-  added words views h at = subst (λ (l : List View). Holds sys words (l ++ nothing ∷ [])) (sym (set_again views id v at)) (adds-nothing sys words views h)
+  added : (words : List ℕ) (views : List View) → Holds sys words views → get_elem? views id ≡ some v → Holds sys words (set views id v ++ empty_view ∷ [])
+  added words views h at = subst (λ (l : List View). Holds sys words (l ++ empty_view ∷ [])) (sym (set_again views id v at)) (adds-nothing sys words views h)
 
   pub gives-lane : (n : ℕ) (t : Serve → Bool) → n < 49 → 0 < many (is_number n) v.lane_numbers → 0 < length v.logs → IsUnused v → MayPart sys id v (root_left n t v) (lane_new n t v)
   gives-lane n t few mine lane unused words views h at =
-      let granted_to : Holds sys words (set views id (granting n v) ++ granted n nothing ∷ []) =
-      subst (Holds sys words) (set-both views id v v nothing (granting n v) (granted n nothing) at)
-      (grants_keep_the_rule sys words (set views id v ++ nothing ∷ []) (added words views h at) id v (at-first views id v v nothing at) (length views) nothing (other-place views id v at) (at-second views id v nothing) n few mine (λ none. absurd (omega arith))) in
-      subst (Holds sys words) (set-both views id v (granting n v) (granted n nothing) (root_left n t v) (handed t (granting n v) (granted n nothing)) at)
-      (hand_overs_keep_the_rule sys words (set views id (granting n v) ++ granted n nothing ∷ []) granted_to id (granting n v) (at-first views id v (granting n v) (granted n nothing) at) (length views) (granted n nothing) (other-place views id v at)
-      (at-second views id (granting n v) (granted n nothing)) t (each-passing v.takes t v.serves unused.takes unused.serves))
+      let granted_to : Holds sys words (set views id (granting n v) ++ granted n empty_view ∷ []) =
+      subst (Holds sys words) (set-both views id v v empty_view (granting n v) (granted n empty_view) at)
+      (grants_keep_the_rule sys words (set views id v ++ empty_view ∷ []) (added words views h at) id v (at-first views id v v empty_view at) (length views) empty_view (other-place views id v at) (at-second views id v empty_view) n few mine (λ none. absurd (omega arith))) in
+      subst (Holds sys words) (set-both views id v (granting n v) (granted n empty_view) (root_left n t v) (handed t (granting n v) (granted n empty_view)) at)
+      (hand_overs_keep_the_rule sys words (set views id (granting n v) ++ granted n empty_view ∷ []) granted_to id (granting n v) (at-first views id v (granting n v) (granted n empty_view) at) (length views) (granted n empty_view) (other-place views id v at)
+      (at-second views id (granting n v) (granted n empty_view)) t (each-passing v.takes t v.serves unused.takes unused.serves))
 
   pub looks-on : MayPart sys id v v (onlooker v)
   looks-on words views h at =
-      subst (Holds sys words) (set-both views id v v nothing v (onlooker v) at)
-      (onlookers_keep_the_rule sys words (set views id v ++ nothing ∷ []) (added words views h at) id v (at-first views id v v nothing at) (length views) nothing (other-place views id v at) (at-second views id v nothing) refl)
+      subst (Holds sys words) (set-both views id v v empty_view v (onlooker v) at)
+      (onlookers_keep_the_rule sys words (set views id v ++ empty_view ∷ []) (added words views h at) id v (at-first views id v v empty_view at) (length views) empty_view (other-place views id v at) (at-second views id v empty_view) refl)
 
-  pub moves-all : MayPart sys id v nothing v
+  pub moves-all : MayPart sys id v empty_view v
   moves-all words views h at =
-      let more : List View = set views id v ++ nothing ∷ [] in
-      let there : get_elem? more id ≡ some v = at-first views id v v nothing at in
-      subst (Holds sys words) (ap (λ l. set l id nothing) last ∙ (set-longer (set views id v) (v ∷ []) id v nothing (set_here views id v (below views id v at)) ∙ ap (λ l. l ++ v ∷ []) (set-twice views id v nothing)))
-      (joins_keep_the_rule sys words more (added words views h at) (length views) nothing (at-second views id v nothing) id v (λ e. other-place views id v at (sym e)) there)
+      let more : List View = set views id v ++ empty_view ∷ [] in
+      let there : get_elem? more id ≡ some v = at-first views id v v empty_view at in
+      subst (Holds sys words) (ap (λ l. set l id empty_view) last ∙ (set-longer (set views id v) (v ∷ []) id v empty_view (set_here views id v (below views id v at)) ∙ ap (λ l. l ++ v ∷ []) (set-twice views id v empty_view)))
+      (joins_keep_the_rule sys words more (added words views h at) (length views) empty_view (at-second views id v empty_view) id v (λ e. other-place views id v at (sym e)) there)
     where
-      last : set (set views id v ++ nothing ∷ []) (length views) (views_joined nothing v) ≡ set views id v ++ v ∷ []
-      last = ap (λ n. set (set views id v ++ nothing ∷ []) n v) (sym (set-length views id v)) ∙ set-last (set views id v) nothing v
+      last : set (set views id v ++ empty_view ∷ []) (length views) (views_joined empty_view v) ≡ set views id v ++ v ∷ []
+      last = ap (λ n. set (set views id v ++ empty_view ∷ []) n v) (sym (set-length views id v)) ∙ set-last (set views id v) empty_view v
 
   pub joins : (words : List ℕ) (views : List View) → Holds sys words views → get_elem? views id ≡ some v → (other : ℕ) (w : View) → other ≢ id → get_elem? (set views id (views_joined v w)) other ≡ some w
-      → Holds sys words (set (set views id (views_joined v w)) other nothing)
+      → Holds sys words (set (set views id (views_joined v w)) other empty_view)
   joins words views h at other w apart there = joins_keep_the_rule sys words views h id v at other w apart (sym (set_else views id other (views_joined v w) apart) ∙ there)

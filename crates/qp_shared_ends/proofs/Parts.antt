@@ -3,7 +3,7 @@ use Rattle.std.proofs.Common.{◌≡◌, ℕ, zero, suc, ◌+◌, ◌<◌, Bool,
 use Rattle.std.specs.Prelude.{slice_get}
 use Rattle.std.specs.List.{list_any}
 use Rattle.std.proofs.lemmas.List.{append_assoc, append-nil}
-use Rattle.qp_table.specs.Counting.{Each, total, many}
+use Rattle.qp_table.specs.Counting.{Each, sum_over, many}
 use Rattle.qp_table.specs.After.{views_joined}
 use Rattle.qp_table.specs.declared.view.View.{View}
 use Rattle.qp_table.proofs.Counting.{total-append}
@@ -43,7 +43,7 @@ module _ {X A : Type 0} where
       back [] zs e = e
       back (x ∷ xs) zs e = back xs zs e.1
 
-  pub many-flat : (p : A → Bool) (f : X → List A) (xs : List X) → many p (flat f xs) ≡ total (λ x. many p (f x)) xs
+  pub many-flat : (p : A → Bool) (f : X → List A) (xs : List X) → many p (flat f xs) ≡ sum_over (λ x. many p (f x)) xs
   many-flat p f [] = refl
   many-flat p f (x ∷ xs) = let a = total-append (λ y. cond (p y) 1 0) (f x) (flat f xs) in let r = many-flat p f xs in omega arith
 
@@ -98,6 +98,6 @@ many-none p (x ∷ xs) h = go (p x) (many-none p xs) h
     go true r e = absurd (omega arith)
     go false r e = r (omega arith)
 
-pub all-zero : {X : Type 0} (f : X → ℕ) (xs : List X) → total f xs ≡ 0 → Each (λ x. f x ≡ 0) xs
+pub all-zero : {X : Type 0} (f : X → ℕ) (xs : List X) → sum_over f xs ≡ 0 → Each (λ x. f x ≡ 0) xs
 all-zero f [] e = tt
 all-zero f (x ∷ xs) e = (omega arith, all-zero f xs (omega arith))

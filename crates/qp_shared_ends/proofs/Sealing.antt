@@ -26,8 +26,8 @@ use Rattle.qp_calls.specs.LaneView.{LaneView, is_known}
 use Rattle.qp_calls.specs.Tokens.{Token, Held, Loose, same_token, hands_after}
 use Rattle.qp_plain_sound.specs.Sound.{Sound, facts_in}
 use Rattle.qp_plain_sound.specs.View.{shown_in}
-use Rattle.qp_port_law.specs.Sealed.{is_on_table, is_behind, hands_of_all, IsLaneAt, SealsLanes}
-use Rattle.qp_table.specs.Counting.{Each, total, many}
+use Rattle.qp_port_law.specs.Sealed.{is_event_table_word, is_behind, hands_of_all, IsLaneAt, SealsLanes}
+use Rattle.qp_table.specs.Counting.{Each, sum_over, many}
 use Rattle.qp_table.specs.TwoTables.{on_table, on_side, Thins}
 use Rattle.qp_table.specs.Rule.{is_spot, is_ref, is_entry, is_serve, IsKnown}
 use Rattle.qp_table.specs.After.{views_joined}
@@ -41,7 +41,7 @@ use Rattle.qp_side.specs.Rule.{stop_at}
 use Rattle.qp_side.specs.Laws.{IsSideWhole}
 use Rattle.qp_side.specs.declared.view.SideView.{SideView}
 use Rattle.qp_table.specs.Words.{mark_seen, shown_seen}
-use Rattle.qp_table.specs.Lane.{tokens, tokens_in, own_of_logs, own_recs, on_table_of, event_seen, lane_mark, lane_of}
+use Rattle.qp_table.specs.Lane.{tokens, tokens_of_view, own_of_logs, own_recs, on_table_of, event_seen, lane_mark, lane_of}
 use Rattle.qp_table.specs.Telling.{is_on_table as is_on_table_too}
 use Rattle.qp_shared_lane.specs.declared.lane.LaneState.{LaneState}
 use Rattle.qp_shared_lane.specs.Holds.{LaneHolds, on_side_of, told_by, side_mark}
@@ -126,7 +126,7 @@ module _ (sys : System) where
   side-thin (l ∷ ls) e = let h = holds-of l e.0 in one-lane (λ i. on_side (touch i)) (recs_in l) (side_of l).view.logs (map recs_in ls) (flat (λ l. (side_of l).view.logs) ls) h.side_lane h.same_side (side-thin ls e.1)
 
   -- all hands
-  hands-sum : (ls : List LaneState) → Each (λ (l : LaneState). l.sys.now ≡ sys) ls → (t : Token) → tokens t (hands_of_all (map state_view ls)) ≡ total (λ l. tokens_in (table_of l) t) ls
+  hands-sum : (ls : List LaneState) → Each (λ (l : LaneState). l.sys.now ≡ sys) ls → (t : Token) → tokens t (hands_of_all (map state_view ls)) ≡ sum_over (λ l. tokens_of_view (table_of l) t) ls
   unfolding lane_of
   hands-sum [] e t = refl
   hands-sum (l ∷ ls) e t =
@@ -159,7 +159,7 @@ module _ (sys : System) where
   back-of P [] ys e = e
   back-of P (x ∷ xs) ys e = back-of P xs ys e.1
 
-  table-mark : (seen : List Glance) (side : Word → ℕ) (x : Word) → is_on_table x ≡ true → lane_mark sys seen side x ≡ mark_seen sys seen x
+  table-mark : (seen : List Glance) (side : Word → ℕ) (x : Word) → is_event_table_word x ≡ true → lane_mark sys seen side x ≡ mark_seen sys seen x
   table-mark seen side (word.Pool p) on = refl
   table-mark seen side (word.Block p b) on = refl
   table-mark seen side (word.Queue a) on = refl
@@ -192,7 +192,7 @@ module _ (sys : System) (first : LaneState) (others : List LaneState) (of : Each
   beside : Thins (λ i. on_side (touch i)) js (lanes_recs s.view.logs)
   beside = subst (λ (gs : List SeatLog). Thins (λ i. on_side (touch i)) js (lanes_recs gs)) (sym (side-part (λ x. x.view.logs) (λ x y. refl))) (side-thin sys ls of)
 
-  counts : (t : Token) → total (λ l. tokens_in (table_of l) t) ls ≡ tokens_in v t
+  counts : (t : Token) → sum_over (λ l. tokens_of_view (table_of l) t) ls ≡ tokens_of_view v t
   counts (Held p b r) = sym (many-flat (is_ref p b r) (λ l. (table_of l).hands) ls) ∙ ap (many (is_ref p b r)) (sym (part (λ x. x.hands) (λ x y. refl)))
   counts (Loose p b false) = sym (many-flat (is_spot p b) (λ l. (table_of l).fresh) ls) ∙ ap (many (is_spot p b)) (sym (part (λ x. x.fresh) (λ x y. refl)))
   counts (Loose p b true) = sym (many-flat (is_spot p b) (λ l. (table_of l).used) ls) ∙ ap (many (is_spot p b)) (sym (part (λ x. x.used) (λ x y. refl)))
@@ -223,7 +223,7 @@ module _ (sys : System) (first : LaneState) (others : List LaneState) (of : Each
   IsCode k = (k ≡ get_or side.words stop_at 0) × (0 < many (eqb k) s.stops)
 
   -- one object is served by one lane
-  serves-once : (o : ℕ) → total (λ l. many (is_serve o) (table_of l).serves) ls ≤ 1
+  serves-once : (o : ℕ) → sum_over (λ l. many (is_serve o) (table_of l).serves) ls ≤ 1
   serves-once o =
       let a = many-flat (is_serve o) (λ l. (table_of l).serves) ls in let b = ap (many (is_serve o)) (part (λ x. x.serves) (λ x y. refl)) in
       let t = total-at (λ (z : View). many (is_serve o) z.serves) end.views end.id v end.is in let q = end.holds.queues.serves o in let c = cond-le (is_object sys o) in omega arith
@@ -247,7 +247,7 @@ module _ (sys : System) (first : LaneState) (others : List LaneState) (of : Each
 
     others-none : (o : ℕ) (c : Cut ls n l) → IsTrue (serves-of sys l o) → Each (λ l. many (is_serve o) (table_of l).serves ≡ 0) c.front × Each (λ l. many (is_serve o) (table_of l).serves ≡ 0) c.back
     others-none o c served =
-        let once = serves-once o in let all = ap (total (λ (l : LaneState). many (is_serve o) (table_of l).serves)) c.is in
+        let once = serves-once o in let all = ap (sum_over (λ (l : LaneState). many (is_serve o) (table_of l).serves)) c.is in
         let parts = total-append (λ (l : LaneState). many (is_serve o) (table_of l).serves) c.front (l ∷ c.back) in let one = any-many (is_serve o) (table_of l).serves served in
         (all-zero (λ (l : LaneState). many (is_serve o) (table_of l).serves) c.front (omega arith), all-zero (λ (l : LaneState). many (is_serve o) (table_of l).serves) c.back (omega arith))
 
@@ -268,24 +268,24 @@ module _ (sys : System) (first : LaneState) (others : List LaneState) (of : Each
     told : told_lane (facts_in sys js) 0 (lane_items (recs_in l)) ≡ told-of sys l
     told = recs-told sys (facts_in sys js) (table_of l).seen (table_of l).contents (serves-of sys l) (lane_items (recs_in l)) truths 0 [] (recs_in l) l.numbers.list h.beside refl h.borne h.formers h.subscribers h.handled
 
-    seen-known : (x : Word) → is_on_table x ≡ true → (state_view l).mark x ≤ total_of x (all_items js)
+    seen-known : (x : Word) → is_event_table_word x ≡ true → (state_view l).mark x ≤ total_of x (all_items js)
     unfolding lane_of
     seen-known x on = subst (λ z. lane_mark z (table_of l).seen (side_mark z (side_of l)) x ≤ total_of x (all_items js)) (sym mine)
         (let m = table-mark sys (table_of l).seen (side_mark sys (side_of l)) x on in let k = mark-known sys v end js thin law (table_of l).seen saw x on in omega arith)
 
-    seen-says : (x : Word) → is_on_table x ≡ true → (state_view l).mark x ≡ total_of x (all_items js) → (state_view l).shown x ≡ shown_in sys js x
+    seen-says : (x : Word) → is_event_table_word x ≡ true → (state_view l).mark x ≡ total_of x (all_items js) → (state_view l).shown x ≡ shown_in sys js x
     unfolding lane_of
     seen-says x on = subst (λ z. lane_mark z (table_of l).seen (side_mark z (side_of l)) x ≡ total_of x (all_items js) → shown_seen z (table_of l).seen x ≡ shown_in sys js x) (sym mine)
         (λ e. mark-says sys v end js thin law (table_of l).seen saw x on (sym (table-mark sys (table_of l).seen (side_mark sys (side_of l)) x on) ∙ e))
 
-    on-too : (x : Word) → is_on_table x ≡ true → is_on_table_too x ≡ true
+    on-too : (x : Word) → is_event_table_word x ≡ true → is_on_table_too x ≡ true
     on-too (word.Pool p) on = refl
     on-too (word.Block p b) on = refl
     on-too (word.Queue a) on = refl
     on-too (word.Signal s) on = absurd (cc)
     on-too (word.Timer t) on = absurd (cc)
 
-    marks-behind : (x : Word) → is_on_table x ≡ true → is_behind x ((state_view l).mark x) (state_view l).told ≡ true
+    marks-behind : (x : Word) → is_event_table_word x ≡ true → is_behind x ((state_view l).mark x) (state_view l).told ≡ true
     unfolding lane_of
     marks-behind x on = subst (λ z. is_behind x (lane_mark z (table_of l).seen (side_mark z (side_of l)) x) (told-of sys l) ≡ true) (sym mine)
         (subst (λ k. is_behind x k (told-of sys l) ≡ true) (sym (table-mark sys (table_of l).seen (side_mark sys (side_of l)) x on))

@@ -8,10 +8,10 @@ use Rattle.qp_model.specs.History.{touch}
 use Rattle.qp_model.specs.References.{Refs}
 use Rattle.qp_model.specs.WordLaw.{is_block, is_object}
 use Rattle.qp_calls.specs.Tokens.{Token, Held, Loose, same_token}
-use Rattle.qp_calls.specs.Counting.{one, times, count_of}
+use Rattle.qp_calls.specs.Counting.{one_if, times, count_of}
 use Rattle.qp_plain_sound.specs.WordStates.{life_in, refs_in, line_in}
-use Rattle.qp_plain_sound.specs.Sound.{sum_below, is_ref as is_token, entries_in, queued, BlockIn}
-use Rattle.qp_table.specs.Counting.{total, many, upto}
+use Rattle.qp_plain_sound.specs.Sound.{sum_below, is_token_of as is_token, entries_in, queued, BlockIn}
+use Rattle.qp_table.specs.Counting.{sum_over, many, upto}
 use Rattle.qp_table.specs.TwoTables.{on_table, Thins}
 use Rattle.qp_table.specs.Rule.{is_spot, is_spot_at, is_ref, free_bit, lives, spots, in_lines, Holds}
 use Rattle.qp_table.specs.declared.view.View.{View}
@@ -24,7 +24,7 @@ use Rattle.qp_shared_ends.specs.End.{AreHands}
 use Rattle.qp_shared_ends.proofs.Histories.{alone, refs-is, line-is, edge-is, free-is}
 
 -- counts
-one-cond : (b : Bool) → one b ≡ cond b 1 0
+one-cond : (b : Bool) → one_if b ≡ cond b 1 0
 one-cond true = refl
 one-cond false = refl
 
@@ -87,7 +87,7 @@ module _ (sys : System) (v : View) (end : AtEnd sys v) (js : List (List Rec)) (t
   queued-is p b k = sums-alike 33 (λ a. times (is_token (Held p b k)) (entries_in sys js a)) (λ a. many (is_ref p b k) (h.now.line a).entries)
       (λ a. times-many (is_token (Held p b k)) (entries_in sys js a) ∙ (many-alike (is_token (Held p b k)) (is_ref p b k) (token-is p b k) (entries_in sys js a) ∙ ap (many (is_ref p b k)) (entries-are a)))
 
-  refs-alone : (p b k : ℕ) → total (λ (z : View). many (is_ref p b k) z.hands) end.views ≡ many (is_ref p b k) v.hands
+  refs-alone : (p b k : ℕ) → sum_over (λ (z : View). many (is_ref p b k) z.hands) end.views ≡ many (is_ref p b k) v.hands
   refs-alone p b k = alone sys end.words end.views h end.id v end.is end.all (λ z. many (is_ref p b k) z.hands) (λ z i. ap (many (is_ref p b k)) i.hands)
 
   fresh-alone : (p b : ℕ) → spots (λ z. z.fresh) end.views p b ≡ many (is_spot p b) v.fresh

@@ -21,12 +21,12 @@ use Rattle.qp_calls.proofs.HandLemmas.{same-self}
 use Rattle.qp_table.specs.Rule.{pool_at, block_at}
 use Rattle.qp_table.specs.declared.view.Content.{Content}
 use Rattle.qp_table.specs.declared.view.Glance.{Glance}
-use Rattle.qp_table.specs.Lane.{known_with, told_as, tell, event_seen, has_content}
+use Rattle.qp_table.specs.Lane.{known_with, told_as, tell_lane, event_seen, has_content}
 use Rattle.qp_shared_lane.specs.Holds.{was_seen, is_borne_out, borne_out, FormerIs, AreFormer, SubscriberIs, KnowSubscribers, member_over}
 use Rattle.qp_shared_ends.proofs.Members.{same_at, bare_all}
 
-pub bare-tell : (ev : Entry → Event) (recs : List Rec) (ks : List ℕ) → length ks ≡ length recs → bare_all (tell ev recs ks) ≡ lane_items recs
-unfolding tell lane_items
+pub bare-tell : (ev : Entry → Event) (recs : List Rec) (ks : List ℕ) → length ks ≡ length recs → bare_all (tell_lane ev recs ks) ≡ lane_items recs
+unfolding tell_lane lane_items
 bare-tell ev [] ks e = refl
 bare-tell ev (r ∷ recs) [] e = absurd (omega arith)
 bare-tell ev (r ∷ recs) (k ∷ ks) e = ap (λ l. item_of r ∷ l) (bare-tell ev recs ks (omega arith))
@@ -64,15 +64,15 @@ module _ (sys : System) (w : Facts) (seen : List Glance) (contents : List Conten
   known-is o (Same s n) k c before ts borne former subs handled at later = subs.1 ∙ ap Member (sym (truths.same o s n before ts borne subs.0 at later))
   known-is o _ k c before ts borne former subs handled at later = refl
 
-  pub recs-told : (c : ℕ) (before : List Item) (recs : List Rec) (ks : List ℕ) → length ks ≡ length recs → lane ≡ before ++ lane_items recs → list_all (borne_out sys seen) (tell ev recs ks) ≡ true → AreFormer c (tell ev recs ks)
-      → KnowSubscribers serves before (tell ev recs ks) → ((e : Entry) → handled_in (token_of e) (tell ev recs ks) ≡ true → has_content contents e ≡ true) → told_lane w c (lane_items recs) ≡ tell ev recs ks
-  unfolding tell lane_items told_lane told AreFormer KnowSubscribers
+  pub recs-told : (c : ℕ) (before : List Item) (recs : List Rec) (ks : List ℕ) → length ks ≡ length recs → lane ≡ before ++ lane_items recs → list_all (borne_out sys seen) (tell_lane ev recs ks) ≡ true → AreFormer c (tell_lane ev recs ks)
+      → KnowSubscribers serves before (tell_lane ev recs ks) → ((e : Entry) → handled_in (token_of e) (tell_lane ev recs ks) ≡ true → has_content contents e ≡ true) → told_lane w c (lane_items recs) ≡ tell_lane ev recs ks
+  unfolding tell_lane lane_items told_lane told AreFormer KnowSubscribers
   recs-told c before [] ks e at borne former subs handled = refl
   recs-told c before (r ∷ recs) [] e at borne former subs handled = absurd (omega arith)
   recs-told c before (r ∷ recs) (k ∷ ks) e at borne former subs handled =
       let i : Item = item_of r in
-      let z = and_parts (borne_out sys seen (told_as ev i k)) (list_all (borne_out sys seen) (tell ev recs ks)) borne in
-      let known = known-is i.of i.body k c before (tell ev recs ks) z.0 former.0 subs.0 (λ x h. handled x (or-left (handles (token_of x) i.body) (handled_in (token_of x) (tell ev recs ks)) h))
+      let z = and_parts (borne_out sys seen (told_as ev i k)) (list_all (borne_out sys seen) (tell_lane ev recs ks)) borne in
+      let known = known-is i.of i.body k c before (tell_lane ev recs ks) z.0 former.0 subs.0 (λ x h. handled x (or-left (handles (token_of x) i.body) (handled_in (token_of x) (tell_lane ev recs ks)) h))
       (at ∙ ap (λ l. before ++ i ∷ l) (sym (bare-tell ev recs ks (omega arith)))) subs.1 in
-      let rest = recs-told (ceiling_after c i.body) (before ++ i ∷ []) recs ks (omega arith) (at ∙ sym (append_assoc before (i ∷ []) (lane_items recs))) z.1 former.1 subs.1 (λ x h. handled x (or-right (handles (token_of x) i.body) (handled_in (token_of x) (tell ev recs ks)) h)) in
+      let rest = recs-told (ceiling_after c i.body) (before ++ i ∷ []) recs ks (omega arith) (at ∙ sym (append_assoc before (i ∷ []) (lane_items recs))) z.1 former.1 subs.1 (λ x h. handled x (or-right (handles (token_of x) i.body) (handled_in (token_of x) (tell_lane ev recs ks)) h)) in
       (λ j. record { of = i.of; told = record { body = i.body; known = sym known j } } ∷ rest j)

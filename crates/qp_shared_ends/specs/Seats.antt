@@ -6,7 +6,7 @@ use Rattle.qp_model.specs.declared.systems.System.{System}
 use Rattle.qp_model.specs.declared.words.Word.{Word}
 use Rattle.qp_table.specs.Counting.{Each, without}
 use Rattle.qp_table.specs.Rule.{Was, mark_in, is_number, Holds}
-use Rattle.qp_table.specs.After.{nothing, passing, handing, granting}
+use Rattle.qp_table.specs.After.{empty_view, passing, handing, granting}
 use Rattle.qp_table.specs.declared.view.Serve.{Serve}
 use Rattle.qp_table.specs.declared.view.View.{View}
 use Rattle.qp_table.specs.Words.{place_of, is_here, first_value}
@@ -22,7 +22,7 @@ abbrev pub root_left : ℕ → (Serve → Bool) → View → View
 root_left n t v = handing t (granting n v)
 
 abbrev pub lane_new : ℕ → (Serve → Bool) → View → View
-lane_new n t v = record nothing { logs = record { number = n; recs = [] } ∷ []; serves = passing t v.serves }
+lane_new n t v = record empty_view { logs = record { number = n; recs = [] } ∷ []; serves = passing t v.serves }
 
 -- a root that has taken nothing and posted nothing
 pub record IsUnused (v : View) : Type 0 where
@@ -40,8 +40,8 @@ abbrev pub StaysTold : (View → Type 0) → View → View → Type 0
 StaysTold P v u = (u ≡ v) × P v
 
 -- the root of the side table becomes the seat of a lane
-abbrev pub with_number : ℕ → SideView → SideView
-with_number n v = record v { view = record v.view { logs = record { number = n; recs = [] } ∷ []; lane_numbers = without (is_number n) v.view.lane_numbers } }
+abbrev pub as_lane_seat : ℕ → SideView → SideView
+as_lane_seat n v = record v { view = record v.view { logs = record { number = n; recs = [] } ∷ []; lane_numbers = without (is_number n) v.view.lane_numbers } }
 
 abbrev pub NumberTold : ℕ → SideView → SideView → Type 0
-NumberTold n v u = u ≡ with_number n v
+NumberTold n v u = u ≡ as_lane_seat n v

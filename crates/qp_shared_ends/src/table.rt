@@ -3,7 +3,7 @@
 ghost use Rattle.std.specs.Prelude.{◌≡◌, ◌+◌, ◌<◌, [], length};
 ghost use Rattle.qp_table.specs.Counting.{many};
 ghost use Rattle.qp_table.specs.Rule.{is_number};
-ghost use Rattle.qp_table.specs.After.{nothing, onlooker, views_joined};
+ghost use Rattle.qp_table.specs.After.{empty_view, onlooker, views_joined};
 ghost use Rattle.qp_table.specs.declared.view.View.{View};
 ghost use Rattle.qp_side.specs.Seats.{in_set};
 ghost use Rattle.qp_shared_ends.specs.Seats.{IsOnePast, IsUnused, MayPart, StaysTold, lane_new, root_left};
@@ -101,7 +101,7 @@ struct Together;
 impl Join<View> for Together {
     ghost both = { views_joined };
 
-    ghost spent = { nothing };
+    ghost spent = { empty_view };
 }
 
 /// A seat takes over another.

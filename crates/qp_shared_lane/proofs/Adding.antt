@@ -38,8 +38,8 @@ use Rattle.qp_side.specs.Told.{last_seen}
 use Rattle.qp_side.specs.declared.view.SideView.{SideView}
 use Rattle.qp_shared_lane.specs.Holds.{LaneHolds, told_by, side_mark, on_side_of, is_borne_out, SubscriberIs, FormerIs}
 use Rattle.qp_shared_lane.specs.Lane.{lane_with}
-use Rattle.qp_shared_lane.specs.More.{IsPut, Follows, SideFollows, AddsRecord, OnTable, OnSide, IsNoted}
-use Rattle.qp_shared_lane.specs.Laws.{Kept, TableRecordsKeepTheLane, SideRecordsKeepTheLane, NotesKeepTheLane}
+use Rattle.qp_shared_lane.specs.More.{IsPut, ViewFollows, SideFollows, AddsRecord, OnTable, OnSide, IsNoted}
+use Rattle.qp_shared_lane.specs.Laws.{LaneGainsRecord, TableRecordsKeepTheLane, SideRecordsKeepTheLane, NotesKeepTheLane}
 use Rattle.qp_shared_lane.proofs.Keeping.{more-holds, told-is, more-gains}
 
 bool-dec : (b : Bool) {P : Type 0} → (b ≡ true → P) → (b ≡ false → P) → P
@@ -120,7 +120,7 @@ module _ (world : List ℕ) (sys : System) (by count ceiling : ℕ) (g : Log) (n
   item-is : (λ (i : Item). touch i) (item_of rec) ≡ touch_of t.of t.told.body
   item-is = ap (λ (x : ToldItem). touch_of x.of x.told.body) step.told
 
-  follows : Follows sys v u
+  follows : ViewFollows sys v u
   follows = record {
     logs = ap length step.logs ∙ logged-one step.as_seen v.logs;
     number = logged-number step.as_seen v u step.logs;
@@ -162,7 +162,7 @@ module _ (world : List ℕ) (sys : System) (by count ceiling : ℕ) (g : Log) (n
     former = table-former t.of ceiling t.told.body t.told.known step.on;
   }
 
-  pub table-kept : Kept world sys by count ceiling g numbers v s h more u s ceiling t
+  pub table-kept : LaneGainsRecord world sys by count ceiling g numbers v s h more u s ceiling t
   table-kept = record {
     holds = subst (λ c. LaneHolds sys count c h more u s) (table-ceiling t.of ceiling t.told.body step.on) (more-holds sys count ceiling g numbers v s holds h more u s rec number t put follows (side-still sys s) adds);
     told = told-is sys count ceiling g numbers v s holds h more u s rec number t put follows (side-still sys s) adds;
@@ -221,7 +221,7 @@ off-table x a b = absurd (cc)
 pub table-records : TableRecordsKeepTheLane
 table-records world sys by count ceiling g numbers v s h more u rec number t w k holds put step = table-kept world sys by count ceiling g numbers v s h more u rec number t w k holds put step
 
-stays-at : (sys : System) (count ceiling : ℕ) (g : Log) (numbers : List ℕ) (v : View) (s : SideView) → LaneHolds sys count ceiling g numbers v s → Follows sys v v
+stays-at : (sys : System) (count ceiling : ℕ) (g : Log) (numbers : List ℕ) (v : View) (s : SideView) → LaneHolds sys count ceiling g numbers v s → ViewFollows sys v v
 stays-at sys count ceiling g numbers v s holds = record {
   logs = refl;
   number = refl;
@@ -276,7 +276,7 @@ module _ (world : List ℕ) (sys : System) (by count ceiling : ℕ) (g : Log) (n
     former = side-former t.of ceiling t.told.body t.told.known step.on;
   }
 
-  pub side-kept : Kept world sys by count ceiling g numbers v s h more v z ceiling t
+  pub side-kept : LaneGainsRecord world sys by count ceiling g numbers v s h more v z ceiling t
   side-kept = record {
     holds = subst (λ c. LaneHolds sys count c h more v z) (side-ceiling t.of ceiling t.told.body step.on) (more-holds sys count ceiling g numbers v s holds h more v z rec number t put (stays-at sys count ceiling g numbers v s holds) side-follows side-adds);
     told = told-is sys count ceiling g numbers v s holds h more v z rec number t put (stays-at sys count ceiling g numbers v s holds) side-follows side-adds;
@@ -295,7 +295,7 @@ module _ (world : List ℕ) (sys : System) (by count ceiling : ℕ) (g : Log) (n
   off-is : touch (item_of rec) ≡ Neither
   off-is = ap (λ (x : ToldItem). touch_of x.of x.told.body) as-told ∙ note.off
 
-  stays : Follows sys v v
+  stays : ViewFollows sys v v
   stays = record {
     logs = refl;
     number = refl;

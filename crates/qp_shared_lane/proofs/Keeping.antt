@@ -18,7 +18,7 @@ use Rattle.qp_calls.specs.LaneView.{Shown, Gains, Looks, codes_in, handled_in, i
 use Rattle.qp_calls.proofs.HandLemmas.{hands-append}
 use Rattle.qp_calls_log.specs.declared.log.Log.{Log}
 use Rattle.qp_table.specs.Words.{mark_seen, shown_seen}
-use Rattle.qp_table.specs.Lane.{lane_of, lane_mark, on_table_of, tell, event_seen, tokens, tokens_in}
+use Rattle.qp_table.specs.Lane.{lane_of, lane_mark, on_table_of, tell_lane, event_seen, tokens, tokens_of_view}
 use Rattle.qp_table.specs.Telling.{Rises, Touches}
 use Rattle.qp_table.specs.ViewLaws.{ViewKeeps}
 use Rattle.qp_table.proofs.Hands.{held-in, any-more, read-has}
@@ -28,8 +28,8 @@ use Rattle.qp_side.specs.Rule.{signal_at}
 use Rattle.qp_side.specs.Told.{last_seen}
 use Rattle.qp_side.specs.declared.view.SideView.{SideView}
 use Rattle.qp_shared_lane.specs.Holds.{LaneHolds, told_by, side_mark, on_side_of, AreRead, IsBehind, IsSideBehind, AreFormer, FormerIs, borne_out, KnowSubscribers}
-use Rattle.qp_shared_lane.specs.Lane.{standing, lane_with}
-use Rattle.qp_shared_lane.specs.More.{IsPut, Follows, SideFollows, Grown, AddsRecord, AddsNothing}
+use Rattle.qp_shared_lane.specs.Lane.{lane_context, lane_with}
+use Rattle.qp_shared_lane.specs.More.{IsPut, ViewFollows, SideFollows, KeepsContents, AddsRecord, AddsNothing}
 use Rattle.qp_shared_lane.specs.Laws.{RecordsKeepTheLane, LooksKeepTheLane}
 use Rattle.qp_shared_lane.proofs.Telling.{tell-same, all-le, marks-more, borne-more, borne-still, subscribers-more, told-bare, ceiling-more, former-more}
 
@@ -45,11 +45,11 @@ module _ (sys : System) (count ceiling : ℕ) (g : Log) (numbers : List ℕ) (v 
   before = told_by g numbers v
 
   -- a look or a step leaves what was told
-  pub told-still : (u : View) → Grown v u → tell (event_seen u.contents) g.recs.items numbers ≡ before
+  pub told-still : (u : View) → KeepsContents v u → tell_lane (event_seen u.contents) g.recs.items numbers ≡ before
   told-still u grown = tell-same (event_seen v.contents) (event_seen u.contents) g.recs.items numbers (λ e h. (grown e (holds.handled e h)).1)
 
   -- what contracts see of the events of entries is kept
-  pub keeps-events : (world : List ℕ) (by : ℕ) (u : View) → Grown v u → (e : Entry) → IsTrue (is_known (lane_with world sys by g numbers v s) e) → event_seen u.contents e ≡ event_seen v.contents e
+  pub keeps-events : (world : List ℕ) (by : ℕ) (u : View) → KeepsContents v u → (e : Entry) → IsTrue (is_known (lane_with world sys by g numbers v s) e) → event_seen u.contents e ≡ event_seen v.contents e
   unfolding is_known lane_of
   keeps-events world by u grown e h = one-of (e.pool == 0) (stands (token_of e) (hands_after [] before)) (handled_in (token_of e) before) false h
       (λ is. (grown e (or_left (e.pool == 0) _ is)).1)
@@ -57,16 +57,16 @@ module _ (sys : System) (count ceiling : ℕ) (g : Log) (numbers : List ℕ) (v 
       (λ is. (grown e (holds.handled e is)).1)
       (λ is. absurd (cc))
 
-  pub keeps-all : (world : List ℕ) (by : ℕ) (u : View) → Follows sys v u → ViewKeeps (lane_with world sys by g numbers v s) v u
+  pub keeps-all : (world : List ℕ) (by : ℕ) (u : View) → ViewFollows sys v u → ViewKeeps (lane_with world sys by g numbers v s) v u
   keeps-all world by u goes = record { serves = goes.serves; events = keeps-events world by u goes.grown }
 
   module _ (h : Log) (more : List ℕ) (u : View) (z : SideView) (rec : Rec) (number : ℕ) (t : ToldItem)
-      (put : IsPut rec number g numbers h more) (goes : Follows sys v u) (side : SideFollows sys s z) (adds : AddsRecord sys (λ o. list_any (is_serve o) v.serves) g.recs.items (hands_after [] before) ceiling u z rec number t) where
+      (put : IsPut rec number g numbers h more) (goes : ViewFollows sys v u) (side : SideFollows sys s z) (adds : AddsRecord sys (λ o. list_any (is_serve o) v.serves) g.recs.items (hands_after [] before) ceiling u z rec number t) where
     pub told-is : told_by h more u ≡ before ++ t ∷ []
-    told-is = (λ i. tell (event_seen u.contents) (put.recs i) (put.numbers_are i))
+    told-is = (λ i. tell_lane (event_seen u.contents) (put.recs i) (put.numbers_are i))
         ∙ (tell-more (event_seen u.contents) g.recs.items numbers rec number holds.beside ∙ (λ i. told-still u goes.grown i ++ adds.told i ∷ []))
 
-    hands-are : (x : Token) → tokens x (hands_after [] (told_by h more u)) ≡ tokens_in u x
+    hands-are : (x : Token) → tokens x (hands_after [] (told_by h more u)) ≡ tokens_of_view u x
     unfolding hands_after
     hands-are x = ap (λ (ts : List ToldItem). tokens x (hands_after [] ts)) told-is ∙ (ap (tokens x) (hands-append [] before (t ∷ [])) ∙ adds.hands_are x)
 
@@ -134,18 +134,18 @@ module _ (sys : System) (count ceiling : ℕ) (g : Log) (numbers : List ℕ) (v 
 
     -- and what contracts see of it
     module _ (world : List ℕ) (by : ℕ) where
-      after-is : lane_of (record (standing world sys by g v s) { side = side_mark sys z }) (before ++ t ∷ []) h.spare u ≡ lane_with world sys by h more u z
+      after-is : lane_of (record (lane_context world sys by g v s) { side = side_mark sys z }) (before ++ t ∷ []) h.spare u ≡ lane_with world sys by h more u z
       after-is = (λ i. lane_of (record { world = world; sys = sys; number = sym goes.number i; by = by; stops = sym put.stops i; answered = sym put.answered i; side = side_mark sys z }) (sym told-is i) h.spare u)
 
       pub more-gains : (w : Word) (k : ℕ) → Rises w k (lane_mark sys v.seen (side_mark sys s)) (lane_mark sys u.seen (side_mark sys z)) (shown_seen sys v.seen) (shown_seen sys u.seen) → Touches w k t
           → Gains (t ∷ []) (lane_with world sys by g numbers v s) (lane_with world sys by h more u z)
       more-gains w k rises touches = subst (Gains (t ∷ []) (lane_with world sys by g numbers v s)) after-is
-          (records_gain (standing world sys by g v s) (side_mark sys z) before g.spare h.spare v u w k t rises touches (keeps-all world by u goes))
+          (records_gain (lane_context world sys by g v s) (side_mark sys z) before g.spare h.spare v u w k t rises touches (keeps-all world by u goes))
 
-  fun-is : (u : View) → Follows sys v u → ◌≡◌ {A = ℕ → Bool} (λ o. list_any (is_serve o) v.serves) (λ o. list_any (is_serve o) u.serves)
+  fun-is : (u : View) → ViewFollows sys v u → ◌≡◌ {A = ℕ → Bool} (λ o. list_any (is_serve o) v.serves) (λ o. list_any (is_serve o) u.serves)
   fun-is u goes = (λ i o. sym (goes.serves o) i)
 
-  module _ (u : View) (z : SideView) (goes : Follows sys v u) (side : SideFollows sys s z) (adds : AddsNothing v u s z) where
+  module _ (u : View) (z : SideView) (goes : ViewFollows sys v u) (side : SideFollows sys s z) (adds : AddsNothing v u s z) where
     pub still-told : told_by g numbers u ≡ before
     still-told = told-still u goes.grown
 
@@ -189,13 +189,13 @@ module _ (sys : System) (count ceiling : ℕ) (g : Log) (numbers : List ℕ) (v 
     }
 
     module _ (world : List ℕ) (by : ℕ) where
-      look-is : lane_of (record (standing world sys by g v s) { side = side_mark sys z }) before g.spare u ≡ lane_with world sys by g numbers u z
+      look-is : lane_of (record (lane_context world sys by g v s) { side = side_mark sys z }) before g.spare u ≡ lane_with world sys by g numbers u z
       look-is = (λ i. lane_of (record { world = world; sys = sys; number = sym goes.number i; by = by; stops = g.stops.list; answered = g.answered.list; side = side_mark sys z }) (sym still-told i) g.spare u)
 
       pub look-looks : (w : Word) (k : ℕ) (x : Shown) → Rises w k (lane_mark sys v.seen (side_mark sys s)) (lane_mark sys u.seen (side_mark sys z)) (shown_seen sys v.seen) (shown_seen sys u.seen) → shown_seen sys u.seen w ≡ x
           → Looks w k x (lane_with world sys by g numbers v s) (lane_with world sys by g numbers u z)
       look-looks w k x rises says = subst (Looks w k x (lane_with world sys by g numbers v s)) look-is
-          (looks_show (standing world sys by g v s) (side_mark sys z) before g.spare v u w k x rises says (keeps-all world by u goes))
+          (looks_show (lane_context world sys by g v s) (side_mark sys z) before g.spare v u w k x rises says (keeps-all world by u goes))
 
 pub records_keep : RecordsKeepTheLane
 records_keep world sys by count ceiling g numbers v s h more u z rec number t w k holds put goes side adds = record {

@@ -10,7 +10,7 @@ use Rattle.qp_table.specs.declared.view.View.{View}
 use Rattle.qp_calls.specs.Tokens.{hands_after}
 use Rattle.qp_calls.specs.LaneView.{codes_in, ceiling_in}
 use Rattle.qp_calls_log.specs.declared.log.Log.{Log}
-use Rattle.qp_table.specs.Lane.{lane_of, own_recs, on_table_of, tell, event_seen, tokens, lane_number}
+use Rattle.qp_table.specs.Lane.{lane_of, own_recs, on_table_of, tell_lane, event_seen, tokens, lane_number}
 use Rattle.qp_side.specs.declared.view.SideView.{SideView}
 use Rattle.qp_shared_lane.specs.Holds.{LaneHolds, told_by, on_side_of, side_mark, AreRead, IsBehind, IsSideBehind, AreFormer, borne_out, KnowSubscribers}
 use Rattle.qp_shared_lane.specs.Lane.{lane_with}
@@ -20,7 +20,7 @@ use Rattle.qp_shared_lane.specs.Laws.{LogsKeepTheLane}
 module _ (sys : System) (count ceiling : ℕ) (g : Log) (numbers : List ℕ) (v : View) (s : SideView) (h : Log) (z : SideView)
     (holds : LaneHolds sys count ceiling g numbers v s) (recs : h.recs.items ≡ g.recs.items) (view : z.view ≡ s.view) (stops : h.stops.list ≡ z.stops) (answered : codes_in h.answered.list ≡ z.answered) where
   same-told : told_by h numbers v ≡ told_by g numbers v
-  same-told = ap (λ rs. tell (event_seen v.contents) rs numbers) recs
+  same-told = ap (λ rs. tell_lane (event_seen v.contents) rs numbers) recs
 
   pub log-holds : LaneHolds sys count ceiling h numbers v z
   log-holds = record {

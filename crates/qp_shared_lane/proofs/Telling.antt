@@ -23,7 +23,7 @@ use Rattle.qp_calls.specs.Tokens.{token_of, handles}
 use Rattle.qp_calls.specs.LaneView.{handled_in, ceiling_in}
 use Rattle.qp_calls.proofs.HandLemmas.{same-self}
 use Rattle.qp_calls_log.specs.LaneLaws.{item_told}
-use Rattle.qp_table.specs.Lane.{known_with, tell}
+use Rattle.qp_table.specs.Lane.{known_with, tell_lane}
 use Rattle.qp_shared_lane.specs.Holds.{was_seen, is_borne_out, borne_out, SubscriberIs, KnowSubscribers, FormerIs, AreFormer}
 
 -- what is told is the same where the events of the entries are that it handles
@@ -35,16 +35,16 @@ known-same ev fv (Lock c) k h = refl
 known-same ev fv (Same sig n) k h = refl
 known-same ev fv _ k h = refl
 
-pub tell-same : (ev fv : Entry → Event) (recs : List Rec) (ks : List ℕ) → ((e : Entry) → IsTrue (handled_in (token_of e) (tell ev recs ks)) → fv e ≡ ev e) → tell fv recs ks ≡ tell ev recs ks
-unfolding tell
+pub tell-same : (ev fv : Entry → Event) (recs : List Rec) (ks : List ℕ) → ((e : Entry) → IsTrue (handled_in (token_of e) (tell_lane ev recs ks)) → fv e ≡ ev e) → tell_lane fv recs ks ≡ tell_lane ev recs ks
+unfolding tell_lane
 tell-same ev fv [] ks h = refl
 tell-same ev fv (r ∷ rs) [] h = refl
 tell-same ev fv (r ∷ rs) (k ∷ ks) h =
-    let rest = tell-same ev fv rs ks (λ e is. h e (or_right (handles (token_of e) (item_of r).body) (handled_in (token_of e) (tell ev rs ks)) is)) in
+    let rest = tell-same ev fv rs ks (λ e is. h e (or_right (handles (token_of e) (item_of r).body) (handled_in (token_of e) (tell_lane ev rs ks)) is)) in
     (λ i. record { of = (item_of r).of; told = record { body = (item_of r).body; known = head i } } ∷ rest i)
   where
     head : known_with fv (item_of r).body k ≡ known_with ev (item_of r).body k
-    head = known-same ev fv (item_of r).body k (λ e is. h e (or_left (handles (token_of e) (item_of r).body) (handled_in (token_of e) (tell ev rs ks)) is))
+    head = known-same ev fv (item_of r).body k (λ e is. h e (or_left (handles (token_of e) (item_of r).body) (handled_in (token_of e) (tell_lane ev rs ks)) is))
 
 -- Marks.
 
@@ -100,8 +100,8 @@ unfolding KnowSubscribers
 subscribers-more serves before items [] t is h e = (subst (λ (xs : List Item). SubscriberIs serves xs t.of t.told.body t.told.known) (sym is ∙ append-nil before) e, tt)
 subscribers-more serves before items (x ∷ told) t is h e = (h.0, subscribers-more serves (before ++ item_told x ∷ []) items told t (append_assoc before (item_told x ∷ []) (map item_told told) ∙ is) h.1 e)
 
-pub told-bare : (ev : Entry → Event) (recs : List Rec) (ks : List ℕ) → length ks ≡ length recs → map item_told (tell ev recs ks) ≡ lane_items recs
-unfolding tell lane_items
+pub told-bare : (ev : Entry → Event) (recs : List Rec) (ks : List ℕ) → length ks ≡ length recs → map item_told (tell_lane ev recs ks) ≡ lane_items recs
+unfolding tell_lane lane_items
 told-bare ev [] ks e = refl
 told-bare ev (r ∷ rs) [] e = absurd (omega arith)
 told-bare ev (r ∷ rs) (k ∷ ks) e = ap (λ is. item_of r ∷ is) (told-bare ev rs ks (omega arith))

@@ -25,7 +25,7 @@ use Rattle.qp_calls.specs.LaneView.{codes_in, handled_in, ceiling_in}
 use Rattle.qp_calls.specs.Tokens.{Token, token_of, hands_after}
 use Rattle.qp_calls_log.specs.declared.Log.{Log}
 use Rattle.qp_table.specs.Words.{mark_seen}
-use Rattle.qp_table.specs.Lane.{own_recs, on_table_of, tell, event_seen, has_content, is_read, tokens, tokens_in, lane_number}
+use Rattle.qp_table.specs.Lane.{own_recs, on_table_of, tell_lane, event_seen, has_content, is_read, tokens, tokens_of_view, lane_number}
 use Rattle.qp_table.specs.Telling.{is_on_table}
 use Rattle.qp_table.specs.Asked.{is_unfinished, is_begun}
 use Rattle.qp_table.specs.Told.{HasPlace}
@@ -50,7 +50,7 @@ side_mark sys s _ = 0
 
 -- the lane's records, as they are told
 abbrev pub told_by : Log → List ℕ → View → List ToldItem
-told_by g numbers v = tell (event_seen v.contents) g.recs.items numbers
+told_by g numbers v = tell_lane (event_seen v.contents) g.recs.items numbers
 
 -- Entries.
 
@@ -170,7 +170,7 @@ pub record LaneHolds (sys : System) (count ceiling : ℕ) (g : Log) (numbers : L
   pub stops : g.stops.list ≡ s.stops
   pub answered : codes_in g.answered.list ≡ s.answered
   pub beside : length numbers ≡ length g.recs.items
-  pub hands : (t : Token) → tokens t (hands_after [] (told_by g numbers v)) ≡ tokens_in v t
+  pub hands : (t : Token) → tokens t (hands_after [] (told_by g numbers v)) ≡ tokens_of_view v t
   pub read : IsRead v
   pub handled : AreRead (told_by g numbers v) v
   pub still : IsStill v

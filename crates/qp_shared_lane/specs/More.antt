@@ -18,7 +18,7 @@ use Rattle.qp_table.specs.declared.view.View.{View}
 use Rattle.qp_calls.specs.Tokens.{Token, token_of, hands_by, handles}
 use Rattle.qp_calls_log.specs.declared.log.Log.{Log}
 use Rattle.qp_table.specs.Words.{place_of, mark_seen}
-use Rattle.qp_table.specs.Lane.{own_recs, on_table_of, event_seen, has_content, told_as, tokens, tokens_in, lane_number}
+use Rattle.qp_table.specs.Lane.{own_recs, on_table_of, event_seen, has_content, told_as, tokens, tokens_of_view, lane_number}
 use Rattle.qp_table.specs.Telling.{Saw, Touches, is_on_table}
 use Rattle.qp_side.specs.Rule.{signal_at}
 use Rattle.qp_side.specs.Told.{last_seen}
@@ -33,20 +33,20 @@ pub record IsPut (rec : Rec) (number : ℕ) (g : Log) (numbers : List ℕ) (h : 
   pub answered : h.answered.list ≡ g.answered.list
 
 -- what was read of entries is kept
-abbrev pub Grown : View → View → Type 0
-Grown v u = (e : Entry) → IsTrue (has_content v.contents e) → IsTrue (has_content u.contents e) × (event_seen u.contents e ≡ event_seen v.contents e)
+abbrev pub KeepsContents : View → View → Type 0
+KeepsContents v u = (e : Entry) → IsTrue (has_content v.contents e) → IsTrue (has_content u.contents e) × (event_seen u.contents e ≡ event_seen v.contents e)
 
 -- more was seen
 abbrev pub SeesMore : List Glance → List Glance → Type 0
 SeesMore old new = (more : List Glance) × (new ≡ old ++ more)
 
 -- The view of the event table after a call or a part of one, which began with v. All but records and hands.
-pub record Follows (sys : System) (v u : View) : Type 0 where
+pub record ViewFollows (sys : System) (v u : View) : Type 0 where
   pub logs : length u.logs ≡ length v.logs
   pub number : lane_number u ≡ lane_number v
   pub lane_numbers : u.lane_numbers ≡ v.lane_numbers
   pub serves : (o : ℕ) → list_any (is_serve o) u.serves ≡ list_any (is_serve o) v.serves
-  pub grown : Grown v u
+  pub grown : KeepsContents v u
   pub read : IsRead u
   pub still : IsStill u
   pub placed : IsPlaced u
@@ -69,7 +69,7 @@ pub record AddsRecord (sys : System) (serves : ℕ → Bool) (recs : List Rec) (
   pub told : told_as (event_seen u.contents) (item_of rec) number ≡ t
   pub same : on_table_of (recs ++ rec ∷ []) ≡ own_recs u
   pub same_side : on_side_of (recs ++ rec ∷ []) ≡ own_recs z.view
-  pub hands_are : (x : Token) → tokens x (hands_by hands t.told) ≡ tokens_in u x
+  pub hands_are : (x : Token) → tokens x (hands_by hands t.told) ≡ tokens_of_view u x
   pub handled : (e : Entry) → IsTrue (handles (token_of e) t.told.body) → IsTrue (has_content u.contents e)
   pub marked : (w : Word) (k : ℕ) → IsTrue (is_on_table w) → mark_of w (touch_of t.of t.told.body) ≡ Some k → k ≤ mark_seen sys u.seen w
   pub side_marked : (k n : ℕ) → IsTrue (is_signal sys k) → mark_of (word.Signal k) (touch_of t.of t.told.body) ≡ Some n → n ≤ mark_in (signal_at k) (last_seen (signal_at k) z)
@@ -81,7 +81,7 @@ pub record AddsRecord (sys : System) (serves : ℕ → Bool) (recs : List Rec) (
 pub record AddsNothing (v u : View) (s z : SideView) : Type 0 where
   pub same : own_recs u ≡ own_recs v
   pub same_side : own_recs z.view ≡ own_recs s.view
-  pub hands_are : (x : Token) → tokens_in u x ≡ tokens_in v x
+  pub hands_are : (x : Token) → tokens_of_view u x ≡ tokens_of_view v x
 
 -- A step on one word of the event table, with one record, which is told as t: its word is w, whose mark is k then.
 pub record OnTable (sys : System) (hands : List Token) (v u : View) (rec : Rec) (number : ℕ) (t : ToldItem) (w : Word) (k : ℕ) : Type 0 where
@@ -98,12 +98,12 @@ pub record OnTable (sys : System) (hands : List Token) (v u : View) (rec : Rec) 
   pub seen : SeesMore v.seen u.seen
   pub lane_numbers : u.lane_numbers ≡ v.lane_numbers
   pub serves : (o : ℕ) → list_any (is_serve o) u.serves ≡ list_any (is_serve o) v.serves
-  pub grown : Grown v u
+  pub grown : KeepsContents v u
   pub read : IsRead u
   pub still : IsStill u
   pub placed : IsPlaced u
   pub worn : IsWorn sys u
-  pub hands_are : (x : Token) → tokens x (hands_by hands t.told) ≡ tokens_in u x
+  pub hands_are : (x : Token) → tokens x (hands_by hands t.told) ≡ tokens_of_view u x
   pub handled : (e : Entry) → IsTrue (handles (token_of e) t.told.body) → IsTrue (has_content u.contents e)
   pub borne : IsTrue (borne_out sys u.seen t)
 

@@ -6,7 +6,7 @@ use Rattle.qp_model.specs.declared.systems.System.{System}
 use Rattle.qp_model.specs.declared.bodies.Entry.{Entry}
 use Rattle.qp_table.specs.Counting.{many}
 use Rattle.qp_table.specs.Rule.{queue_at, is_ref, is_entry}
-use Rattle.qp_table.specs.After.{Steps, learned}
+use Rattle.qp_table.specs.After.{WordSteps, learned}
 use Rattle.qp_table.specs.declared.view.Content.{Content}
 use Rattle.qp_table.specs.declared.view.View.{View}
 use Rattle.qp_table.proofs.Counting.{many-snoc}
@@ -40,7 +40,7 @@ module _ (sys : System) (v : View) (a j : ℕ) (e : Entry) (n : ℕ) (u : View) 
   pub known-then : IsTrue (has_content u.contents e)
   known-then = subst (λ (z : View). IsTrue (has_content z.contents e)) (sym is-learned) (or_right (eqb e.pool 0) _ (content-last e told.0 v.contents))
 
-pub with-event : (sys : System) (id : ℕ) (v : View) (a j : ℕ) (e : Entry) (f : ℕ → ℕ) → Steps sys id v (queue_at a) f (FreeTold sys a j e v) → Steps sys id v (queue_at a) f (λ n u. FreeTold sys a j e v n u × KnowsEvent sys e u)
+pub with-event : (sys : System) (id : ℕ) (v : View) (a j : ℕ) (e : Entry) (f : ℕ → ℕ) → WordSteps sys id v (queue_at a) f (FreeTold sys a j e v) → WordSteps sys id v (queue_at a) f (λ n u. FreeTold sys a j e v n u × KnowsEvent sys e u)
 with-event sys id v a j e f steps words views holds at small =
     let z = steps words views holds at small in (
       z.0,

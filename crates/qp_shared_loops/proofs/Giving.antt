@@ -10,7 +10,7 @@ use Rattle.std.specs.Option.{unwrap_or}
 use Rattle.qp_model.specs.declared.systems.System.{System}
 use Rattle.qp_model.specs.declared.words.Word.TheVariants as word
 use Rattle.qp_table.specs.Counting.{many, without}
-use Rattle.qp_table.specs.Rule.{pool_at, block_at, mark_in, is_spot, is_spot_at, is_value}
+use Rattle.qp_table.specs.Rule.{pool_at, block_at, mark_in, is_spot, is_spot_at, fills_with}
 use Rattle.qp_table.specs.After.{glanced, noted, spot, begun_give, fills_for, filled, read_from}
 use Rattle.qp_table.specs.declared.view.Fill.{Fill}
 use Rattle.qp_table.specs.declared.view.Glance.{Glance}
@@ -20,7 +20,7 @@ use Rattle.qp_table.specs.Asked.{is_asked}
 use Rattle.qp_table.proofs.Gaining.{saw-then}
 use Rattle.qp_table.specs.Told.{WordTold, FromTold, EyePoolTold, GiveTold, eyed_pool, shortage_rec, free_of}
 use Rattle.qp_shared_loops.proofs.Following.{sees-one, sees-then, ahead-then}
-use Rattle.qp_shared_loops.specs.Ends.{SeesMore, was_seen_as, seeing, filling, word_without, given_at, GivesBlock, LoopGives}
+use Rattle.qp_shared_loops.specs.Ends.{SeesMore, was_seen_as, seeing, filling, word_without, given_at, LoopGivesBlock, LoopGives}
 
 -- Only what was seen has changed, and of a pool's word x was seen last
 pub record PoolSeen (sys : System) (p : ℕ) (v u : View) (x : ℕ) : Type 0 where
@@ -63,30 +63,30 @@ module _ (sys : System) (p o : ℕ) (reserve : Option ℕ) where
 
 -- The event words.
 
-value-here : (p b j n : ℕ) → is_value p b j n (record { pool = p; block = b; place = j; value = n }) ≡ true
+value-here : (p b j n : ℕ) → fills_with p b j n (record { pool = p; block = b; place = j; value = n }) ≡ true
 value-here p b j n = λ i. ((eq-eqb p p refl i && eq-eqb b b refl i) && eq-eqb j j refl i) && eq-eqb n n refl i
 
-first-left : (p b j n : ℕ) (ns : List ℕ) → 0 < many (is_value p b j n) (fills_for p b j (n ∷ ns))
-first-left p b j n ns = subst (λ (t : Bool). 0 < cond {A = ℕ} t 1 0 + many (is_value p b j n) (fills_for p b (suc j) ns)) (sym (value-here p b j n)) (omega arith)
+first-left : (p b j n : ℕ) (ns : List ℕ) → 0 < many (fills_with p b j n) (fills_for p b j (n ∷ ns))
+first-left p b j n ns = subst (λ (t : Bool). 0 < cond {A = ℕ} t 1 0 + many (fills_with p b j n) (fills_for p b (suc j) ns)) (sym (value-here p b j n)) (omega arith)
 
-first-written : (p b j n : ℕ) (ns : List ℕ) → without (is_value p b j n) (fills_for p b j (n ∷ ns)) ≡ fills_for p b (suc j) ns
-first-written p b j n ns = ap (λ (t : Bool). cond {A = List Fill} t (fills_for p b (suc j) ns) (record { pool = p; block = b; place = j; value = n } ∷ without (is_value p b j n) (fills_for p b (suc j) ns))) (value-here p b j n)
+first-written : (p b j n : ℕ) (ns : List ℕ) → without (fills_with p b j n) (fills_for p b j (n ∷ ns)) ≡ fills_for p b (suc j) ns
+first-written p b j n ns = ap (λ (t : Bool). cond {A = List Fill} t (fills_for p b (suc j) ns) (record { pool = p; block = b; place = j; value = n } ∷ without (fills_with p b j n) (fills_for p b (suc j) ns))) (value-here p b j n)
 
 module _ (p b sig : ℕ) (pars : List ℕ) (v : View) (left : v.fills ≡ fills_for p b 0 (sig ∷ pars)) where
   pub signal-written : (u : View) → u ≡ filled v p b 0 sig → u ≡ filling (fills_for p b (0 + 1) (drop 0 pars)) v
-  signal-written u is = is ∙ ap (λ (xs : List Fill). filling xs v) (ap (without (is_value p b 0 sig)) left ∙ first-written p b 0 sig pars)
+  signal-written u is = is ∙ ap (λ (xs : List Fill). filling xs v) (ap (without (fills_with p b 0 sig)) left ∙ first-written p b 0 sig pars)
 
 module _ (p b k : ℕ) (ns : List ℕ) (n : ℕ) (v u : View) (inside : k < length ns) (n_is : n ≡ get_or ns k 0) (is : u ≡ filling (fills_for p b (k + 1) (drop k ns)) v) where
   left-now : u.fills ≡ fills_for p b (k + 1) (n ∷ drop (suc k) ns)
   left-now = ap (λ (z : View). z.fills) is ∙ ap (fills_for p b (k + 1)) (drop-cons ns k 0 inside ∙ ap (λ y. y ∷ drop (suc k) ns) (sym n_is))
 
-  pub value-left : 0 < many (is_value p b (k + 1) n) u.fills
-  value-left = subst (λ (xs : List Fill). 0 < many (is_value p b (k + 1) n) xs) (sym left-now) (first-left p b (k + 1) n (drop (suc k) ns))
+  pub value-left : 0 < many (fills_with p b (k + 1) n) u.fills
+  value-left = subst (λ (xs : List Fill). 0 < many (fills_with p b (k + 1) n) xs) (sym left-now) (first-left p b (k + 1) n (drop (suc k) ns))
 
   pub value-written : (w : View) → w ≡ filled u p b (k + 1) n → w ≡ filling (fills_for p b (k + 1 + 1) (drop (k + 1) ns)) v
   value-written w step =
       step
-      ∙ (ap (λ (xs : List Fill). filling xs u) (ap (without (is_value p b (k + 1) n)) left-now ∙ first-written p b (k + 1) n (drop (suc k) ns))
+      ∙ (ap (λ (xs : List Fill). filling xs u) (ap (without (fills_with p b (k + 1) n)) left-now ∙ first-written p b (k + 1) n (drop (suc k) ns))
       ∙ (ap (filling (fills_for p b (suc (k + 1)) (drop (suc k) ns))) is
       ∙ (λ i. filling (fills_for p b (sym (add-one (k + 1)) i) (drop (sym (add-one k) i) ns)) v)))
 
@@ -100,7 +100,7 @@ kept-fresh p b fills v u is h = subst (λ (z : View). 0 < many (is_spot p b) z.f
 
 -- The block's own word.
 
-module _ (sys : System) (p o : ℕ) (reserve : Option ℕ) (sig : ℕ) (pars : List ℕ) (v : View) (x b : ℕ) (z : View) (e : GivesBlock sys p o reserve sig pars v x b z) where
+module _ (sys : System) (p o : ℕ) (reserve : Option ℕ) (sig : ℕ) (pars : List ℕ) (v : View) (x b : ℕ) (z : View) (e : LoopGivesBlock sys p o reserve sig pars v x b z) where
   spot-here : (from : ℕ) → is_spot_at p b from (spot p b from) ≡ true
   spot-here from = λ i. (eq-eqb p p refl i && eq-eqb b b refl i) && eq-eqb from from refl i
 

@@ -15,7 +15,7 @@ use Rattle.qp_table.proofs.Counting.{many-snoc}
 use Rattle.qp_table.proofs.Marks.{high-mark}
 use Rattle.qp_table.specs.Told.{QueueTold, NilTold, nil_rec, freed, FreeTold}
 use Rattle.qp_shared_words.specs.Fronts.{KnowsFront}
-use Rattle.qp_shared_loops.specs.Ends.{seeing, KnowsEvent, Takes}
+use Rattle.qp_shared_loops.specs.Ends.{seeing, KnowsEvent, LoopTakes}
 use Rattle.qp_shared_loops.proofs.Following.{Seen, queue-then, sees-one}
 
 -- Entries as cells have them.
@@ -76,7 +76,7 @@ module _ (sys : System) (a : ℕ) (v z w u : View) (x n j : ℕ) (e : Entry) (se
       let few = seen.told.takes in
       omega arith
 
-  pub takes-it : Codable sys e → KnowsEvent sys e u → Takes sys a e v n u
+  pub takes-it : Codable sys e → KnowsEvent sys e u → LoopTakes sys a e v n u
   takes-it codable knows = record {
     glances = z.seen;
     more = seen.more;

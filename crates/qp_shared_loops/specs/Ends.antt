@@ -56,8 +56,8 @@ ClaimEnds sys a o margin e v x true u = Claims sys a o margin e v x u
 ClaimEnds sys a o margin e v x false u = ClaimsNone sys a o margin v x u
 
 -- the queue has no more entries than cells
-abbrev pub IsShort : System → ℕ → ℕ → Type 0
-IsShort sys a x = f_in x + l_in x ≤ m_in x + (ring_of sys a + 1)
+abbrev pub FitsCells : System → ℕ → ℕ → Type 0
+FitsCells sys a x = f_in x + l_in x ≤ m_in x + (ring_of sys a + 1)
 
 -- the record of a last-in post that finds the queue full
 abbrev pub full_rec : ℕ → ℕ → Rec
@@ -77,7 +77,7 @@ pub record PutsNone (sys : System) (a : ℕ) (v : View) (x : ℕ) (u : View) : T
   pub more : SeesMore v.seen glances
   pub is : u ≡ noted (seeing glances v) (queue_at a) x (full_rec a x)
   pub few : free_in (ring_of sys a) x ≡ 0
-  pub short : IsShort sys a x
+  pub short : FitsCells sys a x
   pub told : QueueTold sys a v u x x
 
 abbrev pub LastInEnds : System → ℕ → Entry → View → ℕ → Bool → View → Type 0
@@ -85,7 +85,7 @@ LastInEnds sys a e v x true u = PutsFirst sys a e v x u
 LastInEnds sys a e v x false u = PutsNone sys a v x u
 
 -- The entry is claimed, and its cell laid: that behind the last, round the ring.
-pub record Posts (sys : System) (a o : ℕ) (margin : Option ℕ) (e : Entry) (v : View) (x : ℕ) (u : View) : Type 0 where
+pub record LoopPosts (sys : System) (a o : ℕ) (margin : Option ℕ) (e : Entry) (v : View) (x : ℕ) (u : View) : Type 0 where
   pub glances : List Glance
   pub more : SeesMore v.seen glances
   pub is : u ≡ laid (claimed_at (ring_of sys a) a o e (seeing glances v) x) a (f_in x % (ring_of sys a + 1)) e
@@ -94,11 +94,11 @@ pub record Posts (sys : System) (a o : ℕ) (margin : Option ℕ) (e : Entry) (v
   pub told : QueueTold sys a v u x (x + 1)
 
 abbrev pub PostEnds : System → ℕ → ℕ → Option ℕ → Entry → View → ℕ → Bool → View → Type 0
-PostEnds sys a o margin e v x true u = Posts sys a o margin e v x u
+PostEnds sys a o margin e v x true u = LoopPosts sys a o margin e v x u
 PostEnds sys a o margin e v x false u = ClaimsNone sys a o margin v x u
 
 -- The same of a last-in post, whose cell is that before the front.
-pub record PostsFirst (sys : System) (a : ℕ) (e : Entry) (v : View) (x : ℕ) (u : View) : Type 0 where
+pub record LoopPostsFirst (sys : System) (a : ℕ) (e : Entry) (v : View) (x : ℕ) (u : View) : Type 0 where
   pub glances : List Glance
   pub more : SeesMore v.seen glances
   pub is : u ≡ laid (put_first_at sys a e (seeing glances v) x) a (before_front sys a x) e
@@ -107,7 +107,7 @@ pub record PostsFirst (sys : System) (a : ℕ) (e : Entry) (v : View) (x : ℕ) 
   pub told : QueueTold sys a v u x (x + 2097152)
 
 abbrev pub PostFirstEnds : System → ℕ → Entry → View → ℕ → Bool → View → Type 0
-PostFirstEnds sys a e v x true u = PostsFirst sys a e v x u
+PostFirstEnds sys a e v x true u = LoopPostsFirst sys a e v x u
 PostFirstEnds sys a e v x false u = PutsNone sys a v x u
 
 -- the event that is known of a reference is one of the system
@@ -120,7 +120,7 @@ IsReference (entries.Static sig) = Unit {0}
 IsReference (entries.Pool h) = 0 < h.pool
 
 -- The entry e was taken where the queue's word was x: its cell was emptied, then it was freed, and a pooled one's event was learned.
-pub record Takes (sys : System) (a : ℕ) (e : Entry) (v : View) (x : ℕ) (u : View) : Type 0 where
+pub record LoopTakes (sys : System) (a : ℕ) (e : Entry) (v : View) (x : ℕ) (u : View) : Type 0 where
   pub glances : List Glance
   pub more : SeesMore v.seen glances
   pub cell : ℕ
@@ -133,12 +133,12 @@ pub record Takes (sys : System) (a : ℕ) (e : Entry) (v : View) (x : ℕ) (u : 
   pub told : QueueTold sys a v u x (x + 4398046511104)
 
 -- The queue was empty: there is the record of it where the word is new.
-abbrev pub TakesNone : System → (ℕ → Bool) → ℕ → View → ℕ → View → Type 0
-TakesNone sys is_new a v x u = NilTold sys is_new a v x u × (f_in x + l_in x ≡ m_in x)
+abbrev pub LoopTakesNone : System → (ℕ → Bool) → ℕ → View → ℕ → View → Type 0
+LoopTakesNone sys is_new a v x u = NilTold sys is_new a v x u × (f_in x + l_in x ≡ m_in x)
 
 abbrev pub TakeEnds : System → (ℕ → Bool) → ℕ → View → ℕ → Option token.HeldEntry → View → Type 0
-TakeEnds sys is_new a v x (Some e) u = Takes sys a (entry_of e) v x u × IsReference e
-TakeEnds sys is_new a v x None u = TakesNone sys is_new a v x u
+TakeEnds sys is_new a v x (Some e) u = LoopTakes sys a (entry_of e) v x u × IsReference e
+TakeEnds sys is_new a v x None u = LoopTakesNone sys is_new a v x u
 
 -- the front cell was laid with the entry e, and is empty now
 abbrev pub Empties : System → ℕ → ℕ → token.HeldEntry → View → View → Type 0
@@ -157,7 +157,7 @@ given_at p o b from sig pars v x = gave v (pool_at p) (word_without x b) (rec_of
 
 -- The lowest free block was given out where the pool's word was x, with more blocks free than the reserve. Nothing else changed but what
 -- was seen.
-pub record GivesBlock (sys : System) (p o : ℕ) (reserve : Option ℕ) (sig : ℕ) (pars : List ℕ) (v : View) (x b : ℕ) (u : View) : Type 0 where
+pub record LoopGivesBlock (sys : System) (p o : ℕ) (reserve : Option ℕ) (sig : ℕ) (pars : List ℕ) (v : View) (x b : ℕ) (u : View) : Type 0 where
   pub glances : List Glance
   pub more : SeesMore v.seen glances
   pub looked : IsTrue (was_seen_as glances (pool_at p) x)
@@ -171,7 +171,7 @@ pub record GivesBlock (sys : System) (p o : ℕ) (reserve : Option ℕ) (sig : �
   pub told : WordTold sys (word.Pool p) v u x (word_without x b)
 
 -- Where the word was found as x, at most the reserve was free: there is the record of it, and nothing is given out.
-pub record GivesNone (sys : System) (p o : ℕ) (reserve : Option ℕ) (v : View) (x : ℕ) (u : View) : Type 0 where
+pub record LoopGivesNone (sys : System) (p o : ℕ) (reserve : Option ℕ) (v : View) (x : ℕ) (u : View) : Type 0 where
   pub glances : List Glance
   pub more : SeesMore v.seen glances
   pub is : u ≡ noted (seeing glances v) (pool_at p) x (shortage_rec reserve o p x)
@@ -179,8 +179,8 @@ pub record GivesNone (sys : System) (p o : ℕ) (reserve : Option ℕ) (v : View
   pub told : WordTold sys (word.Pool p) v u x x
 
 abbrev pub BlockEnds : System → ℕ → ℕ → Option ℕ → ℕ → List ℕ → View → ℕ → Option ℕ → View → Type 0
-BlockEnds sys p o reserve sig pars v x (Some b) u = GivesBlock sys p o reserve sig pars v x b u
-BlockEnds sys p o reserve sig pars v x None u = GivesNone sys p o reserve v x u
+BlockEnds sys p o reserve sig pars v x (Some b) u = LoopGivesBlock sys p o reserve sig pars v x b u
+BlockEnds sys p o reserve sig pars v x None u = LoopGivesNone sys p o reserve v x u
 
 -- The same, and then the block's event was written and its word looked at, which shows after how many operations its life begins, and
 -- that no reference stands. `mid` is a view between the two looks.
@@ -200,4 +200,4 @@ pub record LoopGives (sys : System) (p o : ℕ) (reserve : Option ℕ) (sig : �
 
 abbrev pub GiveEnds : System → ℕ → ℕ → Option ℕ → ℕ → List ℕ → View → ℕ → Option Life → View → Type 0
 GiveEnds sys p o reserve sig pars v x (Some life) u = LoopGives sys p o reserve sig pars v x life.block life.from u
-GiveEnds sys p o reserve sig pars v x None u = GivesNone sys p o reserve v x u
+GiveEnds sys p o reserve sig pars v x None u = LoopGivesNone sys p o reserve v x u

@@ -10,7 +10,7 @@ ghost use Rattle.qp_table.specs.Rule.{queue_at, mark_in, on_queue, is_serve};
 ghost use Rattle.qp_table.specs.After.{HasRoom, InHand};
 ghost use Rattle.qp_table.specs.Words.{value_seen};
 ghost use Rattle.qp_table.specs.Told.{free_in, EyeLastTold, LastTold};
-ghost use Rattle.qp_shared_loops.specs.Ends.{IsShort, LastInEnds};
+ghost use Rattle.qp_shared_loops.specs.Ends.{FitsCells, LastInEnds};
 
 use crate::posts::free_in;
 use atomic_table::Seat;
@@ -30,7 +30,7 @@ fn look_before_last_in(words: &Words, seat: &mut Seat<(), View>, object: u8) -> 
     requires room { HasRoom seat.old.me.0 }
     ensures same { (seat.new.table_id ≡ seat.old.table_id) × (seat.new.id ≡ seat.old.id) }
     ensures told { EyeLastTold words.now.shared.key object seat.old.me.0 result seat.new.me.0 }
-    ensures short { IsShort words.now.shared.key object result }
+    ensures short { FitsCells words.now.shared.key object result }
 {
     let about = About {
         to: object,
@@ -63,7 +63,7 @@ fn claim_last_in<L: Ledger>(
     ensures same { (seat.new.table_id ≡ seat.old.table_id) × (seat.new.id ≡ seat.old.id) }
     ensures counted { steps.new ≡ steps.old + 1 }
     ensures told { LastTold words.now.shared.key object (record { pool = pool; block = block; name = name }) seat.old.me.0 old result seat.new.me.0 }
-    ensures short { IsShort words.now.shared.key object result }
+    ensures short { FitsCells words.now.shared.key object result }
 {
     steps.step();
     let about = About {

@@ -12,7 +12,7 @@ ghost use Rattle.qp_table.specs.After.{HasRoom};
 ghost use Rattle.qp_table.specs.Told.{FreeTold};
 ghost use Rattle.qp_shared_words.specs.Fronts.{KnowsFront};
 ghost use Rattle.qp_shared_words.specs.Nils.{is_new};
-ghost use Rattle.qp_shared_loops.specs.Coded.{entry_in};
+ghost use Rattle.qp_shared_loops.specs.Coded.{entry_of_cell};
 ghost use Rattle.qp_shared_loops.specs.Ends.{Empties, IsReference, KnowsEvent, TakeEnds};
 
 use crate::rings::in_ring;
@@ -28,7 +28,7 @@ use std::sync::Wait;
 
 /// The entry of which a cell has the code.
 fn entry_in(code: u64) -> HeldEntry
-    ensures value { entry_of result ≡ entry_in code }
+    ensures value { entry_of result ≡ entry_of_cell code }
     ensures named { IsReference result }
 {
     let pool = (code / 9007199254740992 % 16) as u8;

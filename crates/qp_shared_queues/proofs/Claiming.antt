@@ -21,12 +21,12 @@ use Rattle.qp_table.proofs.QueueSteps.{post-says}
 use Rattle.qp_calls.specs.declared.tokens.HeldEntry.{HeldEntry}
 use Rattle.qp_calls.specs.declared.answers.Claim.{Claim}
 use Rattle.qp_calls.specs.declared.answers.Claim.TheVariants as answer
-use Rattle.qp_calls.specs.Clauses.{entry_of, ClaimsEntry, PostsIt, PostsNot, Tries, draws_claimed, refusal_of}
+use Rattle.qp_calls.specs.Clauses.{entry_of, ClaimsEntry, PostsIt, PostsNot, FewTries, draws_claimed, refusal_of}
 use Rattle.qp_calls_log.specs.declared.log.Log.{Log}
 use Rattle.qp_table.specs.Words.{value_seen}
 use Rattle.qp_table.specs.Lane.{lane_of}
 use Rattle.qp_table.specs.Told.{refusal_rec}
-use Rattle.qp_shared_loops.specs.Ends.{ClaimsNone, Posts, PostEnds}
+use Rattle.qp_shared_loops.specs.Ends.{ClaimsNone, LoopPosts, PostEnds}
 use Rattle.qp_shared_lane.specs.declared.lane.LaneState.{LaneState}
 use Rattle.qp_shared_lane.specs.Lane.{state_view}
 use Rattle.qp_shared_lane.specs.More.{IsPut, SeesMore}
@@ -73,7 +73,7 @@ module _ (l : LaneState) (a : ℕ) (margin : Option ℕ) (e : HeldEntry) (x : �
     }
 
   -- posted
-  module _ (c : Posts l.sys.now a l.by margin (entry_of e) l.seat.me.0 x u) (says : item_of rec ≡ record { of = l.by; body = Post a (f_in x + 1) (l_in x) (m_in x) (entry_of e) }) where
+  module _ (c : LoopPosts l.sys.now a l.by margin (entry_of e) l.seat.me.0 x u) (says : item_of rec ≡ record { of = l.by; body = Post a (f_in x + 1) (l_in x) (m_in x) (entry_of e) }) where
     abbrev q : Rec
     q = rec_of 20 l.by (a ∷ (x % 2097152 + 1) ∷ (x / 2097152 % 2097152) ∷ (x / 4398046511104) ∷ (entry_of e).pool ∷ (entry_of e).block ∷ (entry_of e).name ∷ [])
 
@@ -126,14 +126,14 @@ module _ (l : LaneState) (a : ℕ) (margin : Option ℕ) (e : HeldEntry) (x : �
 
   -- the tries of its loop
   pub claim-tries : (posted : Bool) (r : Claim) (before after : ℕ) → PostEnds l.sys.now a l.by margin (entry_of e) l.seat.me.0 x posted u → AnswerIs posted e (f_in x) (l_in x) (m_in x) r → before ≤ after
-      → after + mark_in (queue_at a) (value_seen l.sys.now (word.Queue a) l.seat.me.0.seen) ≤ before + 1 + mark_in (queue_at a) x → Tries (word.Queue a) (draws_claimed r) before after (state_view l) (then_view l h more u)
-  claim-tries true r before after ends is up few = subst (λ (z : Claim). Tries (word.Queue a) (draws_claimed z) before after (state_view l) (then_view l h more u)) (sym is) (record {
+      → after + mark_in (queue_at a) (value_seen l.sys.now (word.Queue a) l.seat.me.0.seen) ≤ before + 1 + mark_in (queue_at a) x → FewTries (word.Queue a) (draws_claimed r) before after (state_view l) (then_view l h more u)
+  claim-tries true r before after ends is up few = subst (λ (z : Claim). FewTries (word.Queue a) (draws_claimed z) before after (state_view l) (then_view l h more u)) (sym is) (record {
     up = up;
     few =
         let was = lane-mark-was l a (x + 1) (mark_in (queue_at a) (x + 1)) u ends.told.saw refl in let now = lane-mark-then l a (x + 1) (mark_in (queue_at a) (x + 1)) u ends.told.saw refl h more in
         let r = first-raised x ends.fits in let r0 = r.0 in let r1 = r.1 in let r2 = r.2 in let hm = high-mark (queue_at a) x (omega arith) in let hn = high-mark (queue_at a) (x + 1) (omega arith) in omega arith;
   })
-  claim-tries false r before after ends is up few = subst (λ (z : Claim). Tries (word.Queue a) (draws_claimed z) before after (state_view l) (then_view l h more u)) (sym is) (record {
+  claim-tries false r before after ends is up few = subst (λ (z : Claim). FewTries (word.Queue a) (draws_claimed z) before after (state_view l) (then_view l h more u)) (sym is) (record {
     up = up;
     few =
         let was = lane-mark-was l a x (mark_in (queue_at a) x) u ends.told.saw refl in let now = lane-mark-then l a x (mark_in (queue_at a) x) u ends.told.saw refl h more in omega arith;

@@ -20,14 +20,14 @@ use Rattle.qp_table.proofs.Gaining.{mark-here, mark-was, shown-here, saw-rises}
 use Rattle.qp_table.proofs.Own.{own-is}
 use Rattle.qp_shared_lane.specs.declared.lane.LaneState.{LaneState}
 use Rattle.qp_shared_lane.specs.Holds.{LaneHolds, told_by, side_mark}
-use Rattle.qp_shared_lane.specs.Lane.{lane_with, world_in, state_view}
-use Rattle.qp_shared_lane.specs.More.{IsPut, Follows, SideFollows, AddsNothing, OnTable}
-use Rattle.qp_shared_lane.specs.Laws.{Kept, LookKept}
+use Rattle.qp_shared_lane.specs.Lane.{lane_with, world_of_lane, state_view}
+use Rattle.qp_shared_lane.specs.More.{IsPut, ViewFollows, SideFollows, AddsNothing, OnTable}
+use Rattle.qp_shared_lane.specs.Laws.{LaneGainsRecord, LookKept}
 use Rattle.qp_shared_lane.proofs.LawLemmas.{table_records_keep_the_lane, looks_keep_the_lane, spare_gives_room}
 
 -- the lane with another log and another view of the event table
 abbrev pub then_view : LaneState → Log → List ℕ → View → LaneView
-then_view l h more u = lane_with (world_in l) l.sys.now l.by h more u l.side.seat.me.0
+then_view l h more u = lane_with (world_of_lane l) l.sys.now l.by h more u l.side.seat.me.0
 
 abbrev pub ThenHolds : LaneState → Log → List ℕ → View → Type 0
 ThenHolds l h more u = LaneHolds l.sys.now l.count l.ceiling h more u l.side.seat.me.0
@@ -99,8 +99,8 @@ module _ (l : LaneState) (a x k : ℕ) (u : View) (saw : Saw l.sys.now (word.Que
 
   -- a record more
   module _ (o : ℕ) (g : Told) (h : Log) (more : List ℕ) (rec : Rec) (put : IsPut rec 0 l.log l.numbers.list h more) (on : OnTable l.sys.now (hands_after [] (told_in l)) l.seat.me.0 u rec 0 (for_object o g) (word.Queue a) k) where
-    kept : Kept (world_in l) l.sys.now l.by l.count l.ceiling l.log l.numbers.list l.seat.me.0 l.side.seat.me.0 h more u l.side.seat.me.0 l.ceiling (for_object o g)
-    kept = table_records_keep_the_lane (world_in l) l.sys.now l.by l.count l.ceiling l.log l.numbers.list l.seat.me.0 l.side.seat.me.0 h more u rec 0 (for_object o g) (word.Queue a) k l.holds put on
+    kept : LaneGainsRecord (world_of_lane l) l.sys.now l.by l.count l.ceiling l.log l.numbers.list l.seat.me.0 l.side.seat.me.0 h more u l.side.seat.me.0 l.ceiling (for_object o g)
+    kept = table_records_keep_the_lane (world_of_lane l) l.sys.now l.by l.count l.ceiling l.log l.numbers.list l.seat.me.0 l.side.seat.me.0 h more u rec 0 (for_object o g) (word.Queue a) k l.holds put on
 
     pub holds-then : ThenHolds l h more u
     holds-then = kept.holds
@@ -122,7 +122,7 @@ module _ (l : LaneState) (a x k : ℕ) (u : View) (saw : Saw l.sys.now (word.Que
         (ap (λ (y : Own). y.l) (sym e), ap (λ (y : Own). y.m) (sym e))
 
   -- a look without one
-  module _ (follows : Follows l.sys.now l.seat.me.0 u) (adds : AddsNothing l.seat.me.0 u l.side.seat.me.0 l.side.seat.me.0) (f lc m : ℕ) (ef : x % 2097152 ≡ f) (el : x / 2097152 % 2097152 ≡ lc) (em : x / 4398046511104 ≡ m) where
+  module _ (follows : ViewFollows l.sys.now l.seat.me.0 u) (adds : AddsNothing l.seat.me.0 u l.side.seat.me.0 l.side.seat.me.0) (f lc m : ℕ) (ef : x % 2097152 ≡ f) (el : x / 2097152 % 2097152 ≡ lc) (em : x / 4398046511104 ≡ m) where
     rises : Rises (word.Queue a) k (lane_mark l.sys.now l.seat.me.0.seen (side_mark l.sys.now l.side.seat.me.0)) (lane_mark l.sys.now u.seen (side_mark l.sys.now l.side.seat.me.0)) (shown_seen l.sys.now l.seat.me.0.seen) (shown_seen l.sys.now u.seen)
     rises = subst (λ j. Rises (word.Queue a) j (lane_mark l.sys.now l.seat.me.0.seen (side_mark l.sys.now l.side.seat.me.0)) (lane_mark l.sys.now u.seen (side_mark l.sys.now l.side.seat.me.0)) (shown_seen l.sys.now l.seat.me.0.seen) (shown_seen l.sys.now u.seen))
         mark_is (saw-rises l.sys.now (side_mark l.sys.now l.side.seat.me.0) (word.Queue a) l.seat.me.0 u x saw).0
@@ -130,8 +130,8 @@ module _ (l : LaneState) (a x k : ℕ) (u : View) (saw : Saw l.sys.now (word.Que
     side-still : SideFollows l.sys.now l.side.seat.me.0 l.side.seat.me.0
     side-still = record { logs = refl; number = refl; lane_numbers = refl; serves = refl; rise = λ j on. omega arith; stops = refl; answered = refl }
 
-    look-kept : LookKept (world_in l) l.sys.now l.by l.count l.ceiling l.log l.numbers.list l.seat.me.0 l.side.seat.me.0 u l.side.seat.me.0 (word.Queue a) k (Counts f lc m)
-    look-kept = looks_keep_the_lane (world_in l) l.sys.now l.by l.count l.ceiling l.log l.numbers.list l.seat.me.0 l.side.seat.me.0 u l.side.seat.me.0 (word.Queue a) k (Counts f lc m) l.holds follows side-still adds
+    look-kept : LookKept (world_of_lane l) l.sys.now l.by l.count l.ceiling l.log l.numbers.list l.seat.me.0 l.side.seat.me.0 u l.side.seat.me.0 (word.Queue a) k (Counts f lc m)
+    look-kept = looks_keep_the_lane (world_of_lane l) l.sys.now l.by l.count l.ceiling l.log l.numbers.list l.seat.me.0 l.side.seat.me.0 u l.side.seat.me.0 (word.Queue a) k (Counts f lc m) l.holds follows side-still adds
 
     pub look-holds : ThenHolds l l.log l.numbers.list u
     look-holds = look-kept.holds

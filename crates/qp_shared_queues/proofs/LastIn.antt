@@ -14,12 +14,12 @@ use Rattle.qp_table.proofs.Marks.{high-mark}
 use Rattle.qp_table.proofs.QueueSteps.{lifo-says}
 use Rattle.qp_calls.specs.declared.tokens.HeldEntry.{HeldEntry}
 use Rattle.qp_calls.specs.declared.answers.Claim.{Claim}
-use Rattle.qp_calls.specs.Clauses.{entry_of, ClaimsFront, PutsFront, PutsNot, Tries, draws_claimed}
+use Rattle.qp_calls.specs.Clauses.{entry_of, ClaimsFront, PutsFront, PutsNot, FewTries, draws_claimed}
 use Rattle.qp_calls_log.specs.declared.log.Log.{Log}
 use Rattle.qp_table.specs.Words.{value_seen}
 use Rattle.qp_table.specs.Lane.{lane_of}
 use Rattle.qp_table.specs.Told.{before_front}
-use Rattle.qp_shared_loops.specs.Ends.{full_rec, PutsNone, PostsFirst, PostFirstEnds}
+use Rattle.qp_shared_loops.specs.Ends.{full_rec, PutsNone, LoopPostsFirst, PostFirstEnds}
 use Rattle.qp_shared_lane.specs.declared.lane.LaneState.{LaneState}
 use Rattle.qp_shared_lane.specs.Lane.{state_view}
 use Rattle.qp_shared_lane.specs.More.{IsPut, SeesMore}
@@ -46,7 +46,7 @@ module _ (l : LaneState) (e : HeldEntry) (x : ℕ) (u : View) (h : Log) (more : 
     }
 
   -- posted
-  module _ (c : PostsFirst l.sys.now l.by (entry_of e) l.seat.me.0 x u) (says : item_of rec ≡ record { of = l.by; body = Lifo (f_in x) (l_in x + 1) (m_in x) (entry_of e) }) where
+  module _ (c : LoopPostsFirst l.sys.now l.by (entry_of e) l.seat.me.0 x u) (says : item_of rec ≡ record { of = l.by; body = Lifo (f_in x) (l_in x + 1) (m_in x) (entry_of e) }) where
     abbrev q : Rec
     q = rec_of 21 l.by ((x % 2097152) ∷ (x / 2097152 % 2097152 + 1) ∷ (x / 4398046511104) ∷ (entry_of e).pool ∷ (entry_of e).block ∷ (entry_of e).name ∷ [])
 
@@ -96,15 +96,15 @@ module _ (l : LaneState) (e : HeldEntry) (x : ℕ) (u : View) (h : Log) (more : 
   lifos-for false r ends says is spare = subst (ClaimsFront e (state_view l) (then_view l h more u)) (sym is) (puts-not ends says spare)
 
   pub lifo-tries : (posted : Bool) (r : Claim) (before after : ℕ) → PostFirstEnds l.sys.now l.by (entry_of e) l.seat.me.0 x posted u → AnswerIs posted e (f_in x) (l_in x) (m_in x) r → before ≤ after
-      → after + mark_in (queue_at l.by) (value_seen l.sys.now (word.Queue l.by) l.seat.me.0.seen) ≤ before + 1 + mark_in (queue_at l.by) x → Tries (word.Queue (state_view l).by) (draws_claimed r) before after (state_view l) (then_view l h more u)
+      → after + mark_in (queue_at l.by) (value_seen l.sys.now (word.Queue l.by) l.seat.me.0.seen) ≤ before + 1 + mark_in (queue_at l.by) x → FewTries (word.Queue (state_view l).by) (draws_claimed r) before after (state_view l) (then_view l h more u)
   unfolding lane_of
-  lifo-tries true r before after ends is up few = subst (λ (z : Claim). Tries (word.Queue l.by) (draws_claimed z) before after (state_view l) (then_view l h more u)) (sym is) (record {
+  lifo-tries true r before after ends is up few = subst (λ (z : Claim). FewTries (word.Queue l.by) (draws_claimed z) before after (state_view l) (then_view l h more u)) (sym is) (record {
     up = up;
     few =
         let was = lane-mark-was l l.by (x + 2097152) (mark_in (queue_at l.by) (x + 2097152)) u ends.told.saw refl in let now = lane-mark-then l l.by (x + 2097152) (mark_in (queue_at l.by) (x + 2097152)) u ends.told.saw refl h more in
         let r = last-raised x ends.fits in let r0 = r.0 in let r1 = r.1 in let r2 = r.2 in let hm = high-mark (queue_at l.by) x (omega arith) in let hn = high-mark (queue_at l.by) (x + 2097152) (omega arith) in omega arith;
   })
-  lifo-tries false r before after ends is up few = subst (λ (z : Claim). Tries (word.Queue l.by) (draws_claimed z) before after (state_view l) (then_view l h more u)) (sym is) (record {
+  lifo-tries false r before after ends is up few = subst (λ (z : Claim). FewTries (word.Queue l.by) (draws_claimed z) before after (state_view l) (then_view l h more u)) (sym is) (record {
     up = up;
     few = let was = lane-mark-was l l.by x (mark_in (queue_at l.by) x) u ends.told.saw refl in let now = lane-mark-then l l.by x (mark_in (queue_at l.by) x) u ends.told.saw refl h more in omega arith;
   })

@@ -20,8 +20,8 @@ use Rattle.qp_table.specs.Told.{QueueTold, SeenTold}
 use Rattle.qp_shared_loops.proofs.Following.{sees-none}
 use Rattle.qp_shared_lane.specs.declared.lane.LaneState.{LaneState}
 use Rattle.qp_shared_lane.specs.Lane.{state_view}
-use Rattle.qp_shared_lane.specs.More.{IsPut, Follows, AddsNothing}
-use Rattle.qp_shared_queues.specs.Now.{counts_of}
+use Rattle.qp_shared_lane.specs.More.{IsPut, ViewFollows, AddsNothing}
+use Rattle.qp_shared_queues.specs.Now.{counts_in_word}
 use Rattle.qp_shared_queues.proofs.Views.{Alike, same-tokens, grown-still, read-still, worn-still, placed-still, still-alike}
 use Rattle.qp_shared_queues.proofs.Lane.{then_view, ThenHolds, look-holds, look-looks, look-shows}
 use Rattle.qp_shared_queues.proofs.Noting.{neutral-seen, noted-holds, noted-adds, noted-shows}
@@ -40,7 +40,7 @@ module _ (l : LaneState) (a n : ℕ) (u : View) (is : u ≡ glanced l.seat.me.0 
     gives = ap (λ (z : View). z.gives) is;
   }
 
-  follows : Follows l.sys.now l.seat.me.0 u
+  follows : ViewFollows l.sys.now l.seat.me.0 u
   follows = record {
     logs = ap (λ (z : View). length z.logs) is;
     number = same-number-of l.seat.me.0 u (ap (λ (z : View). z.logs) is);
@@ -65,18 +65,18 @@ module _ (l : LaneState) (a n : ℕ) (u : View) (is : u ≡ glanced l.seat.me.0 
   pub counted-holds : ThenHolds l l.log l.numbers.list u
   counted-holds = look-holds l a n _ u told.saw told.mark follows adds (n % 2097152) (n / 2097152 % 2097152) (n / 4398046511104) refl refl refl
 
-  pub counted-there : Counted a (state_view l) (then_view l l.log l.numbers.list u) (counts_of n)
+  pub counted-there : Counted a (state_view l) (then_view l l.log l.numbers.list u) (counts_in_word n)
   counted-there = (
     look-looks l a n _ u told.saw told.mark follows adds (n % 2097152) (n / 2097152 % 2097152) (n / 4398046511104) refl refl refl,
     look-shows l a n _ u told.saw told.mark follows adds (n % 2097152) (n / 2097152 % 2097152) (n / 4398046511104) refl refl refl told.own,
     told.takes,
   )
 
-  pub counted-for : (c : counts.Counts) → c ≡ counts_of n → Counted a (state_view l) (then_view l l.log l.numbers.list u) c
+  pub counted-for : (c : counts.Counts) → c ≡ counts_in_word n → Counted a (state_view l) (then_view l l.log l.numbers.list u) c
   counted-for c c_is = subst (Counted a (state_view l) (then_view l l.log l.numbers.list u)) (sym c_is) counted-there
 
 -- A look with the record of it.
-module _ (l : LaneState) (a n : ℕ) (u : View) (h : Log) (more : List ℕ) (rec : Rec) (told : SeenTold l.sys.now a l.seat.me.0 n u) (put : IsPut rec 0 l.log l.numbers.list h more) (c : counts.Counts) (c_is : c ≡ counts_of n) (says : item_of rec ≡ record { of = 0; body = seen_body a c.f c.l c.m }) where
+module _ (l : LaneState) (a n : ℕ) (u : View) (h : Log) (more : List ℕ) (rec : Rec) (told : SeenTold l.sys.now a l.seat.me.0 n u) (put : IsPut rec 0 l.log l.numbers.list h more) (c : counts.Counts) (c_is : c ≡ counts_in_word n) (says : item_of rec ≡ record { of = 0; body = seen_body a c.f c.l c.m }) where
   says-so : item_of rec ≡ record { of = 0; body = seen_body a (n % 2097152) (n / 2097152 % 2097152) (n / 4398046511104) }
   says-so = says ∙ ap (λ (z : counts.Counts). record { of = 0; body = seen_body a z.f z.l z.m }) c_is
 

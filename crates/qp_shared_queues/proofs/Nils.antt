@@ -21,10 +21,10 @@ use Rattle.qp_calls_log.specs.Lane.{nil_of, last_nil_in}
 use Rattle.qp_calls_log.specs.LaneLaws.{told-nil}
 use Rattle.qp_table.specs.Told.{nil_rec}
 use Rattle.qp_shared_words.specs.Nils.{is_new}
-use Rattle.qp_shared_loops.specs.Ends.{TakesNone as NoneEnds}
+use Rattle.qp_shared_loops.specs.Ends.{LoopTakesNone as NoneEnds}
 use Rattle.qp_shared_loops.proofs.Following.{sees-none}
 use Rattle.qp_shared_lane.specs.declared.lane.LaneState.{LaneState}
-use Rattle.qp_shared_lane.specs.Lane.{state_view, world_in}
+use Rattle.qp_shared_lane.specs.Lane.{state_view, world_of_lane}
 use Rattle.qp_shared_lane.specs.More.{IsPut}
 use Rattle.qp_shared_lane.proofs.LawLemmas.{lanes_tell_their_logs}
 use Rattle.qp_shared_queues.proofs.Lane.{then_view, ThenHolds}
@@ -42,7 +42,7 @@ last-is xs a k last same low is = ap nil_of (get_or_read xs k last low is None �
 module _ (l : LaneState) (a x : ℕ) (last : Option counts.Counts) (u : View) (told : Bool) (ends : NoneEnds l.sys.now (is_new last) a l.seat.me.0 x u)
     (small : a < 33) (last_is : nil_of last ≡ nil_of (get_or l.log.nils.items a None)) (told_is : told ≡ same_counts (last_nil_in a NotShown (lane_items l.log.recs.items)) (f_in x) (l_in x) (m_in x)) where
   last-told : last_nil_in a NotShown (lane_items l.log.recs.items) ≡ last_nil a NotShown (state_view l).told
-  last-told = let t = lanes_tell_their_logs (world_in l) l.sys.now l.by l.count l.ceiling l.log l.numbers.list l.seat.me.0 l.side.seat.me.0 l.holds in
+  last-told = let t = lanes_tell_their_logs (world_of_lane l) l.sys.now l.by l.count l.ceiling l.log l.numbers.list l.seat.me.0 l.side.seat.me.0 l.holds in
       ap (last_nil_in a NotShown) (sym t.told) ∙ sym (told-nil a NotShown (state_view l).told)
 
   pub told-before : told ≡ same_counts (last_nil a NotShown (state_view l).told) (f_in x) (l_in x) (m_in x)

@@ -14,7 +14,7 @@ use Rattle.qp_model.specs.History.{touch_of}
 use Rattle.qp_table.specs.TwoTables.{on_table}
 use Rattle.qp_table.specs.Counting.{many, without}
 use Rattle.qp_table.specs.Rule.{queue_at, mark_in, is_ref, is_spot, is_entry, is_place, is_serve}
-use Rattle.qp_table.specs.After.{logged, spent, place, bump}
+use Rattle.qp_table.specs.After.{logged, hands_without, place, bump}
 use Rattle.qp_table.specs.declared.view.CellPlace.{CellPlace}
 use Rattle.qp_table.specs.declared.view.Content.{Content}
 use Rattle.qp_table.specs.declared.view.Glance.{Glance}
@@ -25,7 +25,7 @@ use Rattle.qp_calls.specs.Clauses.{ShowsQueue}
 use Rattle.qp_calls.specs.Tokens.{Token, Held, Loose, same_token, token_of, take_out, stands, without_entry, hands_by, hands_after, handles}
 use Rattle.qp_calls.proofs.HandLemmas.{same-equal}
 use Rattle.qp_calls_log.specs.declared.log.Log.{Log}
-use Rattle.qp_table.specs.Lane.{event_seen, has_content, known_with, told_as, tokens, tokens_in}
+use Rattle.qp_table.specs.Lane.{event_seen, has_content, known_with, told_as, tokens, tokens_of_view}
 use Rattle.qp_table.specs.Telling.{Saw, OwnTold, Touches}
 use Rattle.qp_table.proofs.Gaining.{mark-rises}
 use Rattle.qp_table.proofs.Hands.{tokens-out, refs-out, held-in, read-has}
@@ -69,7 +69,7 @@ without-fewer {A} p q (x ∷ xs) = go (p x) (without-fewer p q xs)
     go true h = omega arith
     go false h = omega arith
 
-spent-fewer : (e d : Entry) (hands : List Entry) → 0 < many (is_entry d) (spent e hands) → 0 < many (is_entry d) hands
+spent-fewer : (e d : Entry) (hands : List Entry) → 0 < many (is_entry d) (hands_without e hands) → 0 < many (is_entry d) hands
 spent-fewer e d hands = go (eqb e.pool 0)
   where
     go : (t : Bool) → 0 < many (is_entry d) (cond {A = List Entry} t hands (without (is_entry e) hands)) → 0 < many (is_entry d) hands
@@ -90,15 +90,15 @@ claims-gone a j e k xs none = ap (λ (ys : List CellPlace). without (is_place a 
     ∙ sym none)
 
 -- the tokens without the entry's
-tokens-spent : (e : Entry) (hands : List Token) (v u : View) → u.hands ≡ spent e v.hands → u.fresh ≡ v.fresh → u.used ≡ v.used → ((t : Token) → tokens t hands ≡ tokens_in v t)
-    → (0 < e.pool → IsTrue (stands (token_of e) hands)) → (0 < e.pool → 0 < many (is_entry e) v.hands) → (t : Token) → tokens t (without_entry e hands) ≡ tokens_in u t
+tokens-spent : (e : Entry) (hands : List Token) (v u : View) → u.hands ≡ hands_without e v.hands → u.fresh ≡ v.fresh → u.used ≡ v.used → ((t : Token) → tokens t hands ≡ tokens_of_view v t)
+    → (0 < e.pool → IsTrue (stands (token_of e) hands)) → (0 < e.pool → 0 < many (is_entry e) v.hands) → (t : Token) → tokens t (without_entry e hands) ≡ tokens_of_view u t
 tokens-spent e hands v u hands_are fresh used all stands_there mine t = go (e.pool == 0) refl t
   where
     pos : (p : ℕ) → (p == 0) ≡ false → 0 < p
     pos zero is = absurd (cc)
     pos (suc p) is = omega arith
 
-    go : (c : Bool) → (e.pool == 0) ≡ c → (t : Token) → tokens t (without_entry e hands) ≡ tokens_in u t
+    go : (c : Bool) → (e.pool == 0) ≡ c → (t : Token) → tokens t (without_entry e hands) ≡ tokens_of_view u t
     go true is (Held p b r) = ap (λ (c : Bool). tokens (Held p b r) (if c then hands else take_out (token_of e) hands)) is ∙ (all (Held p b r) ∙ sym (ap (many (is_ref p b r)) hands_are ∙ ap (λ (c : Bool). many (is_ref p b r) (cond {A = List Entry} c v.hands (without (is_entry e) v.hands))) is))
     go true is (Loose p b false) = ap (λ (c : Bool). tokens (Loose p b false) (if c then hands else take_out (token_of e) hands)) is ∙ (all (Loose p b false) ∙ sym (ap (many (is_spot p b)) fresh))
     go true is (Loose p b true) = ap (λ (c : Bool). tokens (Loose p b true) (if c then hands else take_out (token_of e) hands)) is ∙ (all (Loose p b true) ∙ sym (ap (many (is_spot p b)) used))
@@ -146,7 +146,7 @@ module _ (l : LaneState) (e : Entry) (there : StandsIn e l) where
       go false is = read-has l.seat.me.0.contents e (l.holds.read e (in-view (pos e.pool is))).0
 
   module _ (a o x k : ℕ) (b : Body) (rec q : Rec) (u : View) (h : Log) (more : List ℕ)
-      (logs : u.logs ≡ logged q l.seat.me.0.logs) (alike : Alike l.seat.me.0 u) (hands : u.hands ≡ spent e l.seat.me.0.hands) (contents : u.contents ≡ l.seat.me.0.contents) (sees : SeesMore l.seat.me.0.seen u.seen)
+      (logs : u.logs ≡ logged q l.seat.me.0.logs) (alike : Alike l.seat.me.0 u) (hands : u.hands ≡ hands_without e l.seat.me.0.hands) (contents : u.contents ≡ l.seat.me.0.contents) (sees : SeesMore l.seat.me.0.seen u.seen)
       (saw : Saw l.sys.now (word.Queue a) l.seat.me.0 u x) (mark_is : mark_in (queue_at a) x ≡ k)
       (put : IsPut rec 0 l.log l.numbers.list h more) (says : item_of rec ≡ record { of = o; body = b }) (q_says : item_of q ≡ record { of = o; body = b }) (post : IsPost a k o e b) where
     on : OnTable l.sys.now (hands_after [] (told_in l)) l.seat.me.0 u rec 0 (for_object o (plain b)) (word.Queue a) k

@@ -30,10 +30,10 @@ use Rattle.qp_calls.proofs.HandLemmas.{held-first}
 use Rattle.qp_calls_log.specs.declared.log.Log.{Log}
 use Rattle.qp_table.specs.Lane.{lane_of, event_seen, has_content}
 use Rattle.qp_table.specs.Told.{freed}
-use Rattle.qp_shared_loops.specs.Ends.{seeing, IsReference, KnowsEvent, Takes}
+use Rattle.qp_shared_loops.specs.Ends.{seeing, IsReference, KnowsEvent, LoopTakes}
 use Rattle.qp_shared_lane.specs.declared.lane.LaneState.{LaneState}
 use Rattle.qp_shared_lane.specs.Lane.{state_view}
-use Rattle.qp_shared_lane.specs.More.{Grown, IsPut, SeesMore}
+use Rattle.qp_shared_lane.specs.More.{KeepsContents, IsPut, SeesMore}
 use Rattle.qp_shared_lane.specs.Holds.{IsRead}
 use Rattle.qp_shared_queues.proofs.Views.{Alike, sees-last, grown-still, read-still}
 use Rattle.qp_shared_queues.proofs.Lane.{then_view, ThenHolds, lane-mark-was, lane-mark-then}
@@ -78,7 +78,7 @@ content-last qs e event = or_right (eqb e.pool 0) _ (go qs)
     go [] = ap (λ (t : Bool). t || false) (λ i. (eq-eqb e.pool e.pool refl i && eq-eqb e.block e.block refl i) && eq-eqb e.name e.name refl i)
     go (q ∷ qs) = or_right (is_entry e q.entry) (list_any (λ (q : Content). is_entry e q.entry) (qs ++ record { entry = e; event = event } ∷ [])) (go qs)
 
-module _ (l : LaneState) (a x : ℕ) (r : HeldEntry) (u : View) (h : Log) (more : List ℕ) (rec : Rec) (c : Takes l.sys.now a (entry_of r) l.seat.me.0 x u) (put : IsPut rec 0 l.log l.numbers.list h more) (says : item_of rec ≡ record { of = a; body = Took (f_in x) (l_in x) (m_in x + 1) (entry_of r) }) where
+module _ (l : LaneState) (a x : ℕ) (r : HeldEntry) (u : View) (h : Log) (more : List ℕ) (rec : Rec) (c : LoopTakes l.sys.now a (entry_of r) l.seat.me.0 x u) (put : IsPut rec 0 l.log l.numbers.list h more) (says : item_of rec ≡ record { of = a; body = Took (f_in x) (l_in x) (m_in x + 1) (entry_of r) }) where
   abbrev e : model.Entry
   e = entry_of r
 
@@ -132,7 +132,7 @@ module _ (l : LaneState) (a x : ℕ) (r : HeldEntry) (u : View) (h : Log) (more 
     holds-it : u.hands ≡ l.seat.me.0.hands ++ e ∷ []
     holds-it = hands ∙ ap (λ (t : Bool). cond {A = List model.Entry} t l.seat.me.0.hands (l.seat.me.0.hands ++ e ∷ [])) off
 
-  knows : (t : Bool) → eqb e.pool 0 ≡ t → Grown l.seat.me.0 u × IsRead u × IsTrue (has_content u.contents e)
+  knows : (t : Bool) → eqb e.pool 0 ≡ t → KeepsContents l.seat.me.0 u × IsRead u × IsTrue (has_content u.contents e)
   knows true is =
       let same : u.contents ≡ l.seat.me.0.contents = ap (λ (z : View). z.contents) c.is ∙ ap (λ (t : Bool). (cond {A = View} t done (learned done e c.event)).contents) is in
       let mine : u.hands ≡ l.seat.me.0.hands = hands ∙ ap (λ (t : Bool). cond {A = List model.Entry} t l.seat.me.0.hands (l.seat.me.0.hands ++ e ∷ [])) is in

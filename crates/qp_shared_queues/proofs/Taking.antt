@@ -11,7 +11,7 @@ use Rattle.qp_model.specs.declared.bodies.Body.TheVariants.{Took}
 use Rattle.qp_model.specs.Record.{item_of}
 use Rattle.qp_model.specs.Told.{Event, Told, told_took, for_object}
 use Rattle.qp_table.specs.Counting.{many}
-use Rattle.qp_table.specs.Rule.{queue_at, mark_in, is_ref, is_spot, is_entry, event_in, Codable}
+use Rattle.qp_table.specs.Rule.{queue_at, mark_in, is_ref, is_spot, is_entry, event_of_content, Codable}
 use Rattle.qp_table.specs.After.{rec_of, logged, gained}
 use Rattle.qp_table.specs.QueueLaws.{f_in, l_in, m_in}
 use Rattle.qp_table.specs.declared.view.Content.{Content}
@@ -22,7 +22,7 @@ use Rattle.qp_calls.specs.LaneView.{AddsOf, Own, own_of}
 use Rattle.qp_calls.specs.Clauses.{ShowsQueue}
 use Rattle.qp_calls.specs.Tokens.{Token, Held, Loose, same_token, token_of, with_entry, hands_by, hands_after}
 use Rattle.qp_calls_log.specs.declared.log.Log.{Log}
-use Rattle.qp_table.specs.Lane.{event_read as event_known, event_seen, has_content, is_read, told_as, tokens, tokens_in}
+use Rattle.qp_table.specs.Lane.{event_read as event_known, event_seen, has_content, is_read, told_as, tokens, tokens_of_view}
 use Rattle.qp_table.specs.Telling.{Touches, OwnTold, Saw}
 use Rattle.qp_table.proofs.Gaining.{mark-rises}
 use Rattle.qp_table.proofs.Hands.{refs-in}
@@ -30,16 +30,16 @@ use Rattle.qp_table.specs.Told.{HasPlace}
 use Rattle.qp_shared_lane.specs.declared.lane.LaneState.{LaneState}
 use Rattle.qp_shared_lane.specs.Holds.{IsRead}
 use Rattle.qp_shared_lane.specs.Lane.{state_view}
-use Rattle.qp_shared_lane.specs.More.{Grown, IsPut, SeesMore, OnTable}
+use Rattle.qp_shared_lane.specs.More.{KeepsContents, IsPut, SeesMore, OnTable}
 use Rattle.qp_shared_queues.proofs.Views.{Alike, worn-still, placed-still, still-alike}
 use Rattle.qp_shared_queues.proofs.Lane.{then_view, ThenHolds, told_in, says-then, holds-then, adds-then, own-then}
 use Rattle.qp_shared_queues.proofs.Posting.{entries-same}
 
 -- the tokens with the entry's
-tokens-gained : (e : Entry) (hands : List Token) (v u : View) → u.hands ≡ gained e v.hands → u.fresh ≡ v.fresh → u.used ≡ v.used → ((t : Token) → tokens t hands ≡ tokens_in v t) → (t : Token) → tokens t (with_entry e hands) ≡ tokens_in u t
+tokens-gained : (e : Entry) (hands : List Token) (v u : View) → u.hands ≡ gained e v.hands → u.fresh ≡ v.fresh → u.used ≡ v.used → ((t : Token) → tokens t hands ≡ tokens_of_view v t) → (t : Token) → tokens t (with_entry e hands) ≡ tokens_of_view u t
 tokens-gained e hands v u hands_are fresh used all t = go (e.pool == 0) refl t
   where
-    go : (c : Bool) → (e.pool == 0) ≡ c → (t : Token) → tokens t (with_entry e hands) ≡ tokens_in u t
+    go : (c : Bool) → (e.pool == 0) ≡ c → (t : Token) → tokens t (with_entry e hands) ≡ tokens_of_view u t
     go true is (Held p b r) = ap (λ (c : Bool). tokens (Held p b r) (if c then hands else token_of e ∷ hands)) is ∙ (all (Held p b r) ∙ sym (ap (many (is_ref p b r)) hands_are ∙ ap (λ (c : Bool). many (is_ref p b r) (cond {A = List Entry} c v.hands (v.hands ++ e ∷ []))) is))
     go true is (Loose p b false) = ap (λ (c : Bool). tokens (Loose p b false) (if c then hands else token_of e ∷ hands)) is ∙ (all (Loose p b false) ∙ sym (ap (many (is_spot p b)) fresh))
     go true is (Loose p b true) = ap (λ (c : Bool). tokens (Loose p b true) (if c then hands else token_of e ∷ hands)) is ∙ (all (Loose p b true) ∙ sym (ap (many (is_spot p b)) used))
@@ -66,7 +66,7 @@ known-more [] q d h = absurd (cc)
 known-more (p ∷ ps) q d h = go (is_entry d p.entry) h (known-more ps q d)
   where
     go : (t : Bool) → (t || list_any (λ (p : Content). is_entry d p.entry) ps) ≡ true → (list_any (λ (p : Content). is_entry d p.entry) ps ≡ true → event_known (ps ++ q ∷ []) d ≡ event_known ps d)
-        → cond {A = Event} t (event_in p.event) (event_known (ps ++ q ∷ []) d) ≡ cond {A = Event} t (event_in p.event) (event_known ps d)
+        → cond {A = Event} t (event_of_content p.event) (event_known (ps ++ q ∷ []) d) ≡ cond {A = Event} t (event_of_content p.event) (event_known ps d)
     go true h r = refl
     go false h r = r h
 
@@ -78,7 +78,7 @@ event-more qs q d h = go (eqb d.pool 0) h
     go true h = refl
     go false h = known-more qs q d h
 
-pub grown-more : (v u : View) (q : Content) → u.contents ≡ v.contents ++ q ∷ [] → Grown v u
+pub grown-more : (v u : View) (q : Content) → u.contents ≡ v.contents ++ q ∷ [] → KeepsContents v u
 grown-more v u q is d h = (
   subst (λ (qs : List Content). IsTrue (has_content qs d)) (sym is) (has-more v.contents q d h),
   ap (λ (qs : List Content). event_seen qs d) is ∙ event-more v.contents q d h,
@@ -118,7 +118,7 @@ pub takes-raised : (x : ℕ) → (f_in (x + 4398046511104) ≡ f_in x) × (l_in 
 takes-raised x = (omega arith, omega arith, omega arith)
 
 module _ (l : LaneState) (a x : ℕ) (e : Entry) (f lc m : ℕ) (rec : Rec) (u : View) (h : Log) (more : List ℕ)
-    (logs : u.logs ≡ logged (rec_of 5 a (f ∷ lc ∷ m ∷ e.pool ∷ e.block ∷ e.name ∷ [])) l.seat.me.0.logs) (alike : Alike l.seat.me.0 u) (hands : u.hands ≡ gained e l.seat.me.0.hands) (grown : Grown l.seat.me.0 u) (read : IsRead u) (has : IsTrue (has_content u.contents e)) (sees : SeesMore l.seat.me.0.seen u.seen)
+    (logs : u.logs ≡ logged (rec_of 5 a (f ∷ lc ∷ m ∷ e.pool ∷ e.block ∷ e.name ∷ [])) l.seat.me.0.logs) (alike : Alike l.seat.me.0 u) (hands : u.hands ≡ gained e l.seat.me.0.hands) (grown : KeepsContents l.seat.me.0 u) (read : IsRead u) (has : IsTrue (has_content u.contents e)) (sees : SeesMore l.seat.me.0.seen u.seen)
     (saw : Saw l.sys.now (word.Queue a) l.seat.me.0 u x) (mark_is : mark_in (queue_at a) x ≡ f + lc + m)
     (put : IsPut rec 0 l.log l.numbers.list h more) (says : item_of rec ≡ record { of = a; body = Took f lc m e }) where
   abbrev g : Told

@@ -12,18 +12,18 @@ use Rattle.qp_table.specs.declared.view.Glance.{Glance}
 use Rattle.qp_table.specs.declared.view.View.{View}
 use Rattle.qp_calls.specs.Tokens.{Token, Held, Loose}
 use Rattle.qp_table.specs.Words.{mark_seen}
-use Rattle.qp_table.specs.Lane.{event_seen, has_content, is_read, tokens_in}
+use Rattle.qp_table.specs.Lane.{event_seen, has_content, is_read, tokens_of_view}
 use Rattle.qp_table.specs.Asked.{is_unfinished, is_begun}
 use Rattle.qp_shared_lane.specs.Holds.{IsRead, IsStill, IsPlaced, IsWorn}
-use Rattle.qp_shared_lane.specs.More.{Grown, SeesMore}
+use Rattle.qp_shared_lane.specs.More.{KeepsContents, SeesMore}
 
 -- the same tokens
-pub same-tokens : (v u : View) → u.hands ≡ v.hands → u.fresh ≡ v.fresh → u.used ≡ v.used → (t : Token) → tokens_in u t ≡ tokens_in v t
+pub same-tokens : (v u : View) → u.hands ≡ v.hands → u.fresh ≡ v.fresh → u.used ≡ v.used → (t : Token) → tokens_of_view u t ≡ tokens_of_view v t
 same-tokens v u hands fresh used (Held p b k) = ap (many (is_ref p b k)) hands
 same-tokens v u hands fresh used (Loose p b false) = ap (many (is_spot p b)) fresh
 same-tokens v u hands fresh used (Loose p b true) = ap (many (is_spot p b)) used
 
-pub grown-still : (v u : View) → u.contents ≡ v.contents → Grown v u
+pub grown-still : (v u : View) → u.contents ≡ v.contents → KeepsContents v u
 grown-still v u e d h = (subst (λ (qs : List Content). IsTrue (has_content qs d)) (sym e) h, ap (λ (qs : List Content). event_seen qs d) e)
 
 pub read-still : (v u : View) → u.contents ≡ v.contents → ((e : Entry) → 0 < many (is_entry e) u.hands → 0 < many (is_entry e) v.hands) → IsRead v → IsRead u

@@ -5,7 +5,7 @@ ghost use Rattle.std.specs.Bool.{MatchBool};
 ghost use Rattle.qp_model.specs.declared.words.Word.TheVariants as word;
 ghost use Rattle.qp_model.specs.Record.{entry, item_of};
 ghost use Rattle.qp_model.specs.WordLaw.{is_object};
-ghost use Rattle.qp_calls.specs.Clauses.{ClaimsEntry, ClaimsFront, EntryStands, Tries, draws_claimed};
+ghost use Rattle.qp_calls.specs.Clauses.{ClaimsEntry, ClaimsFront, EntryStands, FewTries, draws_claimed};
 ghost use Rattle.qp_shared_lane.specs.Lane.{state_view};
 ghost use Rattle.qp_shared_queues.specs.Bodies.{IsPutAs, lifo_body, post_body};
 
@@ -105,7 +105,7 @@ pub fn claim<L: Ledger>(
     requires object { IsTrue (is_object (state_view lane.old).sys to) }
     requires stands { EntryStands e (state_view lane.old) }
     ensures claims { ClaimsEntry to e margin (state_view lane.old) (state_view lane.new) result }
-    ensures tries { Tries (word.Queue to) (draws_claimed result)
+    ensures tries { FewTries (word.Queue to) (draws_claimed result)
         steps.old steps.new (state_view lane.old) (state_view lane.new) }
 {
     let ring = lane.rings.ring_of(to);
@@ -144,7 +144,7 @@ pub fn lifo<L: Ledger>(lane: &mut LaneState<'_>, e: HeldEntry, steps: &mut Steps
     requires serves { IsTrue ((state_view lane.old).serves (state_view lane.old).by) }
     requires stands { EntryStands e (state_view lane.old) }
     ensures claims { ClaimsFront e (state_view lane.old) (state_view lane.new) result }
-    ensures tries { Tries (word.Queue (state_view lane.old).by) (draws_claimed result)
+    ensures tries { FewTries (word.Queue (state_view lane.old).by) (draws_claimed result)
         steps.old steps.new (state_view lane.old) (state_view lane.new) }
 {
     let ring = lane.rings.ring_of(lane.by);

@@ -19,7 +19,7 @@ use Rattle.qp_table.specs.Rule.{is_serve, mark_in}
 use Rattle.qp_table.specs.After.{rec_of}
 use Rattle.qp_table.specs.declared.view.Glance.{Glance}
 use Rattle.qp_calls.specs.LaneView.{LaneView, AddsTold}
-use Rattle.qp_calls.specs.Clauses.{Subscribing, Unsubscribing, ReadsSubscribers, Owns, Arms, Disarms, Rearms, TicksOne, Tries, draws_disarmed, draws_ticked}
+use Rattle.qp_calls.specs.Clauses.{Subscribing, Unsubscribing, ReadsSubscribers, Owns, CallArms, CallDisarms, CallRearms, AnswersTick, FewTries, draws_disarmed, draws_ticked}
 use Rattle.qp_calls.specs.declared.answers.Arm.TheVariants as armed
 use Rattle.qp_calls.specs.declared.answers.Tick as ticking
 use Rattle.qp_calls.specs.declared.answers.Tick.TheVariants as ticked
@@ -32,11 +32,11 @@ use Rattle.qp_side.specs.Rule.{signal_at, member_in}
 use Rattle.qp_side.specs.Told.{last_seen}
 use Rattle.qp_side.specs.declared.view.SideView.{SideView}
 use Rattle.qp_side.specs.Seat.{side_recs, serves_object, OwnsTimer, SideAdds}
-use Rattle.qp_side.specs.Calls.{ObjectComes, IsThere, ObjectGoes, IsAway, ShowsSet, IsArmed, WasArmed, IsIdle, IsDisarmed, RearmsTimer, IsDown, IsFired, SideTries, own_draw}
+use Rattle.qp_side.specs.Calls.{ObjectComes, IsThere, ObjectGoes, SideIsAway, ShowsSet, IsArmed, WasArmed, IsIdleTimer, IsDisarmed, RearmsTimer, IsDown, IsFired, SideTries, own_draw}
 use Rattle.qp_shared_lane.specs.declared.lane.LaneState.{LaneState}
 use Rattle.qp_shared_lane.specs.Holds.{LaneHolds, SubscriberIs, borne_out, member_over, side_mark}
-use Rattle.qp_shared_lane.specs.Lane.{lane_with, world_in, world_of, state_view}
-use Rattle.qp_shared_lane.specs.Laws.{Kept}
+use Rattle.qp_shared_lane.specs.Lane.{lane_with, world_of_lane, world_of, state_view}
+use Rattle.qp_shared_lane.specs.Laws.{LaneGainsRecord}
 use Rattle.qp_shared_lane.specs.More.{IsPut}
 use Rattle.qp_shared_lane.proofs.LawLemmas.{side_records_keep_the_lane, spare_gives_room, own_members_are_known}
 
@@ -134,15 +134,15 @@ module _ (l : LaneState) where
 
   module _ (z : SideView) (h : Log) (more : List ℕ) (rec : Rec) (number : ℕ) (put : IsPut rec number l.log l.numbers.list h more) (spare : h.spare + 1 ≡ l.log.spare) where
     abbrev now : LaneView
-    now = lane_with (world_in l) sys l.by h more l.seat.me.0 z
+    now = lane_with (world_of_lane l) sys l.by h more l.seat.me.0 z
 
     abbrev pub HoldsNow : Type 0
     HoldsNow = LaneHolds sys l.count l.ceiling h more l.seat.me.0 z
 
     kept : (o : ℕ) (t : Told) (i : Item) (w : Word) (k : ℕ) → item_of rec ≡ i → ((ev : Entry → Event) → told_as ev i number ≡ for_object o t) → on_side (touch_of o t.body) ≡ true → is_on_table w ≡ false → Touches w k (for_object o t)
         → SubscriberIs (λ a. list_any (is_serve a) l.seat.me.0.serves) (lane_items l.log.recs.items) o t.body t.known → ((seen : List Glance) → IsTrue (borne_out sys seen (for_object o t))) → SideAdds sys w k rec s z
-        → Kept (world_in l) sys l.by l.count l.ceiling l.log l.numbers.list l.seat.me.0 s h more l.seat.me.0 z l.ceiling (for_object o t)
-    kept o t i w k says told on off touches subscriber borne adds = side_records_keep_the_lane (world_in l) sys l.by l.count l.ceiling l.log l.numbers.list l.seat.me.0 s h more z rec number (for_object o t) w k l.holds put (record {
+        → LaneGainsRecord (world_of_lane l) sys l.by l.count l.ceiling l.log l.numbers.list l.seat.me.0 s h more l.seat.me.0 z l.ceiling (for_object o t)
+    kept o t i w k says told on off touches subscriber borne adds = side_records_keep_the_lane (world_of_lane l) sys l.by l.count l.ceiling l.log l.numbers.list l.seat.me.0 s h more z rec number (for_object o t) w k l.holds put (record {
       as_seen = rec;
       says = refl;
       logs = adds.logs;
@@ -188,7 +188,7 @@ module _ (l : LaneState) where
             (k.holds, (a.n, record { grows = k.gains; spare = spare }, omega arith))
         subscribed false at a = let k = shown true a.n at a.is a.adds a.was in (k.0, (a.n, k.1))
 
-        pub unsubscribed : (b : Bool) → number ≡ 0 → MatchBool b (ObjectGoes sys l.by sig s rec z) (IsAway sys l.by sig s rec z) → HoldsNow × Unsubscribing sig (state_view l) now b
+        pub unsubscribed : (b : Bool) → number ≡ 0 → MatchBool b (ObjectGoes sys l.by sig s rec z) (SideIsAway sys l.by sig s rec z) → HoldsNow × Unsubscribing sig (state_view l) now b
         unfolding lane_of
         unsubscribed true at a = let k = kept l.by (plain (Unsub sig a.n)) _ (word.Signal sig) (suc a.n) (ap item_of a.is ∙ unsub-says l.by sig a.n) (λ ev. refl) refl refl (record { marks = λ y. refl; only = λ y. refl }) (mine, change a.n a.draws.up) (λ seen. refl) a.draws.adds in
             let e = a.draws.adds.marks.here in let up = a.draws.up in
@@ -201,55 +201,55 @@ module _ (l : LaneState) where
           (k.holds, subst (ReadsSubscribers sig (state_view l) now) (sym same) (a.n, record { grows = k.gains; spare = spare }, a.known))
 
     module _ (t : ℕ) where
-      pub arms : (ticks interval : ℕ) → IsArmed sys l.by t ticks interval s rec z → HoldsNow × Arms t ticks interval (state_view l) now armed.Done
+      pub arms : (ticks interval : ℕ) → IsArmed sys l.by t ticks interval s rec z → HoldsNow × CallArms t ticks interval (state_view l) now armed.Done
       unfolding lane_of
       arms ticks interval a = let k = kept l.by (plain (Arm t a.n ticks interval)) _ (word.Timer t) (suc a.n) (ap item_of a.is ∙ arm-says l.by t a.n ticks interval) (λ ev. refl) refl refl (record { marks = λ y. refl; only = λ y. refl }) tt (λ seen. refl) a.draws.adds in
           let e = a.draws.adds.marks.here in let up = a.draws.up in (k.holds, (a.n, record { grows = k.gains; spare = spare }, omega arith))
 
-      pub arms-not : (ticks interval n c : ℕ) (a : WasArmed sys l.by t s rec z) → n ≡ a.n → c ≡ a.counter → HoldsNow × Arms t ticks interval (state_view l) now (armed.Armed n c)
+      pub arms-not : (ticks interval n c : ℕ) (a : WasArmed sys l.by t s rec z) → n ≡ a.n → c ≡ a.counter → HoldsNow × CallArms t ticks interval (state_view l) now (armed.Armed n c)
       unfolding lane_of
       arms-not ticks interval n c a n_is c_is = let k = kept l.by (plain (Armed t a.n a.counter)) _ (word.Timer t) a.n (ap item_of a.is ∙ armed-says l.by t a.n a.counter) (λ ev. refl) refl refl (record { marks = λ y. refl; only = λ y. refl }) tt (λ seen. refl) a.adds in
-          (k.holds, subst (λ (q : ℕ × ℕ). Arms t ticks interval (state_view l) now (armed.Armed q.0 q.1)) (λ i. (sym n_is i, sym c_is i)) (record { grows = k.gains; spare = spare }, a.some))
+          (k.holds, subst (λ (q : ℕ × ℕ). CallArms t ticks interval (state_view l) now (armed.Armed q.0 q.1)) (λ i. (sym n_is i, sym c_is i)) (record { grows = k.gains; spare = spare }, a.some))
 
-      idles : (a : IsIdle sys l.by t s rec z) → HoldsNow × AddsTold (plain (Idle t a.n) ∷ []) (state_view l) now
+      idles : (a : IsIdleTimer sys l.by t s rec z) → HoldsNow × AddsTold (plain (Idle t a.n) ∷ []) (state_view l) now
       unfolding lane_of
       idles a = let k = kept l.by (plain (Idle t a.n)) _ (word.Timer t) a.n (ap item_of a.is ∙ idle-says l.by t a.n) (λ ev. refl) refl refl (record { marks = λ y. refl; only = λ y. refl }) tt (λ seen. refl) a.adds in (k.holds, record { grows = k.gains; spare = spare })
 
-      pub disarms-not : IsIdle sys l.by t s rec z → HoldsNow × Disarms t (state_view l) now 0
+      pub disarms-not : IsIdleTimer sys l.by t s rec z → HoldsNow × CallDisarms t (state_view l) now 0
       disarms-not a = let k = idles a in (k.0, (a.n, k.1))
 
-      pub disarms : (former : ℕ) (a : IsDisarmed sys l.by t s rec z) → former ≡ a.former → HoldsNow × Disarms t (state_view l) now former
+      pub disarms : (former : ℕ) (a : IsDisarmed sys l.by t s rec z) → former ≡ a.former → HoldsNow × CallDisarms t (state_view l) now former
       unfolding lane_of
       disarms zero a same = let some = a.some in absurd (omega arith)
       disarms (suc c) a same = let k = kept l.by (plain (Disarm t a.n (suc c))) _ (word.Timer t) (suc a.n) (ap item_of a.is ∙ (disarm-says l.by t a.n a.former ∙ ap (λ f. record { of = l.by; body = Disarm t a.n f }) (sym same))) (λ ev. refl) refl refl (record { marks = λ y. refl; only = λ y. refl }) tt (λ seen. refl) a.draws.adds in
           let e = a.draws.adds.marks.here in let up = a.draws.up in (k.holds, (a.n, record { grows = k.gains; spare = spare }, omega arith))
 
-      pub rearms : (ticks former : ℕ) (a : RearmsTimer sys l.by t ticks s rec z) → former ≡ a.former → HoldsNow × Rearms t ticks (state_view l) now former
+      pub rearms : (ticks former : ℕ) (a : RearmsTimer sys l.by t ticks s rec z) → former ≡ a.former → HoldsNow × CallRearms t ticks (state_view l) now former
       unfolding lane_of
       rearms ticks former a same = let k = kept l.by (plain (Rearm t a.n a.former ticks)) _ (word.Timer t) (suc a.n) (ap item_of a.is ∙ rearm-says l.by t a.n a.former ticks) (λ ev. refl) refl refl (record { marks = λ y. refl; only = λ y. refl }) tt (λ seen. refl) a.draws.adds in
-          let e = a.draws.adds.marks.here in let up = a.draws.up in (k.holds, subst (Rearms t ticks (state_view l) now) (sym same) (a.n, record { grows = k.gains; spare = spare }, omega arith))
+          let e = a.draws.adds.marks.here in let up = a.draws.up in (k.holds, subst (CallRearms t ticks (state_view l) now) (sym same) (a.n, record { grows = k.gains; spare = spare }, omega arith))
 
-      ticks-not : IsIdle sys l.by t s rec z → HoldsNow × TicksOne t (state_view l) now ticked.Idle
+      ticks-not : IsIdleTimer sys l.by t s rec z → HoldsNow × AnswersTick t (state_view l) now ticked.Idle
       ticks-not a = let k = idles a in (k.0, (a.n, k.1))
 
-      ticks-down : IsDown sys t s rec z → HoldsNow × TicksOne t (state_view l) now ticked.Down
+      ticks-down : IsDown sys t s rec z → HoldsNow × AnswersTick t (state_view l) now ticked.Down
       unfolding lane_of
       ticks-down a = let k = kept 0 (plain (Tick t a.n a.counter)) _ (word.Timer t) (suc a.n) (ap item_of a.is ∙ tick-says t a.n a.counter) (λ ev. refl) refl refl (record { marks = λ y. refl; only = λ y. refl }) tt (λ seen. refl) a.draws.adds in
           let e = a.draws.adds.marks.here in let up = a.draws.up in (k.holds, (a.counter, a.some, (a.n, record { grows = k.gains; spare = spare }, omega arith)))
 
-      fires : IsFired sys t s rec z → HoldsNow × TicksOne t (state_view l) now ticked.Fired
+      fires : IsFired sys t s rec z → HoldsNow × AnswersTick t (state_view l) now ticked.Fired
       unfolding lane_of
       fires a = let k = kept 0 (plain (Fire t a.n a.reload)) _ (word.Timer t) (suc a.n) (ap item_of a.is ∙ fire-says t a.n a.reload) (λ ev. refl) refl refl (record { marks = λ y. refl; only = λ y. refl }) tt (λ seen. refl) a.draws.adds in
           let e = a.draws.adds.marks.here in let up = a.draws.up in (k.holds, (a.reload, (a.n, record { grows = k.gains; spare = spare }, omega arith)))
 
       -- a tick's answer is that of its record
-      pub ticks : (answer : ticking.Tick) (idle fired : Bool) → (rec.kind ≡ 37 → answer ≡ ticked.Idle) → (rec.kind ≡ 39 → answer ≡ ticked.Fired) → (rec.kind ≡ 38 → answer ≡ ticked.Down) → MatchBool idle (IsIdle sys l.by t s rec z) (MatchBool fired (IsFired sys t s rec z) (IsDown sys t s rec z))
-          → HoldsNow × TicksOne t (state_view l) now answer × (own_draw rec.kind ≡ draws_ticked answer)
-      ticks answer true fired i f d a = let e = i (ap (λ (r : Rec). r.kind) a.is) in let k = ticks-not a in (k.0, subst (TicksOne t (state_view l) now) (sym e) k.1, ap (λ (r : Rec). own_draw r.kind) a.is ∙ ap draws_ticked (sym e))
-      ticks answer false true i f d a = let e = f (ap (λ (r : Rec). r.kind) a.is) in let k = fires a in (k.0, subst (TicksOne t (state_view l) now) (sym e) k.1, ap (λ (r : Rec). own_draw r.kind) a.is ∙ ap draws_ticked (sym e))
-      ticks answer false false i f d a = let e = d (ap (λ (r : Rec). r.kind) a.is) in let k = ticks-down a in (k.0, subst (TicksOne t (state_view l) now) (sym e) k.1, ap (λ (r : Rec). own_draw r.kind) a.is ∙ ap draws_ticked (sym e))
+      pub ticks : (answer : ticking.Tick) (idle fired : Bool) → (rec.kind ≡ 37 → answer ≡ ticked.Idle) → (rec.kind ≡ 39 → answer ≡ ticked.Fired) → (rec.kind ≡ 38 → answer ≡ ticked.Down) → MatchBool idle (IsIdleTimer sys l.by t s rec z) (MatchBool fired (IsFired sys t s rec z) (IsDown sys t s rec z))
+          → HoldsNow × AnswersTick t (state_view l) now answer × (own_draw rec.kind ≡ draws_ticked answer)
+      ticks answer true fired i f d a = let e = i (ap (λ (r : Rec). r.kind) a.is) in let k = ticks-not a in (k.0, subst (AnswersTick t (state_view l) now) (sym e) k.1, ap (λ (r : Rec). own_draw r.kind) a.is ∙ ap draws_ticked (sym e))
+      ticks answer false true i f d a = let e = f (ap (λ (r : Rec). r.kind) a.is) in let k = fires a in (k.0, subst (AnswersTick t (state_view l) now) (sym e) k.1, ap (λ (r : Rec). own_draw r.kind) a.is ∙ ap draws_ticked (sym e))
+      ticks answer false false i f d a = let e = d (ap (λ (r : Rec). r.kind) a.is) in let k = ticks-down a in (k.0, subst (AnswersTick t (state_view l) now) (sym e) k.1, ap (λ (r : Rec). own_draw r.kind) a.is ∙ ap draws_ticked (sym e))
 
-      pub tried : (own before after : ℕ) → own_draw rec.kind ≡ own → SideTries sys (word.Timer t) rec before after s z → Tries (word.Timer t) own before after (state_view l) now
+      pub tried : (own before after : ℕ) → own_draw rec.kind ≡ own → SideTries sys (word.Timer t) rec before after s z → FewTries (word.Timer t) own before after (state_view l) now
       unfolding lane_of
       tried own before after is a = record { up = a.up; few = let f = a.few in omega arith }
 
@@ -266,7 +266,7 @@ module _ (sys : System) (o : ℕ) (s : SideView) (rec : Rec) (z : SideView) wher
   subscribe-plain sig true a = plain-by rec _ (ap item_of a.is ∙ sub-says o sig a.n) refl
   subscribe-plain sig false a = plain-by rec _ (ap item_of a.is ∙ same-says o sig a.n) refl
 
-  pub unsubscribe-plain : (sig : ℕ) (b : Bool) → MatchBool b (ObjectGoes sys o sig s rec z) (IsAway sys o sig s rec z) → is_plain (item_of rec).body ≡ true
+  pub unsubscribe-plain : (sig : ℕ) (b : Bool) → MatchBool b (ObjectGoes sys o sig s rec z) (SideIsAway sys o sig s rec z) → is_plain (item_of rec).body ≡ true
   unsubscribe-plain sig true a = plain-by rec _ (ap item_of a.is ∙ unsub-says o sig a.n) refl
   unsubscribe-plain sig false a = plain-by rec _ (ap item_of a.is ∙ same-says o sig a.n) refl
 
@@ -282,13 +282,13 @@ module _ (sys : System) (o : ℕ) (s : SideView) (rec : Rec) (z : SideView) wher
   pub disarm-plain : (t : ℕ) → IsDisarmed sys o t s rec z → is_plain (item_of rec).body ≡ true
   disarm-plain t a = plain-by rec _ (ap item_of a.is ∙ disarm-says o t a.n a.former) refl
 
-  pub idle-plain : (t : ℕ) → IsIdle sys o t s rec z → is_plain (item_of rec).body ≡ true
+  pub idle-plain : (t : ℕ) → IsIdleTimer sys o t s rec z → is_plain (item_of rec).body ≡ true
   idle-plain t a = plain-by rec _ (ap item_of a.is ∙ idle-says o t a.n) refl
 
   pub rearm-plain : (t ticks : ℕ) → RearmsTimer sys o t ticks s rec z → is_plain (item_of rec).body ≡ true
   rearm-plain t ticks a = plain-by rec _ (ap item_of a.is ∙ rearm-says o t a.n a.former ticks) refl
 
-  pub tick-plain : (t : ℕ) (idle fired : Bool) → MatchBool idle (IsIdle sys o t s rec z) (MatchBool fired (IsFired sys t s rec z) (IsDown sys t s rec z)) → is_plain (item_of rec).body ≡ true
+  pub tick-plain : (t : ℕ) (idle fired : Bool) → MatchBool idle (IsIdleTimer sys o t s rec z) (MatchBool fired (IsFired sys t s rec z) (IsDown sys t s rec z)) → is_plain (item_of rec).body ≡ true
   tick-plain t true fired a = idle-plain t a
   tick-plain t false true a = plain-by rec _ (ap item_of a.is ∙ fire-says t a.n a.reload) refl
   tick-plain t false false a = plain-by rec _ (ap item_of a.is ∙ tick-says t a.n a.counter) refl

@@ -13,10 +13,10 @@ use Rattle.qp_model.specs.History.{lane_items}
 use Rattle.atomic_table.specs.Seated.{TableId}
 use Rattle.qp_table.specs.Lane.{lane_of}
 use Rattle.qp_side.specs.declared.view.SideView.{SideView}
-use Rattle.qp_side.specs.Calls.{HandsIn, FindsCode}
+use Rattle.qp_side.specs.Calls.{SideHandsIn, FindsCode}
 use Rattle.qp_shared_lane.specs.declared.lane.LaneState.{LaneState}
 use Rattle.qp_shared_lane.specs.Holds.{LaneHolds}
-use Rattle.qp_shared_lane.specs.Lane.{lane_with, world_in, world_of, state_view}
+use Rattle.qp_shared_lane.specs.Lane.{lane_with, world_of_lane, world_of, state_view}
 use Rattle.qp_shared_lane.proofs.LawLemmas.{logs_keep_the_lane, lanes_tell_their_logs}
 
 module _ (l : LaneState) (code : ℕ) (may : MayStop code (state_view l)) where
@@ -24,7 +24,7 @@ module _ (l : LaneState) (code : ℕ) (may : MayStop code (state_view l)) where
   within = note.code-within (state_view l) code may
 
   pub caused : is_caused_in (lane_items l.log.recs.items) code ≡ true
-  caused = note.stop-caused l.log (state_view l) code (lanes_tell_their_logs (world_in l) l.sys.now l.by l.count l.ceiling l.log l.numbers.list l.seat.me.0 l.side.seat.me.0 l.holds) may
+  caused = note.stop-caused l.log (state_view l) code (lanes_tell_their_logs (world_of_lane l) l.sys.now l.by l.count l.ceiling l.log l.numbers.list l.seat.me.0 l.side.seat.me.0 l.holds) may
 
 code-more : (code : ℕ) (xs : List ℕ) → 0 < code → codes_in (code ∷ xs) ≡ code ∷ codes_in xs
 code-more zero xs some = absurd (omega (arith, some))
@@ -39,10 +39,10 @@ module _ (l : LaneState) (z : SideView) where
   lane_then h side = lane_with (world_of l.words.now.shared.table_id side l.count) l.sys.now l.by h l.numbers.list l.seat.me.0 z
 
   module _ (h : Log) (recs : h.recs.items ≡ l.log.recs.items) (spare : h.spare ≡ l.log.spare) (side : TableId) (same : side ≡ l.side.words.now.shared.table_id) where
-    pub handed : (code : ℕ) → HandsIn code s z → h.stops.list ≡ code ∷ l.log.stops.list → h.answered.list ≡ l.log.answered.list → LaneHolds l.sys.now l.count l.ceiling h l.numbers.list l.seat.me.0 z × Stops code (state_view l) (lane_then h side)
+    pub handed : (code : ℕ) → SideHandsIn code s z → h.stops.list ≡ code ∷ l.log.stops.list → h.answered.list ≡ l.log.answered.list → LaneHolds l.sys.now l.count l.ceiling h l.numbers.list l.seat.me.0 z × Stops code (state_view l) (lane_then h side)
     unfolding lane_of
     handed code is stops answered =
-        let k = logs_keep_the_lane (world_in l) l.sys.now l.by l.count l.ceiling l.log l.numbers.list l.seat.me.0 s h z l.holds recs (ap (λ (x : SideView). x.view) is)
+        let k = logs_keep_the_lane (world_of_lane l) l.sys.now l.by l.count l.ceiling l.log l.numbers.list l.seat.me.0 s h z l.holds recs (ap (λ (x : SideView). x.view) is)
         (stops ∙ (ap (λ xs. code ∷ xs) l.holds.stops ∙ sym (ap (λ (x : SideView). x.stops) is))) (ap codes_in answered ∙ (l.holds.answered ∙ sym (ap (λ (x : SideView). x.answered) is))) in
         (k.holds, subst (λ x. Stops code (state_view l) (lane_then h x)) (sym same) (k.is ∙ (λ i. record (state_view l) { spare = spare i; stops = stops i; answered = codes_in (answered i); asked = length (answered i) })))
 
@@ -62,14 +62,14 @@ module _ (l : LaneState) (z : SideView) where
     asked-by : (r : Option ℕ) → FindsCode s z r → h.stops.list ≡ l.log.stops.list → h.answered.list ≡ unwrap_or r 0 ∷ l.log.answered.list → Stopped (state_view l) (lane_then h l.side.words.now.shared.table_id) r
     unfolding lane_of
     asked-by None is stops answered =
-        let k = logs_keep_the_lane (world_in l) l.sys.now l.by l.count l.ceiling l.log l.numbers.list l.seat.me.0 s h z l.holds recs (view-then None is) (stops-then None is stops) (codes-then None is answered) in (
+        let k = logs_keep_the_lane (world_of_lane l) l.sys.now l.by l.count l.ceiling l.log l.numbers.list l.seat.me.0 s h z l.holds recs (view-then None is) (stops-then None is stops) (codes-then None is answered) in (
           k.is ∙ (λ i. record (state_view l) { spare = spare i; stops = stops i; answered = codes_in (answered i); asked = length (answered i) }),
           l.holds.stops ∙ is.1,
           l.holds.answered ∙ is.2,
           refl,
         )
     asked-by (Some code) is stops answered =
-        let k = logs_keep_the_lane (world_in l) l.sys.now l.by l.count l.ceiling l.log l.numbers.list l.seat.me.0 s h z l.holds recs (view-then (Some code) is) (stops-then (Some code) is stops) (codes-then (Some code) is answered) in (
+        let k = logs_keep_the_lane (world_of_lane l) l.sys.now l.by l.count l.ceiling l.log l.numbers.list l.seat.me.0 s h z l.holds recs (view-then (Some code) is) (stops-then (Some code) is stops) (codes-then (Some code) is answered) in (
           k.is ∙ (λ i. record (state_view l) { spare = spare i; stops = stops i; answered = (ap codes_in answered ∙ code-more code l.log.answered.list is.1) i; asked = length (answered i) }),
           is.1,
           is.2,
@@ -79,6 +79,6 @@ module _ (l : LaneState) (z : SideView) where
     -- A question, and what it found.
     pub asked : (r : Option ℕ) → FindsCode s z r → h.stops.list ≡ l.log.stops.list → h.answered.list ≡ unwrap_or r 0 ∷ l.log.answered.list → LaneHolds l.sys.now l.count l.ceiling h l.numbers.list l.seat.me.0 z × Stopped (state_view l) (lane_then h side) r
     asked r is stops answered = (
-      (logs_keep_the_lane (world_in l) l.sys.now l.by l.count l.ceiling l.log l.numbers.list l.seat.me.0 s h z l.holds recs (view-then r is) (stops-then r is stops) (codes-then r is answered)).holds,
+      (logs_keep_the_lane (world_of_lane l) l.sys.now l.by l.count l.ceiling l.log l.numbers.list l.seat.me.0 s h z l.holds recs (view-then r is) (stops-then r is stops) (codes-then r is answered)).holds,
       subst (λ x. Stopped (state_view l) (lane_then h x) r) (sym same) (asked-by r is stops answered),
     )

@@ -3,7 +3,7 @@
 ghost use Rattle.std.specs.Prelude.{◌≡◌, ◌<◌, IsTrue};
 ghost use Rattle.qp_model.specs.WordLaw.{is_timer};
 ghost use Rattle.qp_model.specs.declared.words.Word.TheVariants as word;
-ghost use Rattle.qp_calls.specs.Clauses.{Arms, Disarms, Owns, Rearms, TicksOne, Tries, draws_armed, draws_disarmed, draws_ticked};
+ghost use Rattle.qp_calls.specs.Clauses.{CallArms, CallDisarms, Owns, CallRearms, AnswersTick, FewTries, draws_armed, draws_disarmed, draws_ticked};
 ghost use Rattle.qp_shared_lane.specs.Lane.{state_view};
 
 use qp_base::Steps;
@@ -23,8 +23,8 @@ pub fn arm<L: Ledger>(
     requires room { 0 < (state_view lane.old).spare }
     requires some { 0 < ticks }
     requires owns { Owns (state_view lane.old) t }
-    ensures arms { Arms t ticks interval (state_view lane.old) (state_view lane.new) result }
-    ensures tries { Tries (word.Timer t) (draws_armed result) steps.old steps.new (state_view lane.old) (state_view lane.new) }
+    ensures arms { CallArms t ticks interval (state_view lane.old) (state_view lane.new) result }
+    ensures tries { FewTries (word.Timer t) (draws_armed result) steps.old steps.new (state_view lane.old) (state_view lane.new) }
 {
     let rec = lane.side.arm(lane.by, t, ticks, interval, steps);
     if rec.kind == kinds::ARM {
@@ -40,8 +40,8 @@ pub fn arm<L: Ledger>(
 pub fn disarm<L: Ledger>(lane: &mut LaneState<'_>, t: u8, steps: &mut Steps<L>) -> u16
     requires room { 0 < (state_view lane.old).spare }
     requires owns { Owns (state_view lane.old) t }
-    ensures disarms { Disarms t (state_view lane.old) (state_view lane.new) result }
-    ensures tries { Tries (word.Timer t) (draws_disarmed result) steps.old steps.new (state_view lane.old) (state_view lane.new) }
+    ensures disarms { CallDisarms t (state_view lane.old) (state_view lane.new) result }
+    ensures tries { FewTries (word.Timer t) (draws_disarmed result) steps.old steps.new (state_view lane.old) (state_view lane.new) }
 {
     let rec = lane.side.disarm(lane.by, t, steps);
     if rec.kind != kinds::DISARM {
@@ -58,8 +58,8 @@ pub fn rearm<L: Ledger>(lane: &mut LaneState<'_>, t: u8, ticks: u16, steps: &mut
     requires room { 0 < (state_view lane.old).spare }
     requires some { 0 < ticks }
     requires owns { Owns (state_view lane.old) t }
-    ensures rearms { Rearms t ticks (state_view lane.old) (state_view lane.new) result }
-    ensures tries { Tries (word.Timer t) 1 steps.old steps.new (state_view lane.old) (state_view lane.new) }
+    ensures rearms { CallRearms t ticks (state_view lane.old) (state_view lane.new) result }
+    ensures tries { FewTries (word.Timer t) 1 steps.old steps.new (state_view lane.old) (state_view lane.new) }
 {
     let rec = lane.side.rearm(lane.by, t, ticks, steps);
     let former = rec.nums[2] as u16;
@@ -84,8 +84,8 @@ fn tick_by(kind: u8) -> Tick
 pub fn tick_one<L: Ledger>(lane: &mut LaneState<'_>, t: u8, steps: &mut Steps<L>) -> Tick
     requires room { 0 < (state_view lane.old).spare }
     requires timer { IsTrue (is_timer (state_view lane.old).sys t) }
-    ensures ticks { TicksOne t (state_view lane.old) (state_view lane.new) result }
-    ensures tries { Tries (word.Timer t) (draws_ticked result) steps.old steps.new (state_view lane.old) (state_view lane.new) }
+    ensures ticks { AnswersTick t (state_view lane.old) (state_view lane.new) result }
+    ensures tries { FewTries (word.Timer t) (draws_ticked result) steps.old steps.new (state_view lane.old) (state_view lane.new) }
 {
     let rec = lane.side.tick_one(lane.by, t, steps);
     let answer = tick_by(rec.kind);

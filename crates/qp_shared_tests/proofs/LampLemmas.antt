@@ -9,7 +9,7 @@ use Rattle.qp_model.specs.Parts.{is_static}
 use Rattle.qp_model.specs.WordLaw.{is_object}
 use Rattle.qp_calls.specs.declared.answers.RoomFault.{RoomFault}
 use Rattle.qp_calls.specs.declared.did.Did.{Did}
-use Rattle.qp_calls.specs.Groups.{DoesCall}
+use Rattle.qp_calls.specs.Groups.{CallReturns}
 use Rattle.qp_calls.specs.LaneView.{LaneView}
 use Rattle.qp_dispatch.specs.declared.steps.Step.{Step}
 use Rattle.qp_dispatch.specs.declared.steps.Step.TheVariants as step
@@ -21,7 +21,7 @@ use Rattle.qp_wait_rings.specs.declared.ringing.RingingLane.{RingingLane}
 use Rattle.qp_wait.specs.Handed.{ringing_view}
 use Rattle.qp_wait.specs.declared.bells.Bells.{Bells}
 use Rattle.qp_wait.specs.declared.lane.BellLane.{BellLane}
-use Rattle.qp_wait.specs.Handed.{BeginsAt, bell_view}
+use Rattle.qp_wait.specs.Handed.{IsNewBellLane, bell_view}
 use Rattle.qp_wait.specs.Handed.{HasParked}
 use Rattle.qp_wait.specs.Handed.{AreBellsOf}
 use Rattle.qp_wait.proofs.Handed.{parked-still}
@@ -36,7 +36,7 @@ pub its-bells : (sys : System) (b : Bells) (v : LaneView) → v.sys ≡ sys → 
 its-bells sys b v of bells = subst (λ t. AreBellsOf t b) (sym of) bells
 
 -- lane 1 serves the lamp
-pub empty-lane : (s : Shared) (sys : System) (vs : List LaneView) (v : LaneView) (l : BellLane) → s.sys.now ≡ sys → AreFirst s 3 (serves_one s.sys.now) vs → slice_get vs 1 ≡ Some v → IsLamp sys → BeginsAt v l
+pub empty-lane : (s : Shared) (sys : System) (vs : List LaneView) (v : LaneView) (l : BellLane) → s.sys.now ≡ sys → AreFirst s 3 (serves_one s.sys.now) vs → slice_get vs 1 ≡ Some v → IsLamp sys → IsNewBellLane v l
     → HasEmptyLane sys 1 (bell_view l)
 empty-lane s sys vs v l its h at lamp begins =
     let first = h.each 1 v at in
@@ -49,7 +49,7 @@ empty-lane s sys vs v l its h at lamp begins =
     })
 
 -- a lane of a lamp's system may post to it
-pub lamp-lane : (sys : System) (v : LaneView) (l : BellLane) → v.sys ≡ sys → IsLamp sys → BeginsAt v l → IsLampLane l
+pub lamp-lane : (sys : System) (v : LaneView) (l : BellLane) → v.sys ≡ sys → IsLamp sys → IsNewBellLane v l → IsLampLane l
 lamp-lane sys v l of lamp begins =
     let is = ap (λ u. u.sys) begins.lane ∙ of in
     record { one = subst (λ t. IsTrue (is_object t 1)) (sym is) lamp.one; fixed = subst (λ t. IsTrue (is_static t 4)) (sym is) lamp.fixed }
@@ -60,7 +60,7 @@ lamp-lane-still l m g h = record { one = subst (λ t. IsTrue (is_object t 1)) (s
 
 -- More records came.
 
-pub called-grown : (now : Option model.Entry) (c : Call) (v w : LaneView) (r : Result Did RoomFault) → DoesCall now c v w r → HasGrown v w
+pub called-grown : (now : Option model.Entry) (c : Call) (v w : LaneView) (r : Result Did RoomFault) → CallReturns now c v w r → HasGrown v w
 called-grown now c v w (Ok d) h = record { sys = h.grows.sys; ts = _; told = h.grows.told }
 called-grown now c v w (Err fault) h = record { sys = ap (λ u. u.sys) h.0; ts = []; told = ap (λ u. u.told) h.0 ∙ sym (append-nil v.told) }
 

@@ -9,11 +9,11 @@ use Rattle.qp_port_phases.specs.Turns.{TurnEach}
 use Rattle.qp_shared.specs.declared.shared.Shared.{Shared}
 use Rattle.qp_shared.specs.Ending.{AreAll}
 use Rattle.qp_shared.specs.Starting.{AreFirst, serves_one}
-use Rattle.qp_shared_tests.specs.Lanes.{IsLaneOf, IsPlayer, IsSame, MayPlay}
+use Rattle.qp_shared_tests.specs.Lanes.{IsTableLane, IsPlayer, IsSame, MayPlay}
 
 -- What a lane is at first.
 
-pub lane-of : (s : Shared) (n i : ℕ) (serves : ℕ → ℕ → Bool) (vs : List LaneView) (v w : LaneView) → AreFirst s n serves vs → slice_get vs i ≡ Some v → IsSame v w → IsLaneOf s n i w
+pub lane-of : (s : Shared) (n i : ℕ) (serves : ℕ → ℕ → Bool) (vs : List LaneView) (v w : LaneView) → AreFirst s n serves vs → slice_get vs i ≡ Some v → IsSame v w → IsTableLane s n i w
 lane-of s n i serves vs v w h at same =
     let first = h.each i v at in
     record { world = same.world ∙ first.world_is; sys = same.sys ∙ first.sys_is; number = same.number ∙ first.number_is }
@@ -41,7 +41,7 @@ each-of-two zero few = refl
 each-of-two (suc zero) few = refl
 each-of-two (suc (suc n)) few = absurd (omega (arith, few))
 
-pub all-two : (s : Shared) (a b : LaneView) → IsLaneOf s 2 0 a → IsLaneOf s 2 1 b → AreAll s (a ∷ b ∷ [])
+pub all-two : (s : Shared) (a b : LaneView) → IsTableLane s 2 0 a → IsTableLane s 2 1 b → AreAll s (a ∷ b ∷ [])
 all-two s a b x y = record {
   some = omega arith;
   worlds = (x.world, (y.world, tt));
@@ -55,7 +55,7 @@ each-of-three (suc zero) few = refl
 each-of-three (suc (suc zero)) few = refl
 each-of-three (suc (suc (suc n))) few = absurd (omega (arith, few))
 
-pub all-three : (s : Shared) (a b c : LaneView) → IsLaneOf s 3 0 a → IsLaneOf s 3 1 b → IsLaneOf s 3 2 c → AreAll s (c ∷ a ∷ b ∷ [])
+pub all-three : (s : Shared) (a b c : LaneView) → IsTableLane s 3 0 a → IsTableLane s 3 1 b → IsTableLane s 3 2 c → AreAll s (c ∷ a ∷ b ∷ [])
 all-three s a b c x y z = record {
   some = omega arith;
   worlds = (z.world, (x.world, (y.world, tt)));

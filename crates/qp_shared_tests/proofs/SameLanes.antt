@@ -18,7 +18,7 @@ use Rattle.qp_calls.specs.declared.answers.Take.{Take}
 use Rattle.qp_calls.specs.declared.answers.Take.TheVariants as take
 use Rattle.qp_calls.specs.declared.did.Did.{Did}
 use Rattle.qp_calls.specs.Clauses.{Counted, GivesBlock, Takes, last_nil, same_counts}
-use Rattle.qp_calls.specs.Groups.{DoesCall, EndsStep, Refused}
+use Rattle.qp_calls.specs.Groups.{CallReturns, EndsStep, Refused}
 use Rattle.qp_calls.specs.LaneView.{AddsOf, Counts, Gains, LaneView, Looks, NotShown, Roomier}
 use Rattle.qp_calls_log.specs.Meeting.{Met}
 use Rattle.qp_shared_tests.specs.Lanes.{IsPlayer, IsSame}
@@ -49,7 +49,7 @@ same-met v u w met = record { sys = rw met.same refl; number = rw met.same refl;
 pub same-counted : (p : ℕ) (v w : LaneView) (c : answered.Counts) → Counted p v w c → IsSame v w
 same-counted p v w c h = let looks = h.0 in record { sys = looks.sys; number = looks.lane; world = looks.world; serves = looks.serves }
 
-pub same-call : (now : Option model.Entry) (c : Call) (v w : LaneView) (r : Result Did RoomFault) → DoesCall now c v w r → IsSame v w
+pub same-call : (now : Option model.Entry) (c : Call) (v w : LaneView) (r : Result Did RoomFault) → CallReturns now c v w r → IsSame v w
 same-call now c v w (Ok d) h = same-gains _ v w h.grows
 same-call now c v w (Err fault) h = same-equal v w h.0
 

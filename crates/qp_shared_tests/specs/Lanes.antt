@@ -12,7 +12,7 @@ use Rattle.qp_shared.specs.declared.shared.Shared.{Shared}
 use Rattle.qp_shared.specs.Starting.{world_name}
 
 -- lane i of the so many that these tables became
-pub record IsLaneOf (s : Shared) (n i : ℕ) (v : LaneView) : Type 0 where
+pub record IsTableLane (s : Shared) (n i : ℕ) (v : LaneView) : Type 0 where
   pub world : v.world ≡ world_name s n
   pub sys : v.sys ≡ s.sys.now
   pub number : v.lane ≡ i

@@ -3,7 +3,7 @@
 ghost use Rattle.std.specs.Prelude.{◌≡◌, [], ◌∷◌, IfSome};
 ghost use Rattle.qp_shared.specs.Lane.{lane_view};
 ghost use Rattle.qp_shared.specs.Starting.{AreFirst, IsRootOf, serves_all, serves_one};
-ghost use Rattle.qp_shared_tests.specs.Lanes.{IsLaneOf};
+ghost use Rattle.qp_shared_tests.specs.Lanes.{IsTableLane};
 
 use qp_model::System;
 use qp_shared::{Root, Sealed, Shared, SharedLane};
@@ -65,8 +65,8 @@ pub(crate) fn seal_pair(
     second: SharedLane<'_>,
     kernel: u8,
 ) -> Option<Sealed>
-    requires first { IsLaneOf shared.now 2 0 (lane_view first) }
-    requires second { IsLaneOf shared.now 2 1 (lane_view second) }
+    requires first { IsTableLane shared.now 2 0 (lane_view first) }
+    requires second { IsTableLane shared.now 2 1 (lane_view second) }
 {
     let Ok(lanes) = Vec::from_array(alloc, [first, second]) else {
         return None;
@@ -83,9 +83,9 @@ pub(crate) fn seal_triple(
     last: SharedLane<'_>,
     kernel: u8,
 ) -> Option<Sealed>
-    requires first { IsLaneOf shared.now 3 0 (lane_view first) }
-    requires second { IsLaneOf shared.now 3 1 (lane_view second) }
-    requires last { IsLaneOf shared.now 3 2 (lane_view last) }
+    requires first { IsTableLane shared.now 3 0 (lane_view first) }
+    requires second { IsTableLane shared.now 3 1 (lane_view second) }
+    requires last { IsTableLane shared.now 3 2 (lane_view last) }
 {
     let Ok(lanes) = Vec::from_array(alloc, [last, first, second]) else {
         return None;

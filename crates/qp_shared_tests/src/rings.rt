@@ -71,7 +71,7 @@ fn post_over<'a>(
     requires its { shared.now.sys.now ≡ sys.now }
     requires lamp { IsLamp sys.now }
     requires bells { AreBellsOf sys.now bells.now }
-    requires bell_root { handed.IsRootOf bells.now bell_root.old }
+    requires bell_root { handed.IsBellRootOf bells.now bell_root.old }
 {
     let (_, _, last) = triple(shared, root, sys)?;
     let Ok(mut lane) = bells.bell(alloc, bell_root, last, 0) else {

@@ -2,7 +2,7 @@
 
 ghost use Rattle.std.specs.Prelude.{◌≡◌, ◌≤◌, true};
 ghost use Rattle.qp_model.specs.Sound.{IsSound};
-ghost use Rattle.qp_port_lanes.specs.At.{HasEmptyLane, IsHome, IsMade};
+ghost use Rattle.qp_port_lanes.specs.At.{HasEmptyLane, IsHome, IsUnstartedHome};
 ghost use Rattle.qp_shared.specs.Starting.{IsRootOf};
 ghost use Rattle.qp_wait.specs.Handed as handed;
 ghost use Rattle.qp_wait.specs.Handed.{AreBellsOf, bell_view};
@@ -27,7 +27,7 @@ const BUDGET: u32 = 100_000;
 /// Whether the lamp started in its lane.
 fn starts(lane: &mut BellLane<'_>, sys: &System, home: &mut Home) -> bool
     requires sound { IsSound sys.now }
-    requires made { IsMade sys.now 1 home.old }
+    requires made { IsUnstartedHome sys.now 1 home.old }
     requires empty { HasEmptyLane sys.now 1 (bell_view lane.old) }
     ensures { result ≡ true → IsHome sys.now 100000 home.new (bell_view lane.new) }
 {
@@ -90,7 +90,7 @@ fn seen_over<'a, R: Wait>(
     requires its { shared.now.sys.now ≡ sys.now }
     requires lamp { IsLamp sys.now }
     requires bells { AreBellsOf sys.now bells.now }
-    requires bell_root { handed.IsRootOf bells.now bell_root.old }
+    requires bell_root { handed.IsBellRootOf bells.now bell_root.old }
 {
     let (_, second, _) = triple(shared, root, sys)?;
     let Ok(mut lane) = bells.bell(alloc, bell_root, second, 1) else {

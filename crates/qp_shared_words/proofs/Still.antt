@@ -7,7 +7,7 @@ use Rattle.qp_table.specs.Counting.{many}
 use Rattle.qp_model.specs.Sites.{blocks_of}
 use Rattle.qp_model.specs.WordLaw.{is_pool}
 use Rattle.qp_table.specs.Rule.{pool_at, block_at, is_spot, is_spot_at, Holds}
-use Rattle.qp_table.specs.After.{Steps}
+use Rattle.qp_table.specs.After.{WordSteps}
 use Rattle.qp_table.specs.declared.view.Spot.{Spot}
 use Rattle.qp_table.specs.declared.view.View.{View}
 use Rattle.qp_table.proofs.Bounds.{pool-ascends, pool-count, map-small}
@@ -15,7 +15,7 @@ use Rattle.qp_table.specs.Told.{FromTold}
 use Rattle.qp_table.proofs.StepLawLemmas.{beginnings_tell}
 
 -- a look that tells nothing
-pub still : (sys : System) (id : ℕ) (v : View) (w : ℕ) → Steps sys id v w (λ n. n) (λ n u. u ≡ v)
+pub still : (sys : System) (id : ℕ) (v : View) (w : ℕ) → WordSteps sys id v w (λ n. n) (λ n u. u ≡ v)
 still sys id v w words views holds at small = (
   v,
   subst (λ (z : List ℕ × List View). Holds sys z.0 z.1) (λ i. (sym (set-get_or words w 0) i, sym (set_again views id v at) i)) holds,
@@ -31,7 +31,7 @@ spot-at p b (s ∷ ss) h = go (is_spot p b s) refl h (spot-at p b ss)
     go false e h rest = let r = rest (omega (arith, h)) in let some = r.1 in (r.0, omega arith)
 
 -- the word of a fresh block tells of each number at which the lane has it that the life begins there
-pub begins : (sys : System) (id : ℕ) (v : View) (p b : ℕ) → 0 < many (is_spot p b) v.fresh → Steps sys id v (block_at p b) (λ n. n) (λ n u. (m : ℕ) → 0 < many (is_spot_at p b m) v.fresh → FromTold sys p b m v n u)
+pub begins : (sys : System) (id : ℕ) (v : View) (p b : ℕ) → 0 < many (is_spot p b) v.fresh → WordSteps sys id v (block_at p b) (λ n. n) (λ n u. (m : ℕ) → 0 < many (is_spot_at p b m) v.fresh → FromTold sys p b m v n u)
 begins sys id v p b mine words views holds at small =
     let m = spot-at p b v.fresh mine in
     let z = beginnings_tell sys id v p b m.0 m.1 words views holds at small in (
@@ -42,7 +42,7 @@ begins sys id v p b mine words views holds at small =
     )
 
 -- a pool's word is far below the end of its range
-pub with-few : (sys : System) (id : ℕ) (v : View) (p : ℕ) (f : ℕ → ℕ) (T : ℕ → View → Type 0) → IsTrue (is_pool sys p) → Steps sys id v (pool_at p) f T → Steps sys id v (pool_at p) f (λ n u. T n u × (n < 9223372036854775808))
+pub with-few : (sys : System) (id : ℕ) (v : View) (p : ℕ) (f : ℕ → ℕ) (T : ℕ → View → Type 0) → IsTrue (is_pool sys p) → WordSteps sys id v (pool_at p) f T → WordSteps sys id v (pool_at p) f (λ n u. T n u × (n < 9223372036854775808))
 with-few sys id v p f T pool steps words views holds at small =
     let z = steps words views holds at small in
     let few : get_or words (pool_at p) 0 < 9223372036854775808 =

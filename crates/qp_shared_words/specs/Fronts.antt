@@ -3,7 +3,7 @@ use Rattle.std.specs.Prelude.{◌≡◌, ℕ, ◌<◌, IsTrue, length}
 use Rattle.std.specs.List.{list_any}
 use Rattle.qp_model.specs.declared.systems.System.{System}
 use Rattle.qp_table.specs.Counting.{many}
-use Rattle.qp_table.specs.Rule.{on_queue, is_serve, is_lifo, is_took, records}
+use Rattle.qp_table.specs.Rule.{on_queue, is_serve, is_lifo, is_take_of, records}
 use Rattle.qp_table.specs.QueueLaws.{front_cell}
 use Rattle.qp_table.specs.declared.view.View.{View}
 
@@ -13,4 +13,4 @@ pub record KnowsFront (sys : System) (a j : ℕ) (v : View) : Type 0 where
   pub serves : IsTrue (list_any (is_serve a) v.serves)
   pub log : 0 < length v.logs
   pub idle : many (on_queue a) v.takes ≡ 0
-  pub cell : j ≡ front_cell sys a (records (is_lifo a) v.logs) (records (is_took a) v.logs)
+  pub cell : j ≡ front_cell sys a (records (is_lifo a) v.logs) (records (is_take_of a) v.logs)

@@ -5,7 +5,7 @@ ghost use Rattle.std.specs.List.{list_any};
 ghost use Rattle.qp_model.specs.declared.words.Word.TheVariants as word;
 ghost use Rattle.qp_model.specs.WordLaw.{is_pool};
 ghost use Rattle.qp_table.specs.Counting.{many};
-ghost use Rattle.qp_table.specs.Rule.{is_ref, is_spot, is_spot_at, fills_of, is_value, IsContent};
+ghost use Rattle.qp_table.specs.Rule.{is_ref, is_spot, is_spot_at, fills_of, fills_with, IsContent};
 ghost use Rattle.qp_table.specs.After.{HasRoom, ref};
 ghost use Rattle.qp_table.specs.Words.{value_seen};
 ghost use Rattle.qp_table.specs.Lane.{has_content};
@@ -101,7 +101,7 @@ pub fn fill(words: &Words, seat: &mut Seat<(), View>, pool: u8, block: u8, place
     requires place { HasPlace pool block }
     requires low { place < 9 }
     requires fresh { 0 < many (is_spot pool block) seat.old.me.0.fresh }
-    requires left { 0 < many (is_value pool block place value) seat.old.me.0.fills }
+    requires left { 0 < many (fills_with pool block place value) seat.old.me.0.fills }
     requires asked { IsTrue (list_any (is_asked pool block place value) seat.old.me.0.gives) }
     ensures same { (seat.new.table_id ≡ seat.old.table_id) × (seat.new.id ≡ seat.old.id) }
     ensures told { FillTold pool block place value seat.old.me.0 value seat.new.me.0 }

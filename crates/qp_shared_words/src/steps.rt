@@ -4,7 +4,7 @@ ghost use Rattle.std.specs.Prelude.{◌≡◌, ℕ, ◌+◌, ◌%◌, ◌^◌, �
 ghost use prog.Atomic.{either};
 ghost use Rattle.qp_table.specs.declared.view.View.{View};
 ghost use Rattle.qp_table.specs.Rule.{Holds};
-ghost use Rattle.qp_table.specs.After.{Steps, newcomer};
+ghost use Rattle.qp_table.specs.After.{WordSteps, newcomer};
 ghost use Rattle.qp_table.specs.First.{first_serves};
 ghost use Rattle.qp_table.specs.Whole.{later_lanes};
 
@@ -79,7 +79,7 @@ pub fn look<T: StepTells>(
     _about: About,
 ) -> u64
     requires own { (seat.old.table_id ≡ words.now.shared.table_id) × (word < words.now.shared.table_id.words) }
-    requires keeps { Steps words.now.shared.key seat.old.id seat.old.me.0 word (λ n. n) (T.tells seat.old.me.0) }
+    requires keeps { WordSteps words.now.shared.key seat.old.id seat.old.me.0 word (λ n. n) (T.tells seat.old.me.0) }
     ensures same { (seat.new.table_id ≡ seat.old.table_id) × (seat.new.id ≡ seat.old.id) }
     ensures told { T.tells seat.old.me.0 result seat.new.me.0 }
 {
@@ -95,7 +95,7 @@ pub fn add<T: StepTells>(
     _about: About,
 ) -> u64
     requires own { (seat.old.table_id ≡ words.now.shared.table_id) × (word < words.now.shared.table_id.words) }
-    requires keeps { Steps words.now.shared.key seat.old.id seat.old.me.0 word (λ n. (n + k) % 2 ^ 64) (T.tells seat.old.me.0) }
+    requires keeps { WordSteps words.now.shared.key seat.old.id seat.old.me.0 word (λ n. (n + k) % 2 ^ 64) (T.tells seat.old.me.0) }
     ensures same { (seat.new.table_id ≡ seat.old.table_id) × (seat.new.id ≡ seat.old.id) }
     ensures told { T.tells seat.old.me.0 result seat.new.me.0 }
 {
@@ -112,7 +112,7 @@ pub fn exchange<T: StepTells, A: Copy>(
     _about: A,
 ) -> u64
     requires own { (seat.old.table_id ≡ words.now.shared.table_id) × (word < words.now.shared.table_id.words) }
-    requires keeps { Steps words.now.shared.key seat.old.id seat.old.me.0 word (λ n. either (n == old) new n) (T.tells seat.old.me.0) }
+    requires keeps { WordSteps words.now.shared.key seat.old.id seat.old.me.0 word (λ n. either (n == old) new n) (T.tells seat.old.me.0) }
     ensures same { (seat.new.table_id ≡ seat.old.table_id) × (seat.new.id ≡ seat.old.id) }
     ensures told { T.tells seat.old.me.0 result seat.new.me.0 }
 {
@@ -130,7 +130,7 @@ pub(crate) fn swap<T: StepTells>(
     _about: About,
 ) -> u64
     requires own { (seat.old.table_id ≡ words.now.shared.table_id) × (word < words.now.shared.table_id.words) }
-    requires keeps { Steps words.now.shared.key seat.old.id seat.old.me.0 word (λ n. new) (T.tells seat.old.me.0) }
+    requires keeps { WordSteps words.now.shared.key seat.old.id seat.old.me.0 word (λ n. new) (T.tells seat.old.me.0) }
     ensures same { (seat.new.table_id ≡ seat.old.table_id) × (seat.new.id ≡ seat.old.id) }
     ensures told { T.tells seat.old.me.0 result seat.new.me.0 }
 {
@@ -146,7 +146,7 @@ pub(crate) fn store<T: StepTells>(
     _about: About,
 )
     requires own { (seat.old.table_id ≡ words.now.shared.table_id) × (word < words.now.shared.table_id.words) }
-    requires keeps { Steps words.now.shared.key seat.old.id seat.old.me.0 word (λ n. new) (λ n. T.tells seat.old.me.0 new) }
+    requires keeps { WordSteps words.now.shared.key seat.old.id seat.old.me.0 word (λ n. new) (λ n. T.tells seat.old.me.0 new) }
     ensures same { (seat.new.table_id ≡ seat.old.table_id) × (seat.new.id ≡ seat.old.id) }
     ensures told { T.tells seat.old.me.0 new seat.new.me.0 }
 {

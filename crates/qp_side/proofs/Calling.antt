@@ -18,7 +18,7 @@ use Rattle.qp_model.specs.Parts.{members, members_below}
 use Rattle.qp_model.specs.Subscribers.{bits_of_set}
 use Rattle.qp_model.specs.WordLaw.{is_object, is_signal, is_timer}
 use Rattle.qp_plain_words.proofs.SetLemmas.{has-bit}
-use Rattle.qp_table.specs.Counting.{Each, total, many}
+use Rattle.qp_table.specs.Counting.{Each, sum_over, many}
 use Rattle.qp_table.specs.Rule.{is_serve}
 use Rattle.qp_table.specs.declared.view.Serve.{Serve}
 use Rattle.qp_table.specs.After.{rec_of, logged, HasRoom}
@@ -28,7 +28,7 @@ use Rattle.qp_side.specs.Told.{side_glanced, side_noted, bit_value, bit_in, EyeS
 use Rattle.qp_side.specs.declared.view.SideView.{SideView}
 use Rattle.qp_side.specs.Seat.{StaysAs, first_recs, OwnsTimer, side_recs, SideAdds}
 use Rattle.qp_side.specs.Tries.{side_seeing, SideNotes, ArmEnds, IdleEnds, DisarmEnds, RearmEnds, TickEnds}
-use Rattle.qp_side.specs.Calls.{SideDraws, ObjectComes, IsThere, ObjectGoes, IsAway, IsArmed, WasArmed, IsDisarmed, IsFired, IsDown, Subscribes, Unsubscribes, ShowsSet, ArmsTimer, DisarmsTimer, RearmsTimer, TicksTimer, IsIdle, SideTries, own_draw}
+use Rattle.qp_side.specs.Calls.{SideDraws, ObjectComes, IsThere, ObjectGoes, SideIsAway, IsArmed, WasArmed, IsDisarmed, IsFired, IsDown, SideSubscribes, SideUnsubscribes, ShowsSet, ArmsTimer, DisarmsTimer, RearmsTimer, SideTicksTimer, IsIdleTimer, SideTries, own_draw}
 use Rattle.qp_side.proofs.Following.{saw-then}
 use Rattle.qp_side.proofs.Marks.{signal-adds, signal-draws, timer-adds, timer-draws, timer-mark}
 
@@ -42,14 +42,14 @@ room-of v one few = go v.view.logs refl
         let e : length v.view.logs ≡ length (g ∷ gs) = ap length is in
         let r : length g.recs ≤ 1000000 = subst (λ (ls : List SeatLog). length (first_recs ls) ≤ 1000000) is few in
         let none : gs ≡ [] = empty gs (omega arith) in
-        record { own = g; others = gs; is = is; room = subst (λ (ls : List SeatLog). total (λ (x : SeatLog). length x.recs) ls < 1000001) (sym (is ∙ ap (λ xs. g ∷ xs) none)) (omega arith) }
+        record { own = g; others = gs; is = is; room = subst (λ (ls : List SeatLog). sum_over (λ (x : SeatLog). length x.recs) ls < 1000001) (sym (is ∙ ap (λ xs. g ∷ xs) none)) (omega arith) }
       where
         empty : (xs : List SeatLog) → length xs ≡ 0 → xs ≡ []
         empty [] e = refl
         empty (x ∷ xs) e = absurd (omega arith)
 
 pub room-after : (v z : SideView) → z.view.logs ≡ v.view.logs → HasRoom v.view → HasRoom z.view
-room-after v z same r = record { own = r.own; others = r.others; is = same ∙ r.is; room = subst (λ (ls : List SeatLog). total (λ (x : SeatLog). length x.recs) ls < 1000001) (sym same) r.room }
+room-after v z same r = record { own = r.own; others = r.others; is = same ∙ r.is; room = subst (λ (ls : List SeatLog). sum_over (λ (x : SeatLog). length x.recs) ls < 1000001) (sym same) r.room }
 
 pub some-serve : (o : ℕ) (xs : List Serve) → IsTrue (list_any (is_serve o) xs) → 0 < many (is_serve o) xs
 some-serve o [] h = absurd (true≢false (sym h))
@@ -92,11 +92,11 @@ module _ (bit o s : ℕ) (v z : SideView) (x : ℕ) (told : EyeSignalTold bit o 
 
 module _ (sys : System) (fit : SideFitting sys) (o s : ℕ) (signal : IsTrue (is_signal sys s)) (v : SideView) where
   -- `same` and `sub`
-  pub there-already : (z : SideView) (x : ℕ) (r : Rec) → EyeSignalTold 1 o s v x z → eqb (bit_in o x) 1 ≡ true → r ≡ rec_of 33 o (s ∷ (x / 4294967296) ∷ []) → Subscribes sys o s v r z
-  there-already z x r told on is = subst (λ (q : Rec). Subscribes sys o s v q z) (sym is) (record { n = x / 4294967296; is = refl; adds = signal-adds sys fit s signal v z x x _ (looked-same 1 o s v z x told on); was = told.2 ∙ on })
+  pub there-already : (z : SideView) (x : ℕ) (r : Rec) → EyeSignalTold 1 o s v x z → eqb (bit_in o x) 1 ≡ true → r ≡ rec_of 33 o (s ∷ (x / 4294967296) ∷ []) → SideSubscribes sys o s v r z
+  there-already z x r told on is = subst (λ (q : Rec). SideSubscribes sys o s v q z) (sym is) (record { n = x / 4294967296; is = refl; adds = signal-adds sys fit s signal v z x x _ (looked-same 1 o s v z x told on); was = told.2 ∙ on })
 
-  pub comes-now : (z u : SideView) (x n : ℕ) (r : Rec) → EyeSignalTold 1 o s v x z → eqb (bit_in o x) 1 ≡ false → SubTold o s z n u → r ≡ rec_of 31 o (s ∷ (n / 4294967296) ∷ []) → Subscribes sys o s v r u
-  comes-now z u x n r told off put is = subst (λ (q : Rec). Subscribes sys o s v q u) (sym is) (record {
+  pub comes-now : (z u : SideView) (x n : ℕ) (r : Rec) → EyeSignalTold 1 o s v x z → eqb (bit_in o x) 1 ≡ false → SubTold o s z n u → r ≡ rec_of 31 o (s ∷ (n / 4294967296) ∷ []) → SideSubscribes sys o s v r u
+  comes-now z u x n r told off put is = subst (λ (q : Rec). SideSubscribes sys o s v q u) (sym is) (record {
     n = n / 4294967296;
     is = refl;
     draws = signal-draws sys fit s signal v u n (n + (4294967296 + bit_value o)) _ (then-noted 1 o s v z x told off _ u n (n + (4294967296 + bit_value o)) put.0 put.1) put.2;
@@ -104,14 +104,14 @@ module _ (sys : System) (fit : SideFitting sys) (o s : ℕ) (signal : IsTrue (is
   })
 
   -- `same` and `unsub`
-  pub away-already : (z : SideView) (x : ℕ) (r : Rec) → EyeSignalTold 0 o s v x z → eqb (bit_in o x) 1 ≡ false → r ≡ rec_of 33 o (s ∷ (x / 4294967296) ∷ []) → Unsubscribes sys o s v r z
-  away-already z x r told off is = subst (λ (q : Rec). Unsubscribes sys o s v q z) (sym is) (record { n = x / 4294967296; is = refl; adds = signal-adds sys fit s signal v z x x _ (looked-same 0 o s v z x told (eq-eqb (bit_in o x) 0 (bit-off o x off))); was = told.2 ∙ off })
+  pub away-already : (z : SideView) (x : ℕ) (r : Rec) → EyeSignalTold 0 o s v x z → eqb (bit_in o x) 1 ≡ false → r ≡ rec_of 33 o (s ∷ (x / 4294967296) ∷ []) → SideUnsubscribes sys o s v r z
+  away-already z x r told off is = subst (λ (q : Rec). SideUnsubscribes sys o s v q z) (sym is) (record { n = x / 4294967296; is = refl; adds = signal-adds sys fit s signal v z x x _ (looked-same 0 o s v z x told (eq-eqb (bit_in o x) 0 (bit-off o x off))); was = told.2 ∙ off })
 
   pub bit-on : (x : ℕ) → eqb (bit_in o x) 1 ≡ true → eqb (bit_in o x) 0 ≡ false
   bit-on x on = ap (λ k. eqb k 0) (eqb-true (bit_in o x) 1 on)
 
-  pub goes-now : (z u : SideView) (x n : ℕ) (r : Rec) → EyeSignalTold 0 o s v x z → eqb (bit_in o x) 1 ≡ true → UnsubTold o s z n u → r ≡ rec_of 32 o (s ∷ (n / 4294967296) ∷ []) → Unsubscribes sys o s v r u
-  goes-now z u x n r told on taken is = subst (λ (q : Rec). Unsubscribes sys o s v q u) (sym is) (record {
+  pub goes-now : (z u : SideView) (x n : ℕ) (r : Rec) → EyeSignalTold 0 o s v x z → eqb (bit_in o x) 1 ≡ true → UnsubTold o s z n u → r ≡ rec_of 32 o (s ∷ (n / 4294967296) ∷ []) → SideUnsubscribes sys o s v r u
+  goes-now z u x n r told on taken is = subst (λ (q : Rec). SideUnsubscribes sys o s v q u) (sym is) (record {
     n = n / 4294967296;
     is = refl;
     draws = signal-draws sys fit s signal v u n (n + (4294967296 - bit_value o)) _ (then-noted 0 o s v z x told (bit-on x on) _ u n (n + (4294967296 - bit_value o)) taken.0 taken.1) taken.2;
@@ -138,7 +138,7 @@ ticked-more n some = go (eqb (counter_in n) 1) refl
     go false is = omega arith
 
 module _ (sys : System) (fit : SideFitting sys) (o t : ℕ) (timer : IsTrue (is_timer sys t)) (v u : SideView) (n : ℕ) where
-  idle-here : (r : Rec) → IdleEnds o t v n u → r ≡ rec_of 37 o (t ∷ (n / 4294967296) ∷ []) → IsIdle sys o t v (rec_of 37 o (t ∷ (n / 4294967296) ∷ [])) u
+  idle-here : (r : Rec) → IdleEnds o t v n u → r ≡ rec_of 37 o (t ∷ (n / 4294967296) ∷ []) → IsIdleTimer sys o t v (rec_of 37 o (t ∷ (n / 4294967296) ∷ [])) u
   idle-here r ends is = record { n = n / 4294967296; is = refl; adds = timer-adds sys fit t timer v u n n _ ends }
 
   pub arms : (ticks interval : ℕ) (r : Rec) → ticks < 65536 → interval < 65536 → ArmEnds o t ticks interval v n true u → r ≡ rec_of 34 o (t ∷ (n / 4294967296) ∷ ticks ∷ interval ∷ []) → ArmsTimer sys o t ticks interval v r u
@@ -156,8 +156,8 @@ module _ (sys : System) (fit : SideFitting sys) (o t : ℕ) (timer : IsTrue (is_
   pub rearms : (ticks : ℕ) (r : Rec) → ticks < 65536 → RearmEnds o t ticks v n u → r ≡ rec_of 36 o (t ∷ (n / 4294967296) ∷ counter_in n ∷ ticks ∷ []) → RearmsTimer sys o t ticks v r u
   rearms ticks r a ends is = record { n = n / 4294967296; former = counter_in n; is = is; draws = subst (λ (q : Rec). SideDraws sys (word.Timer t) (n / 4294967296) q v u) (sym is) (timer-draws sys fit t timer v u n _ _ ends (rearmed-more n ticks a)); small = omega arith }
 
-  pub fires : (r : Rec) → TickEnds o t v n true u → eqb (counter_in n) 1 ≡ true → r ≡ rec_of 39 0 (t ∷ (n / 4294967296) ∷ interval_in n ∷ []) → TicksTimer sys o t v r u
-  fires r ends last is = subst (λ (q : Rec). TicksTimer sys o t v q u) (sym is) (record {
+  pub fires : (r : Rec) → TickEnds o t v n true u → eqb (counter_in n) 1 ≡ true → r ≡ rec_of 39 0 (t ∷ (n / 4294967296) ∷ interval_in n ∷ []) → SideTicksTimer sys o t v r u
+  fires r ends last is = subst (λ (q : Rec). SideTicksTimer sys o t v q u) (sym is) (record {
     n = n / 4294967296;
     reload = interval_in n;
     is = refl;
@@ -165,8 +165,8 @@ module _ (sys : System) (fit : SideFitting sys) (o t : ℕ) (timer : IsTrue (is_
         (timer-draws sys fit t timer v u n _ _ ends.0 (ticked-more n ends.1));
   })
 
-  pub falls : (r : Rec) → TickEnds o t v n true u → eqb (counter_in n) 1 ≡ false → r ≡ rec_of 38 0 (t ∷ (n / 4294967296) ∷ (counter_in n - 1) ∷ []) → TicksTimer sys o t v r u
-  falls r ends last is = subst (λ (q : Rec). TicksTimer sys o t v q u) (sym is) (record {
+  pub falls : (r : Rec) → TickEnds o t v n true u → eqb (counter_in n) 1 ≡ false → r ≡ rec_of 38 0 (t ∷ (n / 4294967296) ∷ (counter_in n - 1) ∷ []) → SideTicksTimer sys o t v r u
+  falls r ends last is = subst (λ (q : Rec). SideTicksTimer sys o t v q u) (sym is) (record {
     n = n / 4294967296;
     counter = counter_in n - 1;
     is = refl;
@@ -175,8 +175,8 @@ module _ (sys : System) (fit : SideFitting sys) (o t : ℕ) (timer : IsTrue (is_
     some = let s = ends.1 in dite (ℕ_discrete (counter_in n) 1) (λ e. absurd (true≢false (sym (eq-eqb (counter_in n) 1 e) ∙ last))) (λ ne. omega arith);
   })
 
-  pub ticks-not : (r : Rec) → TickEnds o t v n false u → r ≡ rec_of 37 o (t ∷ (n / 4294967296) ∷ []) → TicksTimer sys o t v r u
-  ticks-not r ends is = subst (λ (q : Rec). TicksTimer sys o t v q u) (sym is) (idle-here r ends is)
+  pub ticks-not : (r : Rec) → TickEnds o t v n false u → r ≡ rec_of 37 o (t ∷ (n / 4294967296) ∷ []) → SideTicksTimer sys o t v r u
+  ticks-not r ends is = subst (λ (q : Rec). SideTicksTimer sys o t v q u) (sym is) (idle-here r ends is)
 
   -- tries that end with an operation, and those that don't
   module _ (x before after kind by : ℕ) (nums : List ℕ) (r q : Rec) (is : r ≡ rec_of kind by nums) (notes : SideNotes (timer_at t) q v n x u) (up : before ≤ after) where
@@ -276,7 +276,7 @@ module _ (sys : System) (o : ℕ) (v : SideView) (r : Rec) (u : SideView) where
   subscribes-adds s true a = (_, a.draws.adds)
   subscribes-adds s false a = (_, a.adds)
 
-  pub unsubscribes-adds : (s : ℕ) (b : Bool) → MatchBool b (ObjectGoes sys o s v r u) (IsAway sys o s v r u) → (k : ℕ) × SideAdds sys (word.Signal s) k r v u
+  pub unsubscribes-adds : (s : ℕ) (b : Bool) → MatchBool b (ObjectGoes sys o s v r u) (SideIsAway sys o s v r u) → (k : ℕ) × SideAdds sys (word.Signal s) k r v u
   unsubscribes-adds s true a = (_, a.draws.adds)
   unsubscribes-adds s false a = (_, a.adds)
 
@@ -284,11 +284,11 @@ module _ (sys : System) (o : ℕ) (v : SideView) (r : Rec) (u : SideView) where
   arms-adds t ticks interval true a = (_, a.draws.adds)
   arms-adds t ticks interval false a = (_, a.adds)
 
-  pub disarms-adds : (t : ℕ) (b : Bool) → MatchBool b (IsDisarmed sys o t v r u) (IsIdle sys o t v r u) → (k : ℕ) × SideAdds sys (word.Timer t) k r v u
+  pub disarms-adds : (t : ℕ) (b : Bool) → MatchBool b (IsDisarmed sys o t v r u) (IsIdleTimer sys o t v r u) → (k : ℕ) × SideAdds sys (word.Timer t) k r v u
   disarms-adds t true a = (_, a.draws.adds)
   disarms-adds t false a = (_, a.adds)
 
-  pub ticks-adds : (t : ℕ) (idle fired : Bool) → MatchBool idle (IsIdle sys o t v r u) (MatchBool fired (IsFired sys t v r u) (IsDown sys t v r u)) → (k : ℕ) × SideAdds sys (word.Timer t) k r v u
+  pub ticks-adds : (t : ℕ) (idle fired : Bool) → MatchBool idle (IsIdleTimer sys o t v r u) (MatchBool fired (IsFired sys t v r u) (IsDown sys t v r u)) → (k : ℕ) × SideAdds sys (word.Timer t) k r v u
   ticks-adds t true fired a = (_, a.adds)
   ticks-adds t false true a = (_, a.draws.adds)
   ticks-adds t false false a = (_, a.draws.adds)

@@ -13,7 +13,7 @@ use Rattle.qp_model.specs.TimeEvents.{time_event}
 use Rattle.qp_model.specs.WordLaw.{Keeps, is_signal, is_timer}
 use Rattle.qp_model.proofs.MachineLemmas.{Counts, count-after}
 use Rattle.qp_model.proofs.WordLawLemmas.{subscribers-counts, time_event-counts}
-use Rattle.qp_table.specs.Counting.{Each, total, many}
+use Rattle.qp_table.specs.Counting.{Each, sum_over, many}
 use Rattle.qp_table.specs.Rule.{is_log, mark_in}
 use Rattle.qp_table.specs.declared.view.Glance.{Glance}
 use Rattle.qp_table.specs.declared.view.SeatLog.{SeatLog}
@@ -78,7 +78,7 @@ module _ (v : SideView) where
   joined-answered P [] e = tt
   joined-answered P (w ∷ ws) e = let r = each-parts P (joined_last v ws).answered w.answered e in (r.1, joined-answered P ws r.0)
 
-  joined-stops : (p : ℕ → Bool) (views : List SideView) → v.stops ≡ [] → many p (joined_last v views).stops ≡ total (λ (w : SideView). many p w.stops) views
+  joined-stops : (p : ℕ → Bool) (views : List SideView) → v.stops ≡ [] → many p (joined_last v views).stops ≡ sum_over (λ (w : SideView). many p w.stops) views
   joined-stops p [] none = ap (many p) none
   joined-stops p (w ∷ ws) none = let r = joined-stops p ws none in let a = total-append (λ k. cond (p k) 1 0) (joined_last v ws).stops w.stops in omega arith
 
@@ -160,7 +160,7 @@ module _ (sys : System) (fit : SideFitting sys) (root : SideView) (views : List 
     marks = each-map (λ (v : SideView). Each (λ (g : Glance). mark_in g.word g.value ≤ mark_in g.word (get_or whole.words g.word 0)) v.view.seen) (λ (v : SideView). (w : Word) → side_mark sys v w ≤ length (hist w (all_items lanes)))
         mark-below views (joined-seen root (λ (g : Glance). mark_in g.word g.value ≤ mark_in g.word (get_or whole.words g.word 0)) views whole.glances);
     code = get_or whole.words 4488 0;
-    codes = joined-answered root (λ c. (c ≡ get_or whole.words 4488 0) × (0 < total (λ (x : SideView). many (eqb c) x.stops) views)) views
-        (each-map (λ k. (k ≡ get_or whole.words 4488 0) × (0 < many (eqb k) (joined_last root views).stops)) (λ k. (k ≡ get_or whole.words 4488 0) × (0 < total (λ (x : SideView). many (eqb k) x.stops) views))
+    codes = joined-answered root (λ c. (c ≡ get_or whole.words 4488 0) × (0 < sum_over (λ (x : SideView). many (eqb c) x.stops) views)) views
+        (each-map (λ k. (k ≡ get_or whole.words 4488 0) × (0 < many (eqb k) (joined_last root views).stops)) (λ k. (k ≡ get_or whole.words 4488 0) × (0 < sum_over (λ (x : SideView). many (eqb k) x.stops) views))
         (λ k e. (e.0, subst (λ n. 0 < n) (joined-stops root (eqb k) views quiet) e.1)) (joined_last root views).answered whole.codes);
   }

@@ -4,7 +4,7 @@ use mathlib.Core.Option.{some}
 use lib.ListN.{get_elem?}
 use Rattle.atomic_table.proofs.Lists.{at_snoc, at_map}
 use Rattle.qp_model.specs.declared.systems.System.{System}
-use Rattle.qp_table.specs.Counting.{Each, total, many}
+use Rattle.qp_table.specs.Counting.{Each, sum_over, many}
 use Rattle.qp_table.specs.Rule.{is_log, is_number, is_serve, Logs}
 use Rattle.qp_table.specs.declared.view.SeatLog.{SeatLog}
 use Rattle.qp_table.specs.declared.view.View.{View}
@@ -25,7 +25,7 @@ module _ (sys : System) (words : List ℕ) (views : List SideView) (holds : Side
   abbrev more : List SideView
   more = set views id v ++ seat ∷ []
 
-  sums : (f : SideView → ℕ) → total f more ≡ total f views + f seat
+  sums : (f : SideView → ℕ) → sum_over f more ≡ sum_over f views + f seat
   sums f = let a = total-set f views id v v at_id in let b = total-snoc f (set views id v) seat in omega arith
 
   each-more : (P : SideView → Type 0) → P seat → ((j : ℕ) (x : SideView) → get_elem? views j ≡ some x → P x) → (j : ℕ) (x : SideView) → get_elem? more j ≡ some x → P x
@@ -34,7 +34,7 @@ module _ (sys : System) (words : List ℕ) (views : List SideView) (holds : Side
   in-views : (P : View → Type 0) → ((j : ℕ) (x : SideView) → get_elem? more j ≡ some x → P x.view) → (j : ℕ) (y : View) → get_elem? (views_of more) j ≡ some y → P y
   in-views P all j y e = let z = from-map (λ (x : SideView). x.view) more j y e in subst P z.2 (all j z.0 z.1)
 
-  sums-views : (f : View → ℕ) → total f (views_of more) ≡ total f (views_of views) + f seat.view
+  sums-views : (f : View → ℕ) → sum_over f (views_of more) ≡ sum_over f (views_of views) + f seat.view
   sums-views f = let a = total-map (λ (x : SideView). x.view) f more in let b = total-map (λ (x : SideView). x.view) f views in let c = sums (λ x. f x.view) in omega arith
 
   own-of : (j : ℕ) (x : SideView) → get_elem? views j ≡ some x → Each (λ (g : SeatLog). get_elem? holds.lanes g.number ≡ some g.recs) x.view.logs

@@ -11,9 +11,9 @@ use Rattle.qp_model.specs.Lists.{count_up}
 use Rattle.qp_model.specs.Subscribers.{subscribers}
 use Rattle.qp_model.specs.TimeEvents.{time_event}
 use Rattle.qp_model.proofs.BeginningLemmas.{held-first}
-use Rattle.qp_table.specs.Counting.{Each, total, many, without}
+use Rattle.qp_table.specs.Counting.{Each, sum_over, many, without}
 use Rattle.qp_table.specs.Rule.{is_log, is_number, is_serve, mark_in, Logs}
-use Rattle.qp_table.specs.After.{nothing, passing, failing}
+use Rattle.qp_table.specs.After.{empty_view, passing, failing}
 use Rattle.qp_table.specs.declared.view.SeatLog.{SeatLog}
 use Rattle.qp_table.specs.declared.view.Glance.{Glance}
 use Rattle.qp_table.specs.declared.view.Serve.{Serve}
@@ -38,7 +38,7 @@ each-append P (x ∷ xs) ys p q = (p.0, each-append P xs ys p.1 q)
 many-append : {A : Type 0} (t : A → Bool) (xs ys : List A) → many t (xs ++ ys) ≡ many t xs + many t ys
 many-append t xs ys = total-append (λ x. cond (t x) 1 0) xs ys
 
-pub total-map : {A B : Type 0} (f : A → B) (g : B → ℕ) (xs : List A) → total g (map f xs) ≡ total (λ x. g (f x)) xs
+pub total-map : {A B : Type 0} (f : A → B) (g : B → ℕ) (xs : List A) → sum_over g (map f xs) ≡ sum_over (λ x. g (f x)) xs
 total-map f g [] = refl
 total-map f g (x ∷ xs) = ap (λ k. g (f x) + k) (total-map f g xs)
 
@@ -83,7 +83,7 @@ module _ (sys : System) (words : List ℕ) (views : List SideView) (holds : Side
   abbrev more : List SideView
   more = set views id root ++ seat ∷ []
 
-  sums : (f : SideView → ℕ) → total f more + f v ≡ total f views + f root + f seat
+  sums : (f : SideView → ℕ) → sum_over f more + f v ≡ sum_over f views + f root + f seat
   sums f = let a = total-set f views id v root at_id in let b = total-snoc f (set views id root) seat in omega arith
 
   each-more : (P : SideView → Type 0) → P root → P seat → ((j : ℕ) (x : SideView) → get_elem? views j ≡ some x → P x) → (j : ℕ) (x : SideView) → get_elem? more j ≡ some x → P x
@@ -92,16 +92,16 @@ module _ (sys : System) (words : List ℕ) (views : List SideView) (holds : Side
   in-views : (P : View → Type 0) → ((j : ℕ) (x : SideView) → get_elem? more j ≡ some x → P x.view) → (j : ℕ) (y : View) → get_elem? (views_of more) j ≡ some y → P y
   in-views P all j y e = let z = from-map (λ (x : SideView). x.view) more j y e in subst P z.2 (all j z.0 z.1)
 
-  total-views : (f : View → ℕ) → total f (views_of more) ≡ total (λ (x : SideView). f x.view) more
+  total-views : (f : View → ℕ) → sum_over f (views_of more) ≡ sum_over (λ (x : SideView). f x.view) more
   total-views f = total-map (λ (x : SideView). x.view) f more
 
-  total-before : (f : View → ℕ) → total f (views_of views) ≡ total (λ (x : SideView). f x.view) views
+  total-before : (f : View → ℕ) → sum_over f (views_of views) ≡ sum_over (λ (x : SideView). f x.view) views
   total-before f = total-map (λ (x : SideView). x.view) f views
 
-  sums-views : (f : View → ℕ) → total f (views_of more) + f v.view ≡ total f (views_of views) + f root.view + f seat.view
+  sums-views : (f : View → ℕ) → sum_over f (views_of more) + f v.view ≡ sum_over f (views_of views) + f root.view + f seat.view
   sums-views f = let a = total-views f in let b = total-before f in let c = sums (λ x. f x.view) in omega arith
 
-  some-there : 0 < total (λ (x : View). many (is_number n) x.lane_numbers) (views_of views)
+  some-there : 0 < sum_over (λ (x : View). many (is_number n) x.lane_numbers) (views_of views)
   some-there = let z = total-at (λ (x : View). many (is_number n) x.lane_numbers) (views_of views) id v.view (at-view sys words views holds id v at_id) in omega arith
 
   new-logs : Logs holds.lanes (views_of more)
@@ -172,7 +172,7 @@ module _ (sys : System) (words : List ℕ) (views : List SideView) (holds : Side
   was-there : get_elem? views other ≡ some w
   was-there = sym (set_else views id other both apart) ∙ there
 
-  both-sums : (f : SideView → ℕ) → total f after + f v + f w ≡ total f views + f both + f no_seat
+  both-sums : (f : SideView → ℕ) → sum_over f after + f v + f w ≡ sum_over f views + f both + f no_seat
   both-sums f = let a = total-set f views id v both at_id in let b = total-set f mid other w no_seat there in omega arith
 
   each-after : (P : SideView → Type 0) → P both → P no_seat → ((j : ℕ) (x : SideView) → get_elem? views j ≡ some x → P x) → (j : ℕ) (x : SideView) → get_elem? after j ≡ some x → P x
@@ -181,7 +181,7 @@ module _ (sys : System) (words : List ℕ) (views : List SideView) (holds : Side
   in-joined : (P : View → Type 0) → ((j : ℕ) (x : SideView) → get_elem? after j ≡ some x → P x.view) → (j : ℕ) (y : View) → get_elem? (views_of after) j ≡ some y → P y
   in-joined P all j y e = let z = from-map (λ (x : SideView). x.view) after j y e in subst P z.2 (all j z.0 z.1)
 
-  joined-sums : (f : View → ℕ) → total f (views_of after) + f v.view + f w.view ≡ total f (views_of views) + f both.view + f nothing
+  joined-sums : (f : View → ℕ) → sum_over f (views_of after) + f v.view + f w.view ≡ sum_over f (views_of views) + f both.view + f empty_view
   joined-sums f = let a = total-map (λ (x : SideView). x.view) f after in let b = total-map (λ (x : SideView). x.view) f views in let c = both-sums (λ x. f x.view) in omega arith
 
   own-of : (j : ℕ) (x : SideView) → get_elem? views j ≡ some x → Each (λ (g : SeatLog). get_elem? holds.lanes g.number ≡ some g.recs) x.view.logs
@@ -298,18 +298,18 @@ module _ (sys : System) (words : List ℕ) (views : List SideView) (holds : Side
   none-left j x ne there = let t = total-two (λ (y : SideView). length y.view.logs + length y.view.lane_numbers) views id j v x at_id there (λ e. ne (sym e)) in
       let m = total-map (λ (y : SideView). y.view) (λ (y : View). length y.logs + length y.lane_numbers) views in let r = holds.logs.rights in omega arith
 
-  logs-alone : (n : ℕ) → total (λ (x : View). many (is_log n) x.logs) (views_of views) ≡ many (is_log n) v.view.logs
+  logs-alone : (n : ℕ) → sum_over (λ (x : View). many (is_log n) x.logs) (views_of views) ≡ many (is_log n) v.view.logs
   logs-alone n = total-map (λ (y : SideView). y.view) (λ (x : View). many (is_log n) x.logs) views
       ∙ alone-total (λ (x : SideView). many (is_log n) x.view.logs) views id v at_id (λ j x ne there. let z = none-left j x ne there in let l = many-le (is_log n) x.view.logs in omega arith)
 
-  numbers-alone : (n : ℕ) → total (λ (x : View). many (is_number n) x.lane_numbers) (views_of views) ≡ many (is_number n) v.view.lane_numbers
+  numbers-alone : (n : ℕ) → sum_over (λ (x : View). many (is_number n) x.lane_numbers) (views_of views) ≡ many (is_number n) v.view.lane_numbers
   numbers-alone n = total-map (λ (y : SideView). y.view) (λ (x : View). many (is_number n) x.lane_numbers) views
       ∙ alone-total (λ (x : SideView). many (is_number n) x.view.lane_numbers) views id v at_id (λ j x ne there. let z = none-left j x ne there in let l = many-le (is_number n) x.view.lane_numbers in omega arith)
 
   abbrev code : ℕ
   code = get_or words 4488 0
 
-  stops-alone : total (λ (x : SideView). many (eqb code) x.stops) views ≡ many (eqb code) v.stops
+  stops-alone : sum_over (λ (x : SideView). many (eqb code) x.stops) views ≡ many (eqb code) v.stops
   stops-alone = alone-total (λ (x : SideView). many (eqb code) x.stops) views id v at_id (λ j x ne there. ap (many (eqb code)) (let z = none-left j x ne there in holds.idle j x there (omega arith)))
 
   knows : IsSideWhole sys v

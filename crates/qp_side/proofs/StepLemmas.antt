@@ -19,7 +19,7 @@ use Rattle.qp_model.specs.WordLaw.{is_object, is_signal, is_timer}
 use Rattle.qp_model.proofs.WordLemmas.{Held, held-other}
 use Rattle.qp_model.proofs.WordLawLemmas.{subscribers-counts, time_event-counts}
 use Rattle.std.specs.Prelude.{None}
-use Rattle.qp_table.specs.Counting.{Each, total, many}
+use Rattle.qp_table.specs.Counting.{Each, sum_over, many}
 use Rattle.qp_table.specs.Now.{at, at_two}
 use Rattle.qp_table.specs.Rule.{mark_in, is_serve, Logs, Was, Seen}
 use Rattle.qp_table.specs.After.{logged, noted, HasRoom}
@@ -60,17 +60,17 @@ module _ (sys : System) (words : List ℕ) (views : List SideView) (holds : Side
   set-views : (u : SideView) → set (views_of views) id u.view ≡ views_of (set views id u)
   set-views u = sym (map-set (λ (x : SideView). x.view) views id u)
 
-  serves-same : (u : SideView) → u.view.serves ≡ v.view.serves → (o : ℕ) → total (λ (x : SideView). many (is_serve o) x.view.serves) (set views id u) ≤ cond (is_object sys o) 1 0
+  serves-same : (u : SideView) → u.view.serves ≡ v.view.serves → (o : ℕ) → sum_over (λ (x : SideView). many (is_serve o) x.view.serves) (set views id u) ≤ cond (is_object sys o) 1 0
   serves-same u same o = let t = total-set (λ (x : SideView). many (is_serve o) x.view.serves) views id v u at_id in let e = ap (many (is_serve o)) same in let s = holds.serves o in omega arith
 
   -- who serves an object serves one of the system
   pub served-known : (o : ℕ) → 0 < many (is_serve o) v.view.serves → is_object sys o ≡ true
   served-known o mine = go (is_object sys o) refl (let t = total-in in let s = holds.serves o in omega arith)
     where
-      total-in : many (is_serve o) v.view.serves ≤ total (λ (x : SideView). many (is_serve o) x.view.serves) views
+      total-in : many (is_serve o) v.view.serves ≤ sum_over (λ (x : SideView). many (is_serve o) x.view.serves) views
       total-in = let t = total-set (λ (x : SideView). many (is_serve o) x.view.serves) views id v v at_id in top views id at_id
         where
-          top : (xs : List SideView) (i : ℕ) → get_elem? xs i ≡ some v → many (is_serve o) v.view.serves ≤ total (λ (x : SideView). many (is_serve o) x.view.serves) xs
+          top : (xs : List SideView) (i : ℕ) → get_elem? xs i ≡ some v → many (is_serve o) v.view.serves ≤ sum_over (λ (x : SideView). many (is_serve o) x.view.serves) xs
           top [] i e = absurd (some-ne-none v (sym e))
           top (x ∷ xs) zero e = let s : many (is_serve o) x.view.serves ≡ many (is_serve o) v.view.serves = ap (λ (y : SideView). many (is_serve o) y.view.serves) (some-is x v e) in omega arith
             where
@@ -121,7 +121,7 @@ module _ (sys : System) (words : List ℕ) (views : List SideView) (holds : Side
 
   module _ (room : HasRoom v.view) where
     few : length room.own.recs ≤ 1000000
-    few = let r : total (λ (g : SeatLog). length g.recs) (room.own ∷ room.others) < 1000001 = subst (λ (ls : List SeatLog). total (λ (g : SeatLog). length g.recs) ls < 1000001) room.is room.room in omega arith
+    few = let r : sum_over (λ (g : SeatLog). length g.recs) (room.own ∷ room.others) < 1000001 = subst (λ (ls : List SeatLog). sum_over (λ (g : SeatLog). length g.recs) ls < 1000001) room.is room.room in omega arith
 
     abbrev pub lane : Lane holds.lanes room.own
     lane = own-lane holds.lanes (views_of views) id v.view room.own room.others holds.logs at-view room.is

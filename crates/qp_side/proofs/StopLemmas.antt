@@ -9,7 +9,7 @@ use lib.Seq.{set-get_or}
 use Rattle.std.proofs.lemmas.List.{map-set}
 use Rattle.atomic_table.proofs.Lists.{exchanged, set_again}
 use Rattle.qp_model.specs.declared.systems.System.{System}
-use Rattle.qp_table.specs.Counting.{Each, total, many}
+use Rattle.qp_table.specs.Counting.{Each, sum_over, many}
 use Rattle.qp_table.specs.Rule.{is_serve, Logs, Seen}
 use Rattle.qp_table.specs.declared.view.View.{View}
 use Rattle.qp_table.proofs.Counting.{total-set, total-at, each-map}
@@ -66,7 +66,7 @@ module _ (sys : System) (words : List ℕ) (views : List SideView) (holds : Side
   fewer-found k is pos c = let h = holds.stop in let low = h.low in record {
     low = omega arith;
     none = λ z. absurd (omega arith);
-    some_seat = λ p. let a = h.some_seat (omega arith) in let t = total-set (λ (y : SideView). many (eqb k) y.stops) views id v (handed c) at_id in let e : total (λ (y : SideView). many (eqb k) y.stops) views ≡ total (λ (y : SideView). many (eqb n) y.stops) views = ap (λ z. total (λ (y : SideView). many (eqb z) y.stops) views) is in omega arith;
+    some_seat = λ p. let a = h.some_seat (omega arith) in let t = total-set (λ (y : SideView). many (eqb k) y.stops) views id v (handed c) at_id in let e : sum_over (λ (y : SideView). many (eqb k) y.stops) views ≡ sum_over (λ (y : SideView). many (eqb n) y.stops) views = ap (λ z. sum_over (λ (y : SideView). many (eqb z) y.stops) views) is in omega arith;
     found = fits (λ y. Each (λ z. (z ≡ n) × (0 < n)) y.answered) (λ y. Each (λ z. (z ≡ k) × (0 < k)) y.answered) views id (handed c)
         (λ j y ne there e. subst (λ m. Each (λ z. (z ≡ m) × (0 < m)) y.answered) (sym is) e) (subst (λ m. Each (λ z. (z ≡ m) × (0 < m)) v.answered) (sym is) (h.found id v at_id)) h.found;
   }

@@ -34,8 +34,8 @@ pub record IsThere (sys : System) (o sig : ℕ) (v : SideView) (r : Rec) (u : Si
   pub adds : SideAdds sys (word.Signal sig) n r v u
   pub was : member_in o sig v.view.logs ≡ true
 
-abbrev pub Subscribes : System → ℕ → ℕ → SideView → Rec → SideView → Type 0
-Subscribes sys o sig v r u = MatchBool (r.kind == 31) (ObjectComes sys o sig v r u) (IsThere sys o sig v r u)
+abbrev pub SideSubscribes : System → ℕ → ℕ → SideView → Rec → SideView → Type 0
+SideSubscribes sys o sig v r u = MatchBool (r.kind == 31) (ObjectComes sys o sig v r u) (IsThere sys o sig v r u)
 
 -- `unsub` where object o goes, or `same` where it is no subscriber
 pub record ObjectGoes (sys : System) (o sig : ℕ) (v : SideView) (r : Rec) (u : SideView) : Type 0 where
@@ -44,14 +44,14 @@ pub record ObjectGoes (sys : System) (o sig : ℕ) (v : SideView) (r : Rec) (u :
   pub draws : SideDraws sys (word.Signal sig) n r v u
   pub was : member_in o sig v.view.logs ≡ true
 
-pub record IsAway (sys : System) (o sig : ℕ) (v : SideView) (r : Rec) (u : SideView) : Type 0 where
+pub record SideIsAway (sys : System) (o sig : ℕ) (v : SideView) (r : Rec) (u : SideView) : Type 0 where
   pub n : ℕ
   pub is : r ≡ rec_of 33 o (sig ∷ n ∷ [])
   pub adds : SideAdds sys (word.Signal sig) n r v u
   pub was : member_in o sig v.view.logs ≡ false
 
-abbrev pub Unsubscribes : System → ℕ → ℕ → SideView → Rec → SideView → Type 0
-Unsubscribes sys o sig v r u = MatchBool (r.kind == 32) (ObjectGoes sys o sig v r u) (IsAway sys o sig v r u)
+abbrev pub SideUnsubscribes : System → ℕ → ℕ → SideView → Rec → SideView → Type 0
+SideUnsubscribes sys o sig v r u = MatchBool (r.kind == 32) (ObjectGoes sys o sig v r u) (SideIsAway sys o sig v r u)
 
 -- `pub` with the set, whose members are objects of the system
 pub record ShowsSet (sys : System) (o sig : ℕ) (v : SideView) (r : Rec) (u : SideView) : Type 0 where
@@ -83,7 +83,7 @@ abbrev pub ArmsTimer : System → ℕ → ℕ → ℕ → ℕ → SideView → R
 ArmsTimer sys o t ticks interval v r u = MatchBool (r.kind == 34) (IsArmed sys o t ticks interval v r u) (WasArmed sys o t v r u)
 
 -- `idle`: it is disarmed
-pub record IsIdle (sys : System) (o t : ℕ) (v : SideView) (r : Rec) (u : SideView) : Type 0 where
+pub record IsIdleTimer (sys : System) (o t : ℕ) (v : SideView) (r : Rec) (u : SideView) : Type 0 where
   pub n : ℕ
   pub is : r ≡ rec_of 37 o (t ∷ n ∷ [])
   pub adds : SideAdds sys (word.Timer t) n r v u
@@ -98,7 +98,7 @@ pub record IsDisarmed (sys : System) (o t : ℕ) (v : SideView) (r : Rec) (u : S
   pub small : former < 65536
 
 abbrev pub DisarmsTimer : System → ℕ → ℕ → SideView → Rec → SideView → Type 0
-DisarmsTimer sys o t v r u = MatchBool (r.kind == 35) (IsDisarmed sys o t v r u) (IsIdle sys o t v r u)
+DisarmsTimer sys o t v r u = MatchBool (r.kind == 35) (IsDisarmed sys o t v r u) (IsIdleTimer sys o t v r u)
 
 -- `rearm` with the former counter
 pub record RearmsTimer (sys : System) (o t ticks : ℕ) (v : SideView) (r : Rec) (u : SideView) : Type 0 where
@@ -122,8 +122,8 @@ pub record IsFired (sys : System) (t : ℕ) (v : SideView) (r : Rec) (u : SideVi
   pub is : r ≡ rec_of 39 0 (t ∷ n ∷ reload ∷ [])
   pub draws : SideDraws sys (word.Timer t) n r v u
 
-abbrev pub TicksTimer : System → ℕ → ℕ → SideView → Rec → SideView → Type 0
-TicksTimer sys o t v r u = MatchBool (r.kind == 37) (IsIdle sys o t v r u) (MatchBool (r.kind == 39) (IsFired sys t v r u) (IsDown sys t v r u))
+abbrev pub SideTicksTimer : System → ℕ → ℕ → SideView → Rec → SideView → Type 0
+SideTicksTimer sys o t v r u = MatchBool (r.kind == 37) (IsIdleTimer sys o t v r u) (MatchBool (r.kind == 39) (IsFired sys t v r u) (IsDown sys t v r u))
 
 -- Tries: a call makes at most one more than others made operations on the word in it, by which the mark rose. Its own is 1 but where its record, `idle` or
 -- an assertion, draws no number.
@@ -137,8 +137,8 @@ pub record SideTries (sys : System) (w : Word) (r : Rec) (before after : ℕ) (v
 -- The stop word.
 
 -- the code handed in
-abbrev pub HandsIn : ℕ → SideView → SideView → Type 0
-HandsIn code v u = u ≡ record v { stops = code ∷ v.stops }
+abbrev pub SideHandsIn : ℕ → SideView → SideView → Type 0
+SideHandsIn code v u = u ≡ record v { stops = code ∷ v.stops }
 
 -- the code found, which is the one found before; where there is none, none was found before and the seat handed none in
 abbrev pub FindsCode : SideView → SideView → Option ℕ → Type 0

@@ -16,7 +16,7 @@ use Rattle.qp_model.specs.TimeEvents.{Clock, time_event}
 use Rattle.qp_model.specs.WordLaw.{is_object, is_signal, is_timer}
 use Rattle.qp_plain_words.specs.Sets.{are_members}
 use Rattle.qp_table.specs.TwoTables.{SideWords}
-use Rattle.qp_table.specs.Counting.{Each, total, many}
+use Rattle.qp_table.specs.Counting.{Each, sum_over, many}
 use Rattle.qp_table.specs.Rule.{is_serve, Logs, Was, Seen}
 use Rattle.qp_table.specs.declared.view.SeatLog.{SeatLog}
 use Rattle.qp_table.specs.declared.view.View.{View}
@@ -91,7 +91,7 @@ member_in o s (g ∷ gs) = member_from o s false g.recs
 pub record StopHolds (n : ℕ) (views : List SideView) : Type 0 where
   pub low : n ≤ 7
   pub none : n ≡ 0 → (id : ℕ) (v : SideView) → get_elem? views id ≡ some v → v.stops ≡ []
-  pub some_seat : 0 < n → 0 < total (λ (v : SideView). many (eqb n) v.stops) views
+  pub some_seat : 0 < n → 0 < sum_over (λ (v : SideView). many (eqb n) v.stops) views
   pub found : (id : ℕ) (v : SideView) → get_elem? views id ≡ some v → Each (λ k. (k ≡ n) × (0 < n)) v.answered
 
 abbrev pub views_of : List SideView → List View
@@ -111,7 +111,7 @@ pub record SideHolds (sys : System) (words : List ℕ) (views : List SideView) :
   pub logs : Logs lanes (views_of views)
   pub seen : Seen words (views_of views) was
   pub first : (w : ℕ) → was w 0 ≡ 0
-  pub serves : (o : ℕ) → total (λ (v : SideView). many (is_serve o) v.view.serves) views ≤ cond (is_object sys o) 1 0
+  pub serves : (o : ℕ) → sum_over (λ (v : SideView). many (is_serve o) v.view.serves) views ≤ cond (is_object sys o) 1 0
   pub home : (id : ℕ) (v : SideView) → get_elem? views id ≡ some v → KnowsItsOwn sys now v
   pub idle : (id : ℕ) (v : SideView) → get_elem? views id ≡ some v → length v.view.logs ≡ 0 → v.stops ≡ []
   pub stop : StopHolds (slice_index words stop_at) views

@@ -14,8 +14,8 @@ abbrev pub in_set : ℕ → Serve → Bool
 in_set objects x = eqb (bit_at objects (x.object - 1)) 1
 
 -- a view may be cut in two
-abbrev pub MayPart : System → ℕ → SideView → SideView → SideView → Type 0
-MayPart sys id v left right = (words : List ℕ) (views : List SideView) → SideHolds sys words views → get_elem? views id ≡ some v → SideHolds sys words (slice_set views id left ++ right ∷ [])
+abbrev pub SideMayPart : System → ℕ → SideView → SideView → SideView → Type 0
+SideMayPart sys id v left right = (words : List ℕ) (views : List SideView) → SideHolds sys words views → get_elem? views id ≡ some v → SideHolds sys words (slice_set views id left ++ right ∷ [])
 
 -- a look that changes nothing tells the whole
 abbrev pub WholeTold : System → SideView → SideView → Type 0

@@ -8,7 +8,7 @@ use Rattle.qp_model.specs.declared.systems.System.{System}
 use Rattle.qp_model.specs.Subscribers.{bits_of_set}
 use Rattle.qp_table.specs.Counting.{Each}
 use Rattle.qp_table.specs.Rule.{mark_in}
-use Rattle.qp_table.specs.After.{rec_of, glanced, noted, nothing, onlooker, passing, handing, granting, views_joined}
+use Rattle.qp_table.specs.After.{rec_of, glanced, noted, empty_view, onlooker, passing, handing, granting, views_joined}
 use Rattle.qp_table.specs.declared.view.SeatLog.{SeatLog}
 use Rattle.qp_table.specs.declared.view.Serve.{Serve}
 use Rattle.qp_table.specs.Words.{latest}
@@ -138,7 +138,7 @@ abbrev pub root_less : ℕ → (Serve → Bool) → SideView → SideView
 root_less n t v = record v { view = handing t (granting n v.view) }
 
 abbrev pub seat_with : ℕ → (Serve → Bool) → SideView → SideView
-seat_with n t v = record { view = record nothing { logs = record { number = n; recs = [] } ∷ []; serves = passing t v.view.serves }; stops = []; answered = [] }
+seat_with n t v = record { view = record empty_view { logs = record { number = n; recs = [] } ∷ []; serves = passing t v.view.serves }; stops = []; answered = [] }
 
 -- the objects that a seat serves, where it has records of its own
 abbrev pub served_by : List SeatLog → List Serve → List Serve
@@ -154,8 +154,8 @@ abbrev pub side_onlooker : SideView → SideView
 side_onlooker v = record { view = onlooker v.view; stops = []; answered = [] }
 
 abbrev pub no_seat : SideView
-no_seat = record { view = nothing; stops = []; answered = [] }
+no_seat = record { view = empty_view; stops = []; answered = [] }
 
 -- the root at first: it has all numbers and serves these objects
 abbrev pub side_root : List ℕ → List Serve → SideView
-side_root numbers xs = record { view = record nothing { lane_numbers = numbers; serves = xs }; stops = []; answered = [] }
+side_root numbers xs = record { view = record empty_view { lane_numbers = numbers; serves = xs }; stops = []; answered = [] }

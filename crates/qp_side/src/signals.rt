@@ -21,7 +21,7 @@ fn has_bit(word: u64, object: u8) -> bool
 
 impl SideSeat<'_> {
     ghost use Rattle.qp_side.specs.Seat.{StaysAs, side_recs, serves_object};
-    ghost use Rattle.qp_side.specs.Calls.{Subscribes, Unsubscribes, ShowsSet};
+    ghost use Rattle.qp_side.specs.Calls.{SideSubscribes, SideUnsubscribes, ShowsSet};
 
     /// Object `o`, which the seat serves, subscribes to a signal. The record is `sub`, or `same` where it does already.
     pub fn subscribe(&mut self, o: u8, sig: u16) -> Rec
@@ -32,7 +32,7 @@ impl SideSeat<'_> {
         ensures same { (self.new.words ≡ self.old.words) × (self.new.seat.table_id ≡ self.old.seat.table_id) }
         ensures stays { StaysAs self.old.seat.me.0 self.new.seat.me.0 }
         ensures answered { side_recs self.new.seat.me.0 ≡ side_recs self.old.seat.me.0 ++ result ∷ [] }
-        ensures subscribes { Subscribes self.old.words.now.shared.key o sig self.old.seat.me.0 result self.new.seat.me.0 }
+        ensures subscribes { SideSubscribes self.old.words.now.shared.key o sig self.old.seat.me.0 result self.new.seat.me.0 }
     {
         let shown = look_for(self.words, &mut self.seat, o, sig, 1);
         if has_bit(shown, o) {
@@ -52,7 +52,7 @@ impl SideSeat<'_> {
         ensures same { (self.new.words ≡ self.old.words) × (self.new.seat.table_id ≡ self.old.seat.table_id) }
         ensures stays { StaysAs self.old.seat.me.0 self.new.seat.me.0 }
         ensures answered { side_recs self.new.seat.me.0 ≡ side_recs self.old.seat.me.0 ++ result ∷ [] }
-        ensures unsubscribes { Unsubscribes self.old.words.now.shared.key o sig self.old.seat.me.0 result self.new.seat.me.0 }
+        ensures unsubscribes { SideUnsubscribes self.old.words.now.shared.key o sig self.old.seat.me.0 result self.new.seat.me.0 }
     {
         let shown = look_for(self.words, &mut self.seat, o, sig, 0);
         if !has_bit(shown, o) {

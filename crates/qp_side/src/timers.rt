@@ -15,7 +15,7 @@ use std::sync::ledger::Ledger;
 
 impl SideSeat<'_> {
     ghost use Rattle.qp_side.specs.Seat.{OwnsTimer, StaysAs, side_recs};
-    ghost use Rattle.qp_side.specs.Calls.{ArmsTimer, DisarmsTimer, RearmsTimer, SideTries, TicksTimer};
+    ghost use Rattle.qp_side.specs.Calls.{ArmsTimer, DisarmsTimer, RearmsTimer, SideTries, SideTicksTimer};
 
     /// Arms a time event of object `o`. The record is `arm`, or assertion 3 where its counter isn't 0.
     pub fn arm<L: Ledger>(
@@ -92,7 +92,7 @@ impl SideSeat<'_> {
         ensures same { (self.new.words ≡ self.old.words) × (self.new.seat.table_id ≡ self.old.seat.table_id) }
         ensures stays { StaysAs self.old.seat.me.0 self.new.seat.me.0 }
         ensures answered { side_recs self.new.seat.me.0 ≡ side_recs self.old.seat.me.0 ++ result ∷ [] }
-        ensures ticks { TicksTimer self.old.words.now.shared.key o t self.old.seat.me.0 result self.new.seat.me.0 }
+        ensures ticks { SideTicksTimer self.old.words.now.shared.key o t self.old.seat.me.0 result self.new.seat.me.0 }
         ensures tries { SideTries self.old.words.now.shared.key (word.Timer t) result steps.old steps.new self.old.seat.me.0 self.new.seat.me.0 }
     {
         let (found, done) = try_tick(self.words, &mut self.seat, o, t, steps);

@@ -8,7 +8,7 @@ ghost use Rattle.qp_table.specs.Rule.{is_number};
 ghost use Rattle.qp_table.specs.First.{first_serves};
 ghost use Rattle.qp_side.specs.declared.view.SideView.{SideView};
 ghost use Rattle.qp_side.specs.Told.{root_less, seat_with, both_of, no_seat, side_onlooker, side_root};
-ghost use Rattle.qp_side.specs.Seats.{in_set, MayPart, WholeTold};
+ghost use Rattle.qp_side.specs.Seats.{in_set, SideMayPart, WholeTold};
 
 use crate::steps::{NOTHING, Words, look};
 use crate::view::SideView;
@@ -70,7 +70,7 @@ fn part<T: Parts>(
     _objects: u32,
 ) -> Seat<(), SideView>
     requires own { (root.old.table_id ≡ words.now.shared.table_id) × (0 < words.now.shared.table_id.words) }
-    requires keeps { MayPart words.now.shared.key root.old.id root.old.me.0 (T.left root.old.me.0) (T.right root.old.me.0) }
+    requires keeps { SideMayPart words.now.shared.key root.old.id root.old.me.0 (T.left root.old.me.0) (T.right root.old.me.0) }
     ensures root { (root.new.table_id ≡ root.old.table_id) × (root.new.id ≡ root.old.id) × (root.new.me.1 ≡ root.old.me.1) }
     ensures left { root.new.me.0 ≡ T.left root.old.me.0 }
     ensures seat { (result.table_id ≡ root.old.table_id) × (result.me.1 ≡ []) }

@@ -11,9 +11,9 @@ use Rattle.qp_stim.specs.declared.heard.Pars.{Pars}
 use Rattle.qp_stim.specs.declared.names.Signal.{Signal}
 use Rattle.qp_stim.specs.declared.verdict.LineStep.{LineStep}
 use Rattle.qp_stim.specs.Numbers.{number_of_token}
-use Rattle.qp_stim.specs.Grammar.{numbers_of}
+use Rattle.qp_stim.specs.Grammar.{numbers_of_tokens}
 use Rattle.qp_chart_text.specs.Tokens.{◌>>=◌}
-use Rattle.qp_stim.specs.Codes.{all_fit, stands}
+use Rattle.qp_stim.specs.Codes.{all_fit, source_stands}
 use Rattle.qp_stim.specs.Reading.{held, no_pars, with_par, with_pars, admits}
 use Rattle.qp_stim.proofs.NumbersLemmas.{held-small}
 
@@ -24,9 +24,9 @@ none_by p (Some n) os h = cc
 
 -- a token that is no number
 pub numbers_of-None : (p : Pars) (token : List ℕ) (more : List (List ℕ)) → option_map held (number_of_token token) ≡ None
-    → option_map (with_pars p) (numbers_of (token ∷ more)) ≡ None
-unfolding numbers_of
-numbers_of-None p token more h = none_by p (number_of_token token) (numbers_of more) h
+    → option_map (with_pars p) (numbers_of_tokens (token ∷ more)) ≡ None
+unfolding numbers_of_tokens
+numbers_of-None p token more h = none_by p (number_of_token token) (numbers_of_tokens more) h
 
 more_by : (p : Pars) (o : Option ℕ) (os : Option (List ℕ)) (n : Option ℕ) → option_map held o ≡ Some n
     → option_map (with_pars p) (o >>= λ n. os >>= λ ns. Some (n ∷ ns)) ≡ option_map (with_pars (with_par p n)) os
@@ -36,12 +36,12 @@ more_by p (Some k) (Some ks) n h = let same : held k ≡ n = cc in ap (λ x. Som
 
 -- a token that is one
 pub numbers_of-Some : (p : Pars) (token : List ℕ) (more : List (List ℕ)) (n : Option ℕ) → option_map held (number_of_token token) ≡ Some n
-    → option_map (with_pars p) (numbers_of (token ∷ more)) ≡ option_map (with_pars (with_par p n)) (numbers_of more)
-unfolding numbers_of
-numbers_of-Some p token more n h = more_by p (number_of_token token) (numbers_of more) n h
+    → option_map (with_pars p) (numbers_of_tokens (token ∷ more)) ≡ option_map (with_pars (with_par p n)) (numbers_of_tokens more)
+unfolding numbers_of_tokens
+numbers_of-Some p token more n h = more_by p (number_of_token token) (numbers_of_tokens more) n h
 
-pub numbers_of-end : (p : Pars) → option_map (with_pars p) (numbers_of []) ≡ Some p
-unfolding numbers_of
+pub numbers_of-end : (p : Pars) → option_map (with_pars p) (numbers_of_tokens []) ≡ Some p
+unfolding numbers_of_tokens
 numbers_of-end p = refl
 
 full_by : (p : Pars) (n : ℕ) (b : Bool) → (cond b (record p { many = true }) (record p { kept = record { items = p.kept.items ++ n ∷ [] } })).fit ≡ p.fit
@@ -124,18 +124,18 @@ admits-out sources signal p reserve step h =
 
 -- where there are more than eight
 admits-many : (sources : ℕ) (signal : Signal) (p : Pars) (reserve : Option ℕ) (a b : LineStep) → p.many ≡ true
-    → admits sources signal p reserve a ≡ stands sources (not p.fit || (signal.fixed && is_some reserve)) true b
+    → admits sources signal p reserve a ≡ source_stands sources (not p.fit || (signal.fixed && is_some reserve)) true b
 admits-many sources signal p reserve a b h =
     ap (λ m. cond (not p.fit || (signal.fixed && is_some reserve)) (Err 3) (cond (sources == 0) (Err 4) (cond (m || not (length p.kept.items == signal.params)) (Err 5) (Ok a)))) h
 
-stands-out : (sources : ℕ) (fit fixed wrong : Bool) (step : LineStep) → fit ≡ false → Err 3 ≡ stands sources (not fit || fixed) wrong step
+stands-out : (sources : ℕ) (fit fixed wrong : Bool) (step : LineStep) → fit ≡ false → Err 3 ≡ source_stands sources (not fit || fixed) wrong step
 stands-out sources true fixed wrong step h = cc
 stands-out sources false fixed wrong step h = refl
 
 admits_by : (sources : ℕ) (signal : Signal) (pars : List ℕ) (reserve : Option ℕ) (made : ArrayVec ℕ → LineStep) → signal.params ≤ 8
     → (fits : Bool) → all_fit pars ≡ fits
     → admits sources signal (with_pars no_pars pars) reserve (made (with_pars no_pars pars).kept)
-    ≡ stands sources (not (all_fit pars) || (signal.fixed && is_some reserve)) (not (length pars == signal.params)) (made (record { items = pars }))
+    ≡ source_stands sources (not (all_fit pars) || (signal.fixed && is_some reserve)) (not (length pars == signal.params)) (made (record { items = pars }))
 admits_by sources signal pars reserve made few false h =
     admits-out sources signal (with_pars no_pars pars) reserve (made (with_pars no_pars pars).kept) (with_pars-fit no_pars pars ∙ h)
     ∙ stands-out sources (all_fit pars) (signal.fixed && is_some reserve) (not (length pars == signal.params)) (made (record { items = pars })) h
@@ -143,17 +143,17 @@ admits_by sources signal pars reserve made few true h =
     elim (few_or_many pars) [
       | inl le ↦
           ap (λ p. admits sources signal p reserve (made p.kept)) (with_pars-few [] true false pars h (omega (arith, le)))
-          ∙ ap (λ b. stands sources (not b || (signal.fixed && is_some reserve)) (not (length pars == signal.params)) (made (record { items = pars }))) (sym h)
+          ∙ ap (λ b. source_stands sources (not b || (signal.fixed && is_some reserve)) (not (length pars == signal.params)) (made (record { items = pars }))) (sym h)
       | inr gt ↦
           admits-many sources signal (with_pars no_pars pars) reserve (made (with_pars no_pars pars).kept) (made (record { items = pars }))
           (with_pars-many no_pars pars h (omega arith) (inr (omega (arith, gt))))
-          ∙ ap (λ b. stands sources (not b || (signal.fixed && is_some reserve)) true (made (record { items = pars }))) (with_pars-fit no_pars pars)
-          ∙ ap (λ w. stands sources (not (all_fit pars) || (signal.fixed && is_some reserve)) w (made (record { items = pars })))
+          ∙ ap (λ b. source_stands sources (not b || (signal.fixed && is_some reserve)) true (made (record { items = pars }))) (with_pars-fit no_pars pars)
+          ∙ ap (λ w. source_stands sources (not (all_fit pars) || (signal.fixed && is_some reserve)) w (made (record { items = pars })))
           (sym (not_equal (length pars) signal.params (omega arith)))
     ]
 
 -- the codes 3 to 5 of the parameters, by what was kept of them
 pub admits-pars : (sources : ℕ) (signal : Signal) (pars : List ℕ) (reserve : Option ℕ) (made : ArrayVec ℕ → LineStep) → signal.params ≤ 8
     → admits sources signal (with_pars no_pars pars) reserve (made (with_pars no_pars pars).kept)
-    ≡ stands sources (not (all_fit pars) || (signal.fixed && is_some reserve)) (not (length pars == signal.params)) (made (record { items = pars }))
+    ≡ source_stands sources (not (all_fit pars) || (signal.fixed && is_some reserve)) (not (length pars == signal.params)) (made (record { items = pars }))
 admits-pars sources signal pars reserve made few = admits_by sources signal pars reserve made few (all_fit pars) refl

@@ -17,14 +17,14 @@ use Rattle.qp_stim.specs.declared.names.Signal.{Signal}
 use Rattle.qp_stim.specs.declared.verdict.LineStep.{LineStep}
 use Rattle.qp_stim.specs.declared.verdict.LineStep.TheVariants.{Skips, Opens, Adds}
 use Rattle.qp_stim.specs.Parts.{is_skipped, lines}
-use Rattle.qp_stim.specs.Names.{Dictionary, FewParams, names_of, object_in, signal_in}
+use Rattle.qp_stim.specs.Names.{Dictionary, FewParams, dictionary_of, object_in, signal_in}
 use Rattle.qp_stim.specs.Grammar.{Said, said_of}
 use Rattle.qp_stim.specs.Grammar as line
-use Rattle.qp_stim.specs.Codes.{exceeds, all_fit, is_out, event, stands, post_step, publish_step, source_step, step_said, step_if, step_of}
-use Rattle.qp_stim.specs.Stimuli.{Fault, add_to_last, sources_after, fails_at, read_on, stimuli_of}
+use Rattle.qp_stim.specs.Codes.{exceeds, all_fit, is_out, event, source_stands, post_step, publish_step, source_step, step_said, step_if, step_of}
+use Rattle.qp_stim.specs.Stimuli.{FaultLine, add_to_last, sources_after, fails_at, read_on, stimuli_of}
 use Rattle.qp_model.specs.Results.{◌>>=◌}
 use Rattle.qp_stim.specs.Answer.{StimuliAnswers}
-use Rattle.qp_stim.specs.Rules.{EventFits, PostFits, StimFits, StimuliFit}
+use Rattle.qp_stim.specs.Rules.{EventFits, PostFits, StimulusFits, StimuliFit}
 use Rattle.qp_model.proofs.HomeLemmas.{All-snoc}
 
 few_by : (b : Bool) (s : Signal) (rest : Option Signal) → s.params ≤ 8 → IfSome rest (λ r. r.params ≤ 8) → IfSome (cond b (Some s) rest) (λ r. r.params ≤ 8)
@@ -37,10 +37,10 @@ few_in n (d ∷ ds) all name =
     few_by (bytes_eq d.name name) (record { number = n; params = d.params; fixed = d.fixed }) (signal_in (n + 1) ds name) all.0 (few_in (n + 1) ds all.1 name)
 
 -- a system whose signals have at most eight parameters
-pub names_of-few : (sys : System) → AllByRecursion (λ d. d.params ≤ 8) sys.signals → FewParams (names_of sys)
+pub names_of-few : (sys : System) → AllByRecursion (λ d. d.params ≤ 8) sys.signals → FewParams (dictionary_of sys)
 names_of-few sys all name = few_in 4 sys.signals all name
 
-pub stimuli_of-names : (sys : System) (text : List ℕ) → stimuli_of sys text ≡ read_on (names_of sys) 1 [] (lines text)
+pub stimuli_of-names : (sys : System) (text : List ℕ) → stimuli_of sys text ≡ read_on (dictionary_of sys) 1 [] (lines text)
 unfolding stimuli_of
 stimuli_of-names sys text = refl
 
@@ -97,7 +97,7 @@ record Stands (out miscounted : Bool) (step found : LineStep) : Type 0 where
   counted : miscounted ≡ false
   same : step ≡ found
 
-stands_Ok : (sources : ℕ) (out miscounted : Bool) (step found : LineStep) → stands sources out miscounted step ≡ Ok found → Stands out miscounted step found
+stands_Ok : (sources : ℕ) (out miscounted : Bool) (step found : LineStep) → source_stands sources out miscounted step ≡ Ok found → Stands out miscounted step found
 stands_Ok sources out miscounted step found h =
     let a = chosen_Ok out 3 (cond (sources == 0) (Err 4) (cond miscounted (Err 5) (Ok step))) found h in
     let b = chosen_Ok (sources == 0) 4 (cond miscounted (Err 5) (Ok step)) found a.1 in
@@ -141,7 +141,7 @@ event_fits sys name signal pars reserve found in_range counted =
 StepFits : System → ℕ → LineStep → Type 0
 StepFits sys sources Skips = ⊤
 StepFits sys sources Opens = sources + 1 ≤ 16
-StepFits sys sources (Adds s) = StimFits sys s
+StepFits sys sources (Adds s) = StimulusFits sys s
 
 post_fits : (sys : System) (sources : ℕ) (o name : List ℕ) (to : Option ℕ) (signal : Option Signal) (pars : List ℕ) (margin reserve : Option ℕ) (step : LineStep)
     → object_in sys.objects o ≡ to → signal_in 4 sys.signals name ≡ signal → post_step sources to signal pars margin reserve ≡ Ok step → StepFits sys sources step
@@ -182,18 +182,18 @@ source_fits sys sources n step h =
     let opens = opens_by ((n == sources + 1) && nat_le n 16) step h in
     subst (StepFits sys sources) opens.1 (next_below sources n opens.0)
 
-tick_fits : (sys : System) (sources rate : ℕ) (step : LineStep) → stands sources (nat_lt 3 rate) false (Adds (stim.Tick rate)) ≡ Ok step → StepFits sys sources step
+tick_fits : (sys : System) (sources rate : ℕ) (step : LineStep) → source_stands sources (nat_lt 3 rate) false (Adds (stim.Tick rate)) ≡ Ok step → StepFits sys sources step
 unfolding StepFits
 tick_fits sys sources rate step h =
     let s = stands_Ok sources (nat_lt 3 rate) false (Adds (stim.Tick rate)) step h in
     let below : rate < 4 = omega (arith, ltb-false 3 rate s.in_range) in
     subst (StepFits sys sources) s.same below
 
-settle_fits : (sys : System) (sources : ℕ) (step : LineStep) → stands sources false false (Adds stim.Settle) ≡ Ok step → StepFits sys sources step
+settle_fits : (sys : System) (sources : ℕ) (step : LineStep) → source_stands sources false false (Adds stim.Settle) ≡ Ok step → StepFits sys sources step
 unfolding StepFits
 settle_fits sys sources step h = subst (StepFits sys sources) (stands_Ok sources false false (Adds stim.Settle) step h).same tt
 
-said_fits : (sys : System) (sources : ℕ) (said : Said) (step : LineStep) → step_said (names_of sys) sources said ≡ Ok step → StepFits sys sources step
+said_fits : (sys : System) (sources : ℕ) (said : Said) (step : LineStep) → step_said (dictionary_of sys) sources said ≡ Ok step → StepFits sys sources step
 unfolding step_said
 said_fits sys sources (line.Source n) step h = source_fits sys sources n step h
 said_fits sys sources (line.Post o e margin reserve) step h =
@@ -202,17 +202,17 @@ said_fits sys sources (line.Publish e reserve) step h = publish_fits sys sources
 said_fits sys sources (line.Tick rate) step h = tick_fits sys sources rate step h
 said_fits sys sources line.Settle step h = settle_fits sys sources step h
 
-if_fits : (sys : System) (sources : ℕ) (said : Option Said) (step : LineStep) → step_if (names_of sys) sources said ≡ Ok step → StepFits sys sources step
+if_fits : (sys : System) (sources : ℕ) (said : Option Said) (step : LineStep) → step_if (dictionary_of sys) sources said ≡ Ok step → StepFits sys sources step
 if_fits sys sources None step h = cc
 if_fits sys sources (Some said) step h = said_fits sys sources said step h
 
-line_by : (sys : System) (sources : ℕ) (b : Bool) (said : Option Said) (step : LineStep) → cond b (Ok Skips) (step_if (names_of sys) sources said) ≡ Ok step
+line_by : (sys : System) (sources : ℕ) (b : Bool) (said : Option Said) (step : LineStep) → cond b (Ok Skips) (step_if (dictionary_of sys) sources said) ≡ Ok step
     → StepFits sys sources step
 unfolding StepFits
 line_by sys sources true said step h = let same : Skips ≡ step = cc in subst (StepFits sys sources) same tt
 line_by sys sources false said step h = if_fits sys sources said step h
 
-line_fits : (sys : System) (sources : ℕ) (text : List ℕ) (step : LineStep) → step_of (names_of sys) sources text ≡ Ok step → StepFits sys sources step
+line_fits : (sys : System) (sources : ℕ) (text : List ℕ) (step : LineStep) → step_of (dictionary_of sys) sources text ≡ Ok step → StepFits sys sources step
 unfolding step_of
 line_fits sys sources text step h = line_by sys sources (is_skipped text) (said_of text) step h
 
@@ -221,10 +221,10 @@ length-add_to_last s [] = refl
 length-add_to_last s (x ∷ []) = refl
 length-add_to_last s (x ∷ y ∷ xs) = ap suc (length-add_to_last s (y ∷ xs))
 
-add_to_last-fits : (sys : System) (s : Stim) (sources : List (List Stim)) → StimFits sys s → AllByRecursion (AllByRecursion (StimFits sys)) sources
-    → AllByRecursion (AllByRecursion (StimFits sys)) (add_to_last s sources)
+add_to_last-fits : (sys : System) (s : Stim) (sources : List (List Stim)) → StimulusFits sys s → AllByRecursion (AllByRecursion (StimulusFits sys)) sources
+    → AllByRecursion (AllByRecursion (StimulusFits sys)) (add_to_last s sources)
 add_to_last-fits sys s [] fits all = tt
-add_to_last-fits sys s (x ∷ []) fits all = (All-snoc (StimFits sys) x s all.0 fits, tt)
+add_to_last-fits sys s (x ∷ []) fits all = (All-snoc (StimulusFits sys) x s all.0 fits, tt)
 add_to_last-fits sys s (x ∷ y ∷ xs) fits all = (all.0, add_to_last-fits sys s (y ∷ xs) fits all.1)
 
 after_fits : (sys : System) (sources : List (List Stim)) (step : LineStep) → StimuliFit sys sources → StepFits sys (length sources) step
@@ -233,7 +233,7 @@ unfolding StepFits
 after_fits sys sources Skips fits step = fits
 after_fits sys sources Opens fits step = record {
   few = omega (arith, length-append sources ([] ∷ []), step);
-  stimuli = All-snoc (AllByRecursion (StimFits sys)) sources [] fits.stimuli tt;
+  stimuli = All-snoc (AllByRecursion (StimulusFits sys)) sources [] fits.stimuli tt;
 }
 after_fits sys sources (Adds s) fits step = record {
   few = omega (arith, length-add_to_last s sources, fits.few);
@@ -241,18 +241,18 @@ after_fits sys sources (Adds s) fits step = record {
 }
 
 next_fits : (sys : System) (n : ℕ) (sources found : List (List Stim)) (text : List ℕ) (more : List (List ℕ)) (r : Result LineStep ℕ) → StimuliFit sys sources
-    → ((step : LineStep) → StimuliFit sys (sources_after sources step) → read_on (names_of sys) (n + 1) (sources_after sources step) more ≡ Ok found → StimuliFit sys found)
-    → step_of (names_of sys) (length sources) text ≡ r
-    → (fails_at n r >>= λ step. read_on (names_of sys) (n + 1) (sources_after sources step) more) ≡ Ok found → StimuliFit sys found
+    → ((step : LineStep) → StimuliFit sys (sources_after sources step) → read_on (dictionary_of sys) (n + 1) (sources_after sources step) more ≡ Ok found → StimuliFit sys found)
+    → step_of (dictionary_of sys) (length sources) text ≡ r
+    → (fails_at n r >>= λ step. read_on (dictionary_of sys) (n + 1) (sources_after sources step) more) ≡ Ok found → StimuliFit sys found
 next_fits sys n sources found text more (Ok step) fits others is h = others step (after_fits sys sources step fits (line_fits sys (length sources) text step is)) h
 next_fits sys n sources found text more (Err code) fits others is h = cc
 
 lines_fit : (sys : System) (n : ℕ) (sources found : List (List Stim)) (texts : List (List ℕ)) → StimuliFit sys sources
-    → read_on (names_of sys) n sources texts ≡ Ok found → StimuliFit sys found
+    → read_on (dictionary_of sys) n sources texts ≡ Ok found → StimuliFit sys found
 unfolding read_on
 lines_fit sys n sources found [] fits h = let same : sources ≡ found = cc in subst (StimuliFit sys) same fits
 lines_fit sys n sources found (text ∷ more) fits h =
-    next_fits sys n sources found text more (step_of (names_of sys) (length sources) text) fits
+    next_fits sys n sources found text more (step_of (dictionary_of sys) (length sources) text) fits
     (λ step after. lines_fit sys (n + 1) (sources_after sources step) found more after) refl h
 
 -- stimuli that were read fit the system
@@ -264,9 +264,9 @@ pub answers-fit : (sys : System) (text : List ℕ) (r : Result (List (List Stim)
 answers-fit sys text (Ok sources) h = stimuli_of-fits sys text sources h
 answers-fit sys text (Err fault) h = tt
 
-pub answers-names : (sys : System) (names : Dictionary) (text : List ℕ) (r : Result (List (List Stim)) StimFault) → names ≡ names_of sys
+pub answers-names : (sys : System) (names : Dictionary) (text : List ℕ) (r : Result (List (List Stim)) StimFault) → names ≡ dictionary_of sys
     → StimuliAnswers r (read_on names 1 [] (lines text)) → StimuliAnswers r (stimuli_of sys text)
 answers-names sys names text r same h =
     let P : Dictionary → Type 0 = λ d. StimuliAnswers r (read_on d 1 [] (lines text)) in
-    let Q : Result (List (List Stim)) Fault → Type 0 = StimuliAnswers r in
+    let Q : Result (List (List Stim)) FaultLine → Type 0 = StimuliAnswers r in
     subst Q (sym (stimuli_of-names sys text)) (subst P same h)

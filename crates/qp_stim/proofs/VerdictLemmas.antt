@@ -15,8 +15,8 @@ use Rattle.qp_stim.specs.Parts.{is_skipped}
 use Rattle.qp_stim.specs.Names.{Dictionary, FewParams}
 use Rattle.qp_stim.specs.Grammar.{Said, said_of}
 use Rattle.qp_stim.specs.Grammar as line
-use Rattle.qp_stim.specs.Codes.{exceeds, all_fit, stands, post_step, publish_step, source_step, step_said, step_if, step_of}
-use Rattle.qp_stim.specs.Reading.{held, no_pars, with_pars, heard_of, small_of, admits, post_verdict, publish_verdict, is_next, tick_verdict, verdict_on}
+use Rattle.qp_stim.specs.Codes.{exceeds, all_fit, source_stands, post_step, publish_step, source_step, step_said, step_if, step_of}
+use Rattle.qp_stim.specs.Reading.{held, no_pars, with_pars, heard_of, small_of, admits, post_verdict, publish_verdict, is_next_source, tick_verdict, verdict_on}
 use Rattle.qp_model.specs.Results.{◌>>=◌}
 use Rattle.qp_stim.proofs.NumbersLemmas.{held-small, held-large}
 use Rattle.qp_stim.proofs.ParsLemmas.{admits-pars}
@@ -30,11 +30,11 @@ held_cases n = elim (below n) [ inl lt ↦ inl (lt, held-small n lt) | inr ge �
 large_is_not_next : (sources n : ℕ) → 2 ^ 64 ≤ n → false ≡ ((n == sources + 1) && nat_le n 16)
 large_is_not_next sources n h = let past : nat_le n 16 ≡ false = grind (arith, nat_tests) in ap (λ b. b && (n == sources + 1)) (sym past) ∙ and_comm (nat_le n 16) (n == sources + 1)
 
-is_next-held : (sources n : ℕ) → is_next sources (held n) ≡ ((n == sources + 1) && nat_le n 16)
+is_next-held : (sources n : ℕ) → is_next_source sources (held n) ≡ ((n == sources + 1) && nat_le n 16)
 is_next-held sources n =
     elim (held_cases n) [
-      | inl h ↦ ap (is_next sources) h.1 ∙ and_comm (nat_le n 16) (n == sources + 1)
-      | inr h ↦ ap (is_next sources) h.1 ∙ large_is_not_next sources n h.0
+      | inl h ↦ ap (is_next_source sources) h.1 ∙ and_comm (nat_le n 16) (n == sources + 1)
+      | inr h ↦ ap (is_next_source sources) h.1 ∙ large_is_not_next sources n h.0
     ]
 
 small_if : (n : ℕ) (b : Bool) → nat_le n 255 ≡ b → cond {A = Result (Option ℕ) ℕ} (nat_le n 255) (Ok (Some n)) (Err 3) ≡ cond (nat_lt 255 n) (Err 3) (Ok (Some n))
@@ -52,10 +52,10 @@ small_of-held (Some n) =
       | inr h ↦ ap (λ x. small_of (Some x)) h.1 ∙ large_if n h.0
     ]
 
-large_tick : (sources n : ℕ) → 2 ^ 64 ≤ n → Err 3 ≡ stands sources (nat_lt 3 n) false (Adds (stim.Tick n))
-large_tick sources n h = let past : nat_lt 3 n ≡ true = grind (arith, nat_tests) in ap (λ b. stands sources b false (Adds (stim.Tick n))) (sym past)
+large_tick : (sources n : ℕ) → 2 ^ 64 ≤ n → Err 3 ≡ source_stands sources (nat_lt 3 n) false (Adds (stim.Tick n))
+large_tick sources n h = let past : nat_lt 3 n ≡ true = grind (arith, nat_tests) in ap (λ b. source_stands sources b false (Adds (stim.Tick n))) (sym past)
 
-tick_verdict-held : (sources n : ℕ) → tick_verdict sources (held n) ≡ stands sources (nat_lt 3 n) false (Adds (stim.Tick n))
+tick_verdict-held : (sources n : ℕ) → tick_verdict sources (held n) ≡ source_stands sources (nat_lt 3 n) false (Adds (stim.Tick n))
 unfolding tick_verdict
 tick_verdict-held sources n =
     elim (held_cases n) [
@@ -64,7 +64,7 @@ tick_verdict-held sources n =
     ]
 
 join_codes : (sources : ℕ) (margin reserve unfit fixed wrong : Bool) (step : LineStep)
-    → cond margin (Err 3) (cond reserve (Err 3) (stands sources (unfit || fixed) wrong step)) ≡ stands sources (margin || ((unfit || reserve) || fixed)) wrong step
+    → cond margin (Err 3) (cond reserve (Err 3) (source_stands sources (unfit || fixed) wrong step)) ≡ source_stands sources (margin || ((unfit || reserve) || fixed)) wrong step
 join_codes sources true reserve unfit fixed wrong step = refl
 join_codes sources false true true fixed wrong step = refl
 join_codes sources false true false fixed wrong step = refl

@@ -8,7 +8,7 @@ use Rattle.qp_model.specs.declared.stimulus.Stim.TheVariants as stim
 use Rattle.qp_stim.specs.declared.names.Signal.{Signal}
 use Rattle.qp_stim.specs.declared.verdict.LineStep.{LineStep}
 use Rattle.qp_stim.specs.declared.verdict.LineStep.TheVariants.{Skips, Opens, Adds}
-use Rattle.qp_stim.specs.LineCodes.{GRAMMAR, UNDECLARED, RANGE, SOURCE, COUNT}
+use Rattle.qp_stim.specs.LineCodes.{GRAMMAR, UNDECLARED, RANGE, SOURCE, EVENT_ARITY}
 use Rattle.qp_stim.specs.Parts.{is_skipped}
 use Rattle.qp_stim.specs.Names.{Dictionary}
 use Rattle.qp_stim.specs.Grammar.{Said, said_of}
@@ -31,18 +31,18 @@ abbrev pub event : Signal → List ℕ → Ev
 event signal pars = record { sig = signal.number; pars = record { items = pars } }
 
 -- the codes 3 to 5 of a stimulus that follows so many sources
-abbrev pub stands : ℕ → (out miscounted : Bool) → LineStep → Result LineStep ℕ
-stands sources out miscounted step =
-    if out then Err RANGE else if sources == 0 then Err SOURCE else if miscounted then Err COUNT else Ok step
+abbrev pub source_stands : ℕ → (out miscounted : Bool) → LineStep → Result LineStep ℕ
+source_stands sources out miscounted step =
+    if out then Err RANGE else if sources == 0 then Err SOURCE else if miscounted then Err EVENT_ARITY else Ok step
 
 unfoldable pub post_step : ℕ → Option ℕ → Option Signal → List ℕ → Option ℕ → Option ℕ → Result LineStep ℕ
 post_step sources (Some to) (Some signal) pars margin reserve =
-    stands sources (exceeds 255 margin || is_out signal pars reserve) (not (length pars == signal.params)) (Adds (stim.Post to (event signal pars) margin reserve))
+    source_stands sources (exceeds 255 margin || is_out signal pars reserve) (not (length pars == signal.params)) (Adds (stim.Post to (event signal pars) margin reserve))
 post_step sources _ _ pars margin reserve = Err UNDECLARED
 
 unfoldable pub publish_step : ℕ → Option Signal → List ℕ → Option ℕ → Result LineStep ℕ
 publish_step sources (Some signal) pars reserve =
-    stands sources (is_out signal pars reserve) (not (length pars == signal.params)) (Adds (stim.Publish (event signal pars) reserve))
+    source_stands sources (is_out signal pars reserve) (not (length pars == signal.params)) (Adds (stim.Publish (event signal pars) reserve))
 publish_step sources None pars reserve = Err UNDECLARED
 
 -- the next source from 1, of which there are at most 16
@@ -55,8 +55,8 @@ unfolding post_step publish_step source_step
 step_said names sources (line.Source n) = source_step sources n
 step_said names sources (line.Post o e margin reserve) = post_step sources (names.object o) (names.signal e.signal) e.pars margin reserve
 step_said names sources (line.Publish e reserve) = publish_step sources (names.signal e.signal) e.pars reserve
-step_said names sources (line.Tick rate) = stands sources (nat_lt 3 rate) false (Adds (stim.Tick rate))
-step_said names sources line.Settle = stands sources false false (Adds stim.Settle)
+step_said names sources (line.Tick rate) = source_stands sources (nat_lt 3 rate) false (Adds (stim.Tick rate))
+step_said names sources line.Settle = source_stands sources false false (Adds stim.Settle)
 
 abbrev pub step_if : Dictionary → ℕ → Option Said → Result LineStep ℕ
 step_if names sources None = Err GRAMMAR

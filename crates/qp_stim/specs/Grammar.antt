@@ -3,7 +3,7 @@ use Rattle.std.specs.Prelude.{ℕ, ◌==◌, ◌&&◌, List, [], ◌∷◌, leng
 use Rattle.std.specs.declared.option.Option.{Option}
 use Rattle.std.specs.Option.{option_map}
 use Rattle.std.specs.Str.{bytes_eq}
-use Rattle.qp_stim.specs.Parts.{split, before_separator, after, tokens}
+use Rattle.qp_stim.specs.Parts.{split_at_separator, before_separator, after_separator, tokens_of_line}
 use Rattle.qp_stim.specs.Numbers.{number_of_token}
 use Rattle.qp_stim.specs.Names.{is_name}
 use Rattle.qp_chart_text.specs.Tokens.{◌>>=◌}
@@ -22,27 +22,27 @@ pub data Said : Type 0 where
   Settle : Said
 
 -- NUM { "," NUM }
-unfoldable pub numbers_of : List (List ℕ) → Option (List ℕ)
-numbers_of [] = Some []
-numbers_of (token ∷ more) = do
+unfoldable pub numbers_of_tokens : List (List ℕ) → Option (List ℕ)
+numbers_of_tokens [] = Some []
+numbers_of_tokens (token ∷ more) = do
   n ← number_of_token token
-  ns ← numbers_of more
+  ns ← numbers_of_tokens more
   Some (n ∷ ns)
 
 -- the numbers, where nothing stands behind `)`
-abbrev pub closed : List ℕ → Option (List ℕ) → Option (List ℕ)
-closed body None = None
-closed body (Some []) = numbers_of (split 44 body)
-closed body (Some (b ∷ bs)) = None
+abbrev pub numbers_closed : List ℕ → Option (List ℕ) → Option (List ℕ)
+numbers_closed body None = None
+numbers_closed body (Some []) = numbers_of_tokens (split_at_separator 44 body)
+numbers_closed body (Some (b ∷ bs)) = None
 
 -- [ "(" NUM { "," NUM } ")" ]
 abbrev pub pars_of : Option (List ℕ) → Option (List ℕ)
 pars_of None = Some []
-pars_of (Some inside) = closed (before_separator 41 inside) (after 41 inside)
+pars_of (Some inside) = numbers_closed (before_separator 41 inside) (after_separator 41 inside)
 
 -- SIGNAL [ "(" NUM { "," NUM } ")" ]
 unfoldable pub event_of_words : List ℕ → Option EventWords
-event_of_words token = if is_name (before_separator 40 token) then option_map (λ pars. record { signal = before_separator 40 token; pars = pars }) (pars_of (after 40 token)) else None
+event_of_words token = if is_name (before_separator 40 token) then option_map (λ pars. record { signal = before_separator 40 token; pars = pars }) (pars_of (after_separator 40 token)) else None
 
 -- [ WORD NUM ], and the tokens behind it
 unfoldable pub option_at : List ℕ → List (List ℕ) → Option (Option ℕ × List (List ℕ))
@@ -88,4 +88,4 @@ said_in (word ∷ more) = said_by word more
 
 -- what a line says, if it is in the grammar
 abbrev pub said_of : List ℕ → Option Said
-said_of line = said_in (tokens line)
+said_of line = said_in (tokens_of_line line)

@@ -18,5 +18,5 @@ abbrev pub SOURCE : ℕ
 SOURCE = 4
 
 -- the event has another number of parameters than its signal
-abbrev pub COUNT : ℕ
-COUNT = 5
+abbrev pub EVENT_ARITY : ℕ
+EVENT_ARITY = 5

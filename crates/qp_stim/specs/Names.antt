@@ -37,5 +37,5 @@ abbrev pub FewParams : Dictionary → Type 0
 FewParams names = (name : List ℕ) → IfSome (names.signal name) (λ signal. signal.params ≤ 8)
 
 -- the names of a system; the first signal has number 4
-abbrev pub names_of : System → Dictionary
-names_of sys = record { object = object_in sys.objects; signal = signal_in 4 sys.signals }
+abbrev pub dictionary_of : System → Dictionary
+dictionary_of sys = record { object = object_in sys.objects; signal = signal_in 4 sys.signals }

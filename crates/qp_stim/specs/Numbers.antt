@@ -5,10 +5,10 @@ use Rattle.std.specs.List.{list_all}
 use Rattle.std.specs.Char.{is_ascii_digit}
 
 -- digits, the first of which is `0` only where it stands alone
-abbrev pub is_number : List ℕ → Bool
-is_number [] = false
-is_number (b ∷ []) = is_ascii_digit b
-is_number (b ∷ c ∷ bs) = is_ascii_digit b && not (b == 48) && list_all is_ascii_digit (c ∷ bs)
+abbrev pub is_decimal : List ℕ → Bool
+is_decimal [] = false
+is_decimal (b ∷ []) = is_ascii_digit b
+is_decimal (b ∷ c ∷ bs) = is_ascii_digit b && not (b == 48) && list_all is_ascii_digit (c ∷ bs)
 
 -- the number that the digits make behind the number n
 abbrev pub decimal_from : ℕ → List ℕ → ℕ
@@ -17,4 +17,4 @@ decimal_from n (b ∷ bs) = decimal_from (n * 10 + (b - 48)) bs
 
 -- the number of a token, if it is one
 unfoldable pub number_of_token : List ℕ → Option ℕ
-number_of_token token = if is_number token then Some (decimal_from 0 token) else None
+number_of_token token = if is_decimal token then Some (decimal_from 0 token) else None

@@ -12,8 +12,8 @@ use Rattle.qp_stim.specs.declared.names.Signal.{Signal}
 use Rattle.qp_stim.specs.declared.tokens.Tokens.{Tokens}
 use Rattle.qp_stim.specs.declared.verdict.LineStep.{LineStep}
 use Rattle.qp_stim.specs.declared.verdict.LineStep.TheVariants.{Opens, Adds}
-use Rattle.qp_stim.specs.LineCodes.{UNDECLARED, RANGE, SOURCE, COUNT}
-use Rattle.qp_stim.specs.Parts.{split}
+use Rattle.qp_stim.specs.LineCodes.{UNDECLARED, RANGE, SOURCE, EVENT_ARITY}
+use Rattle.qp_stim.specs.Parts.{split_at_separator}
 use Rattle.qp_stim.specs.Names.{Dictionary}
 use Rattle.qp_stim.specs.Grammar as line
 use Rattle.qp_stim.specs.Grammar.{Said}
@@ -48,17 +48,17 @@ heard_of names line.Settle = heard.Settle
 -- the parts that are left
 abbrev pub parts_left : ℕ → Option (List ℕ) → List (List ℕ)
 parts_left separator None = []
-parts_left separator (Some text) = split separator text
+parts_left separator (Some text) = split_at_separator separator text
 
-abbrev pub left : Tokens → List (List ℕ)
-left t = parts_left 32 (option_map (λ rest. rest.now) t.rest)
+abbrev pub tokens_left : Tokens → List (List ℕ)
+tokens_left t = parts_left 32 (option_map (λ rest. rest.now) t.rest)
 
 -- the number of a `margin` or a `reserve`, and the tokens behind it
 abbrev pub held_option : Option ℕ × List (List ℕ) → Option (Option ℕ) × List (List ℕ)
 held_option x = (option_map held x.0, x.1)
 
 abbrev pub option_left : Option (Option ℕ) × Tokens → Option (Option ℕ) × List (List ℕ)
-option_left x = (x.0, left x.1)
+option_left x = (x.0, tokens_left x.1)
 
 -- a margin or a reserve, if there is one
 abbrev pub small_of : Option (Option ℕ) → Result (Option ℕ) ℕ
@@ -75,7 +75,7 @@ abbrev pub admits : ℕ → Signal → Pars → Option ℕ → LineStep → Resu
 admits sources signal pars reserve step =
     if not pars.fit || (signal.fixed && is_some reserve) then Err RANGE
     else if sources == 0 then Err SOURCE
-    else if pars.many || not (length pars.kept.items == signal.params) then Err COUNT
+    else if pars.many || not (length pars.kept.items == signal.params) then Err EVENT_ARITY
     else Ok step
 
 unfoldable pub post_verdict : ℕ → Option ℕ → Event → Option (Option ℕ) → Option (Option ℕ) → Result LineStep ℕ
@@ -92,16 +92,16 @@ publish_verdict sources event reserve = do
   r ← small_of reserve
   admits sources signal event.pars r (Adds (stim.Publish (record { sig = signal.number; pars = event.pars.kept }) r))
 
-abbrev pub is_next : ℕ → Option ℕ → Bool
-is_next sources None = false
-is_next sources (Some n) = nat_le n 16 && (n == sources + 1)
+abbrev pub is_next_source : ℕ → Option ℕ → Bool
+is_next_source sources None = false
+is_next_source sources (Some n) = nat_le n 16 && (n == sources + 1)
 
 unfoldable pub tick_verdict : ℕ → Option ℕ → Result LineStep ℕ
 tick_verdict sources None = Err RANGE
 tick_verdict sources (Some n) = if nat_lt 3 n then Err RANGE else if sources == 0 then Err SOURCE else Ok (Adds (stim.Tick n))
 
 abbrev pub verdict_on : ℕ → Heard → Result LineStep ℕ
-verdict_on sources (heard.Source n) = if is_next sources n then Ok Opens else Err SOURCE
+verdict_on sources (heard.Source n) = if is_next_source sources n then Ok Opens else Err SOURCE
 verdict_on sources (heard.Post to event margin reserve) = post_verdict sources to event margin reserve
 verdict_on sources (heard.Publish event reserve) = publish_verdict sources event reserve
 verdict_on sources (heard.Tick rate) = tick_verdict sources rate

@@ -22,13 +22,13 @@ pub record PostFits (sys : System) (to : ℕ) (ev : Ev) (margin reserve : Option
   pub event : EventFits sys ev reserve
   pub margined : IfSome margin (λ m. m < 256)
 
-abbrev pub StimFits : System → Stim → Type 0
-StimFits sys (stim.Post to ev margin reserve) = PostFits sys to ev margin reserve
-StimFits sys (stim.Publish ev reserve) = EventFits sys ev reserve
-StimFits sys (stim.Tick rate) = rate < 4
-StimFits sys stim.Settle = ⊤
+abbrev pub StimulusFits : System → Stim → Type 0
+StimulusFits sys (stim.Post to ev margin reserve) = PostFits sys to ev margin reserve
+StimulusFits sys (stim.Publish ev reserve) = EventFits sys ev reserve
+StimulusFits sys (stim.Tick rate) = rate < 4
+StimulusFits sys stim.Settle = ⊤
 
 -- stimuli that fit a system
 pub record StimuliFit (sys : System) (sources : List (List Stim)) : Type 0 where
   pub few : length sources ≤ 16
-  pub stimuli : AllByRecursion (AllByRecursion (StimFits sys)) sources
+  pub stimuli : AllByRecursion (AllByRecursion (StimulusFits sys)) sources

@@ -6,12 +6,12 @@ use Rattle.qp_model.specs.declared.systems.System.{System}
 use Rattle.qp_stim.specs.declared.verdict.LineStep.{LineStep}
 use Rattle.qp_stim.specs.declared.verdict.LineStep.TheVariants.{Skips, Opens, Adds}
 use Rattle.qp_stim.specs.Parts.{lines}
-use Rattle.qp_stim.specs.Names.{Dictionary, names_of}
+use Rattle.qp_stim.specs.Names.{Dictionary, dictionary_of}
 use Rattle.qp_stim.specs.Codes.{step_of}
 use Rattle.qp_model.specs.Results.{◌>>=◌}
 
 -- the first line with a code, and its lowest code
-pub record Fault : Type 0 where
+pub record FaultLine : Type 0 where
   pub line : ℕ
   pub code : ℕ
 
@@ -27,12 +27,12 @@ sources_after sources Skips = sources
 sources_after sources Opens = sources ++ [] ∷ []
 sources_after sources (Adds s) = add_to_last s sources
 
-abbrev pub fails_at : {A : Type 0} → ℕ → Result A ℕ → Result A Fault
+abbrev pub fails_at : {A : Type 0} → ℕ → Result A ℕ → Result A FaultLine
 fails_at n (Ok x) = Ok x
 fails_at n (Err code) = Err (record { line = n; code = code })
 
 -- the sources after these lines, the first of which has number n
-unfoldable pub read_on : Dictionary → ℕ → List (List Stim) → List (List ℕ) → Result (List (List Stim)) Fault
+unfoldable pub read_on : Dictionary → ℕ → List (List Stim) → List (List ℕ) → Result (List (List Stim)) FaultLine
 unfolding step_of
 read_on names n sources [] = Ok sources
 read_on names n sources (text ∷ more) = do
@@ -40,6 +40,6 @@ read_on names n sources (text ∷ more) = do
   read_on names (n + 1) (sources_after sources step) more
 
 -- the sources of a text in order, or the first line with a code
-unfoldable pub stimuli_of : System → List ℕ → Result (List (List Stim)) Fault
+unfoldable pub stimuli_of : System → List ℕ → Result (List (List Stim)) FaultLine
 unfolding read_on
-stimuli_of sys text = read_on (names_of sys) 1 [] (lines text)
+stimuli_of sys text = read_on (dictionary_of sys) 1 [] (lines text)

@@ -2,11 +2,11 @@
 
 ghost use Rattle.std.specs.Prelude.{◌≡◌};
 ghost use Rattle.std.specs.Option.{option_map};
-ghost use Rattle.qp_stim.specs.Parts.{split};
-ghost use Rattle.qp_stim.specs.Grammar.{numbers_of, closed, event_of_words, option_at, only_number, post_of, publish_of, said_by, said_of};
+ghost use Rattle.qp_stim.specs.Parts.{split_at_separator};
+ghost use Rattle.qp_stim.specs.Grammar.{numbers_of_tokens, numbers_closed, event_of_words, option_at, only_number, post_of, publish_of, said_by, said_of};
 ghost use Rattle.qp_stim.specs.Maps.{dictionary};
-ghost use Rattle.qp_stim.specs.Parts.{before_separator, after};
-ghost use Rattle.qp_stim.specs.Reading.{held, left, held_option, option_left, no_pars, with_pars, heard_event, heard_of};
+ghost use Rattle.qp_stim.specs.Parts.{before_separator, after_separator};
+ghost use Rattle.qp_stim.specs.Reading.{held, tokens_left, held_option, option_left, no_pars, with_pars, heard_event, heard_of};
 
 use crate::heard::{Event, Heard, Pars};
 use crate::names::{SystemNames, is_identifier};
@@ -29,7 +29,7 @@ const RESERVE: &[u8] = b"reserve";
 
 /// Numbers with commas between them.
 fn numbers(body: &[u8]) -> Option<Pars>
-    ensures { result ≡ option_map (with_pars no_pars) (numbers_of (split 44 body.now)) }
+    ensures { result ≡ option_map (with_pars no_pars) (numbers_of_tokens (split_at_separator 44 body.now)) }
 {
     let mut pars = Pars::new();
     let mut rest = Some(body);
@@ -43,7 +43,7 @@ fn numbers(body: &[u8]) -> Option<Pars>
 
 /// Numbers up to a `)`, and nothing behind it.
 fn numbers_to_close(inside: &[u8]) -> Option<Pars>
-    ensures { result ≡ option_map (with_pars no_pars) (closed (before_separator 41 inside.now) (after 41 inside.now)) }
+    ensures { result ≡ option_map (with_pars no_pars) (numbers_closed (before_separator 41 inside.now) (after_separator 41 inside.now)) }
 {
     let (body, end) = cut(inside, b')');
     match end {
@@ -73,7 +73,7 @@ fn event(names: &SystemNames, token: &[u8]) -> Option<Event>
 /// The number behind a word, where the word stands first.
 #[tactic(auto, unfolding(crate::specs::Grammar::option_at))]
 fn option<'a>(word: &[u8], tokens: Tokens<'a>) -> Option<(Option<Number>, Tokens<'a>)>
-    ensures { option_map option_left result ≡ option_map held_option (option_at word.now (left tokens.entry)) }
+    ensures { option_map option_left result ≡ option_map held_option (option_at word.now (tokens_left tokens.entry)) }
 {
     match tokens.next() {
         Some((first, rest)) if first == word => {
@@ -86,7 +86,7 @@ fn option<'a>(word: &[u8], tokens: Tokens<'a>) -> Option<(Option<Number>, Tokens
 
 #[tactic(auto, unfolding(crate::specs::Grammar::only_number))]
 fn last_number(tokens: Tokens) -> Option<Number>
-    ensures { result ≡ option_map held (only_number (left tokens.entry)) }
+    ensures { result ≡ option_map held (only_number (tokens_left tokens.entry)) }
 {
     let (token, rest) = tokens.next()?;
     if rest.is_empty() { number(token) } else { None }
@@ -94,7 +94,7 @@ fn last_number(tokens: Tokens) -> Option<Number>
 
 #[tactic(auto, unfolding(crate::specs::Grammar::post_of))]
 fn post(names: &SystemNames, tokens: Tokens) -> Option<Heard>
-    ensures { result ≡ option_map (heard_of (dictionary names.now)) (post_of (left tokens.entry)) }
+    ensures { result ≡ option_map (heard_of (dictionary names.now)) (post_of (tokens_left tokens.entry)) }
 {
     let (object, tokens) = tokens.next()?;
     let (token, tokens) = tokens.next()?;
@@ -114,7 +114,7 @@ fn post(names: &SystemNames, tokens: Tokens) -> Option<Heard>
 
 #[tactic(auto, unfolding(crate::specs::Grammar::publish_of))]
 fn publish(names: &SystemNames, tokens: Tokens) -> Option<Heard>
-    ensures { result ≡ option_map (heard_of (dictionary names.now)) (publish_of (left tokens.entry)) }
+    ensures { result ≡ option_map (heard_of (dictionary names.now)) (publish_of (tokens_left tokens.entry)) }
 {
     let (token, tokens) = tokens.next()?;
     let event = event(names, token)?;

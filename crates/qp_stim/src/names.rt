@@ -3,7 +3,7 @@
 ghost use Rattle.std.specs.Prelude.{◌≡◌, ◌≤◌, ◌||◌, ℕ, List, length, IfOk};
 ghost use Rattle.std.specs.Char.{is_ascii_digit};
 ghost use Rattle.std.specs.List.{list_all};
-ghost use Rattle.qp_stim.specs.Names.{is_letter as letter, is_name, names_of, object_in, signal_in};
+ghost use Rattle.qp_stim.specs.Names.{is_letter as letter, is_name, dictionary_of, object_in, signal_in};
 ghost use Rattle.qp_stim.specs.Maps.{text_in, dictionary};
 
 use qp_model::System;
@@ -86,7 +86,7 @@ impl<'a> SystemNames<'a> {
     /// The names of a system.
     pub fn of(alloc: Global, sys: &'a System) -> Result<Self, AllocError>
         requires { length sys.now.signals ≤ 200 }
-        ensures { IfOk result (λ names. dictionary names ≡ names_of sys.now) }
+        ensures { IfOk result (λ names. dictionary names ≡ dictionary_of sys.now) }
     {
         Ok(SystemNames {
             objects: objects_of(alloc, sys)?,

@@ -4,7 +4,7 @@ ghost use Rattle.std.specs.Prelude.{◌≡◌, IsTrue};
 ghost use Rattle.std.specs.Char.{is_ascii_digit};
 ghost use Rattle.std.specs.List.{list_all};
 ghost use Rattle.std.specs.Option.{option_map};
-ghost use Rattle.qp_stim.specs.Numbers.{is_number, decimal_from, number_of_token};
+ghost use Rattle.qp_stim.specs.Numbers.{is_decimal, decimal_from, number_of_token};
 ghost use Rattle.qp_stim.specs.Reading.{held};
 
 /// A number of a text, which may have any length; `None` is one above 64 bits.
@@ -17,7 +17,7 @@ fn all_digits(text: &[u8]) -> bool
 }
 
 fn is_canonical(token: &[u8]) -> bool
-    ensures { result ≡ is_number token.now }
+    ensures { result ≡ is_decimal token.now }
 {
     match token {
         [] => false,

@@ -5,7 +5,7 @@ ghost use Rattle.qp_stim.specs.Codes.{step_of};
 ghost use Rattle.qp_stim.specs.Parts.{is_skipped};
 ghost use Rattle.qp_stim.specs.Maps.{dictionary};
 ghost use Rattle.qp_stim.specs.Names.{FewParams};
-ghost use Rattle.qp_stim.specs.Reading.{small_of, admits, is_next, post_verdict, publish_verdict, tick_verdict, verdict_on};
+ghost use Rattle.qp_stim.specs.Reading.{small_of, admits, is_next_source, post_verdict, publish_verdict, tick_verdict, verdict_on};
 
 use crate::grammar::heard;
 use crate::heard::{Event, Heard, Pars};
@@ -128,7 +128,7 @@ fn tick(sources: usize, rate: Number) -> Result<LineStep, u8>
 
 fn is_next_source(sources: usize, number: Number) -> bool
     requires { sources < 2 ^ 64 - 1 }
-    ensures { result ≡ is_next sources number }
+    ensures { result ≡ is_next_source sources number }
 {
     number.is_some_and(|n| n <= SOURCES && n == sources as u64 + 1)
 }

@@ -20,7 +20,7 @@ use Rattle.qp_check_lanes.proofs.ItemLemmas.{items-from, items-none}
 use Rattle.qp_check_course.specs.Followable.{IsFollowable}
 use Rattle.qp_check_course.specs.Reading.{LeavesOf, ReadsOn}
 use Rattle.qp_check_course.specs.Standing.{FollowSomehow}
-use Rattle.qp_summary.specs.Coming.{IsOn}
+use Rattle.qp_summary.specs.Coming.{IsOnCourse}
 use Rattle.qp_summary.specs.declared.coming.Came.{Came}
 
 abbrev pub one_if : Bool → ℕ
@@ -36,9 +36,9 @@ module _ (t : Told) (left : List Told) where
   taken-next : count_events_taken (t ∷ left) ≡ one_if (is_took t.body) + count_events_taken left
   taken-next = sum_by-cons (λ (x : Told). cond (is_took x.body) 1 0) t left
 
-  module _ (sys : System) (d : ObjectDef) (all : List Told) (x : Came) (on : IsOn sys d x (t ∷ left) all) where
+  module _ (sys : System) (d : ObjectDef) (all : List Told) (x : Came) (on : IsOnCourse sys d x (t ∷ left) all) where
     -- a mark of a turn is passed over
-    pub on-mark : is_turn_mark t.body ≡ true → IsOn sys d x left all
+    pub on-mark : is_turn_mark t.body ≡ true → IsOnCourse sys d x left all
     on-mark mark =
         let none : one_if (is_took t.body) ≡ 0 = ap one_if (mark-is-no-take t.body mark) in
         record {
@@ -48,7 +48,7 @@ module _ (t : Told) (left : List Told) where
         }
 
     -- another record is read
-    pub on-step : is_turn_mark t.body ≡ false → (y : Came) → y.taken ≡ x.taken + one_if (is_took t.body) → ReadsOn x.course t (Some y.course) → IsOn sys d y left all
+    pub on-step : is_turn_mark t.body ≡ false → (y : Came) → y.taken ≡ x.taken + one_if (is_took t.body) → ReadsOn x.course t (Some y.course) → IsOnCourse sys d y left all
     on-step step y more reads =
         record {
           can = reads.0;

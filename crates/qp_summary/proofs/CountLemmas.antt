@@ -12,7 +12,7 @@ use Rattle.qp_model.specs.declared.bodies.Body.TheVariants as body
 use Rattle.qp_model.specs.KindSorts.{is_malformed, kind_in}
 use Rattle.qp_model.specs.OutputSummary.{is_back_of, is_done_record, is_new_of, is_took}
 use Rattle.qp_model.specs.Record.{Item}
-use Rattle.qp_summary.specs.Counting.{AreBlocks, AreCounts, AreTurns, IsCountAt, IsTold, back_of, with_one_more, done_of, given_by, giver, most, taker, took_of}
+use Rattle.qp_summary.specs.Counting.{AreBlocks, AreCounts, AreTurns, IsCountAt, IsTold, pool_gets_back, with_one_more, done_of, pool_gives, giver, most, taker, took_of}
 use Rattle.qp_summary.specs.declared.turns.TurnCounts.{TurnCounts}
 use Rattle.qp_summary.specs.declared.blocks.Blocks.{Blocks}
 use Rattle.qp_model.proofs.NumberLemmas.{count-append}
@@ -197,18 +197,18 @@ module _ (items : List Item) (x : Item) where
 
   pub given-more : (size : ℕ) (b c : Blocks) (p : ℕ) → giver x.body ≡ Some p → c.given ≡ with_one_more b.given p → c.back ≡ b.back → AreBlocks size b items → AreBlocks size c (items ++ x ∷ [])
   given-more size b c p is given back a = record {
-    given = subst (λ n. AreCounts size given_by n (items ++ x ∷ [])) (sym given) (counts-more size given_by b.given items x a.given p (λ k. given-is x.body p k is));
-    back = subst (λ n. AreCounts size back_of n (items ++ x ∷ [])) (sym back) (counts-skip size back_of b.back items x a.back (λ k. given-unback x.body p k is));
+    given = subst (λ n. AreCounts size pool_gives n (items ++ x ∷ [])) (sym given) (counts-more size pool_gives b.given items x a.given p (λ k. given-is x.body p k is));
+    back = subst (λ n. AreCounts size pool_gets_back n (items ++ x ∷ [])) (sym back) (counts-skip size pool_gets_back b.back items x a.back (λ k. given-unback x.body p k is));
   }
 
   pub back-more : (size : ℕ) (b c : Blocks) (p : ℕ) → giver x.body ≡ None → taker x.body ≡ Some p → c.given ≡ b.given → c.back ≡ with_one_more b.back p → AreBlocks size b items → AreBlocks size c (items ++ x ∷ [])
   back-more size b c p ungiven is given back a = record {
-    given = subst (λ n. AreCounts size given_by n (items ++ x ∷ [])) (sym given) (counts-skip size given_by b.given items x a.given (λ k. given-none x.body k ungiven));
-    back = subst (λ n. AreCounts size back_of n (items ++ x ∷ [])) (sym back) (counts-more size back_of b.back items x a.back p (λ k. back-is x.body p k is));
+    given = subst (λ n. AreCounts size pool_gives n (items ++ x ∷ [])) (sym given) (counts-skip size pool_gives b.given items x a.given (λ k. given-none x.body k ungiven));
+    back = subst (λ n. AreCounts size pool_gets_back n (items ++ x ∷ [])) (sym back) (counts-more size pool_gets_back b.back items x a.back p (λ k. back-is x.body p k is));
   }
 
   pub block-skip : (size : ℕ) (b : Blocks) → giver x.body ≡ None → taker x.body ≡ None → AreBlocks size b items → AreBlocks size b (items ++ x ∷ [])
   block-skip size b ungiven unback a = record {
-    given = counts-skip size given_by b.given items x a.given (λ k. given-none x.body k ungiven);
-    back = counts-skip size back_of b.back items x a.back (λ k. back-none x.body k unback);
+    given = counts-skip size pool_gives b.given items x a.given (λ k. given-none x.body k ungiven);
+    back = counts-skip size pool_gets_back b.back items x a.back (λ k. back-none x.body k unback);
   }

@@ -12,18 +12,18 @@ use Rattle.qp_check_course.specs.Standing.{FollowSomehow}
 use Rattle.qp_summary.specs.declared.coming.Came.{Came}
 
 -- of all these records of the object, those that are left come next
-pub record IsOn (sys : System) (d : ObjectDef) (x : Came) (left all : List Told) : Type 0 where
+pub record IsOnCourse (sys : System) (d : ObjectDef) (x : Came) (left all : List Told) : Type 0 where
   pub can : CanRead x.course
   pub taken : x.taken + count_events_taken left ≡ count_events_taken all
   pub leaves : LeavesOf sys d x.course (dispatched left) (dispatched all)
 
 -- one record more; it can come, where the records follow the object's chart
-abbrev pub ComesTo : Came → Told → Option Came → Type 0
-ComesTo x t None =
-    (sys : System) (d : ObjectDef) (left all : List Told) → IsOn sys d x (t ∷ left) all → IsFollowable sys d → FollowSomehow sys d (dispatched all) → ⊥
-ComesTo x t (Some y) = (sys : System) (d : ObjectDef) (left all : List Told) → IsOn sys d x (t ∷ left) all → IsOn sys d y left all
+abbrev pub CourseComesTo : Came → Told → Option Came → Type 0
+CourseComesTo x t None =
+    (sys : System) (d : ObjectDef) (left all : List Told) → IsOnCourse sys d x (t ∷ left) all → IsFollowable sys d → FollowSomehow sys d (dispatched all) → ⊥
+CourseComesTo x t (Some y) = (sys : System) (d : ObjectDef) (left all : List Told) → IsOnCourse sys d x (t ∷ left) all → IsOnCourse sys d y left all
 
 -- all of them
 abbrev pub HasCome : System → ObjectDef → List Told → Option Came → Type 0
 HasCome sys d all None = FollowSomehow sys d (dispatched all) → ⊥
-HasCome sys d all (Some x) = IsOn sys d x [] all
+HasCome sys d all (Some x) = IsOnCourse sys d x [] all

@@ -58,11 +58,11 @@ taker (body.Back p n b to) = Some p
 taker _ = None
 
 -- the pool gives a block, and gets one back
-abbrev pub given_by : ℕ → Item → Bool
-given_by p i = is_new_of p i.body
+abbrev pub pool_gives : ℕ → Item → Bool
+pool_gives p i = is_new_of p i.body
 
-abbrev pub back_of : ℕ → Item → Bool
-back_of p i = is_back_of p i.body
+abbrev pub pool_gets_back : ℕ → Item → Bool
+pool_gets_back p i = is_back_of p i.body
 
 pub record AreTurns (t : TurnCounts) (items : List Item) : Type 0 where
   pub taken : AreCounts 33 took_of t.taken items
@@ -70,5 +70,5 @@ pub record AreTurns (t : TurnCounts) (items : List Item) : Type 0 where
 
 -- for pools below this number
 pub record AreBlocks (size : ℕ) (b : Blocks) (items : List Item) : Type 0 where
-  pub given : AreCounts size given_by b.given items
-  pub back : AreCounts size back_of b.back items
+  pub given : AreCounts size pool_gives b.given items
+  pub back : AreCounts size pool_gets_back b.back items

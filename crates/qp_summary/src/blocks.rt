@@ -3,7 +3,7 @@
 ghost use Rattle.std.specs.Prelude.{ℕ, ◌≡◌, ◌++◌, ◌∷◌, [], nat_lt, IfOk, List};
 ghost use Rattle.qp_model.specs.History.{all_items, lane_items};
 ghost use Rattle.qp_model.specs.Record.{Item, body_of, item_of};
-ghost use Rattle.qp_summary.specs.Counting.{AreBlocks, IsTold, back_of, given_by, giver, taker};
+ghost use Rattle.qp_summary.specs.Counting.{AreBlocks, IsTold, pool_gets_back, pool_gives, giver, taker};
 
 use crate::counts::Counts;
 use qp_model::{Body, Lane, Rec, kinds};
@@ -87,14 +87,14 @@ impl Blocks {
 
     /// How many blocks the pool gave; None exactly for a pool past those that are counted, and where a `usize` can't hold one more.
     pub fn given(&self, p: u64) -> Option<usize>
-        ensures { (size : ℕ) (items : List Item) → AreBlocks size self.now items → IsTold (nat_lt p size) (given_by p) items result }
+        ensures { (size : ℕ) (items : List Item) → AreBlocks size self.now items → IsTold (nat_lt p size) (pool_gives p) items result }
     {
         self.given.at(p as usize)
     }
 
     /// How many came back.
     pub fn back(&self, p: u64) -> Option<usize>
-        ensures { (size : ℕ) (items : List Item) → AreBlocks size self.now items → IsTold (nat_lt p size) (back_of p) items result }
+        ensures { (size : ℕ) (items : List Item) → AreBlocks size self.now items → IsTold (nat_lt p size) (pool_gets_back p) items result }
     {
         self.back.at(p as usize)
     }

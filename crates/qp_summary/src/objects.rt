@@ -5,13 +5,13 @@ ghost use Rattle.std.specs.List.{AllByRecursion};
 ghost use Rattle.qp_check_course.specs.Followable.{IsFollowable};
 ghost use Rattle.qp_check_course.specs.Reading.{CanRead};
 ghost use Rattle.qp_check_course.specs.Standing.{StandsAt};
-ghost use Rattle.qp_check_knowledge.specs.Knowledge.{IsKnowledgeOf, IsKnown, facts_in};
+ghost use Rattle.qp_check_knowledge.specs.Knowledge.{IsKnowledgeOf, HasItsTables, known_facts};
 ghost use Rattle.qp_model.specs.Course.{chart_at};
 ghost use Rattle.qp_model.specs.History.{lane_items};
 ghost use Rattle.qp_model.specs.Knowing.{records_of};
 ghost use Rattle.qp_model.specs.Lawful.{CourseHolds, dispatched};
 ghost use Rattle.qp_model.specs.OutputSummary.{AreObjectLines, IsObjectLine, IsStateText, is_took, name_in, values_text};
-ghost use Rattle.qp_summary.specs.Coming.{ComesTo, HasCome};
+ghost use Rattle.qp_summary.specs.Coming.{CourseComesTo, HasCome};
 ghost use Rattle.qp_model.specs.Told as telling;
 ghost use Rattle.qp_chart.specs.declared.checked.Chart as chart;
 
@@ -106,7 +106,7 @@ fn is_took(t: &Told) -> bool
 fn told_next<'a>(alloc: Global, came: Came<'a>, told: &Told) -> Result<Option<Came<'a>>, AllocError>
     requires few { came.taken < 18446744073709551615 }
     requires can { CanRead came.course }
-    ensures comes { IfOk result (λ later. ComesTo came.entry told.now later) }
+    ensures comes { IfOk result (λ later. CourseComesTo came.entry told.now later) }
     ensures few { IfOk result (λ later. IfSome later (λ x. x.taken ≤ came.entry.taken + 1)) }
 {
     if is_turn_mark(&told.body) {
@@ -132,9 +132,9 @@ fn read_lane<'a>(
     d: &ObjectDef,
     lane: &[Rec],
 ) -> Result<Option<Came<'a>>, AllocError>
-    requires known { IsKnown knowledge.now }
+    requires known { HasItsTables knowledge.now }
     requires followable { IsFollowable sys.now d.now }
-    ensures { IfOk result (λ came. HasCome sys.now d.now (records_of (facts_in knowledge.now) d.now.priority 0 (lane_items lane.now)) came) }
+    ensures { IfOk result (λ came. HasCome sys.now d.now (records_of (known_facts knowledge.now) d.now.priority 0 (lane_items lane.now)) came) }
 {
     let Some(course) = CourseReading::begin(alloc, sys, d)? else {
         return Ok(None);

@@ -14,7 +14,7 @@ use Rattle.qp_model.specs.declared.systems.PoolDef.{PoolDef}
 use Rattle.qp_model.specs.declared.systems.SignalDef.{SignalDef}
 use Rattle.qp_chart_names.specs.declared.raw.RawChart.{RawChart}
 use Rattle.qp_system_tables.specs.declared.raw.RawObject.{RawObject}
-use Rattle.qp_system.specs.Between.{sizes_fault, signal_fault, chart_named, timers_of, placing_fault, first_behind, no_pool_fault, is_without_pool}
+use Rattle.qp_system.specs.Between.{sizes_fault, signal_fault, chart_named, timer_count_of, placing_fault, first_behind, no_pool_fault, is_without_pool}
 use Rattle.qp_model.specs.Sound.{SizesAscend}
 use Rattle.qp_model.proofs.NumberLemmas.{every}
 use Rattle.qp_chart.proofs.ChartTree.{none-both}
@@ -67,11 +67,11 @@ module _ (charts : List RawChart) where
   once earlier k o h = fault_if-None _ _ _ (none-both _ _ (none-both _ _ (none-both _ _ h).1).1).0
 
   -- there are few time events up to it
-  few : (earlier : List RawObject) (k : ℕ) (o : RawObject) → placing_fault charts earlier k o ≡ None → sum_by (timers_of charts) earlier + timers_of charts o ≤ 64
+  few : (earlier : List RawObject) (k : ℕ) (o : RawObject) → placing_fault charts earlier k o ≡ None → sum_by (timer_count_of charts) earlier + timer_count_of charts o ≤ 64
   unfolding placing_fault
   few earlier k o h =
       let d = none-both _ _ (none-both _ _ (none-both _ _ (none-both _ _ h).1).1).1 in
-      let test : nat_lt 64 (sum_by (timers_of charts) earlier + timers_of charts o) ≡ false = fault_if-None _ _ _ (none-both _ _ d.1).0 in
+      let test : nat_lt 64 (sum_by (timer_count_of charts) earlier + timer_count_of charts o) ≡ false = fault_if-None _ _ _ (none-both _ _ d.1).0 in
       grind (arith, nat_tests, test)
 
   differs-more : (earlier : List RawObject) (x : RawObject) (xs : List RawObject) → AllByRecursion (λ o. list_any (λ p. p.priority == o.priority) (earlier ++ x ∷ []) ≡ false) xs
@@ -98,21 +98,21 @@ module _ (charts : List RawChart) where
   pub priorities-distinct : (objects : List RawObject) → first_behind (placing_fault charts) [] 1 objects ≡ None → IsDistinct (λ m n. m == n) (map (λ o. o.priority) objects)
   priorities-distinct objects h = (distinct-behind [] 1 objects h).1
 
-  few-behind : (earlier : List RawObject) (k : ℕ) (xs : List RawObject) → sum_by (timers_of charts) earlier ≤ 64 → first_behind (placing_fault charts) earlier k xs ≡ None
-      → sum_by (timers_of charts) earlier + sum_by (timers_of charts) xs ≤ 64
+  few-behind : (earlier : List RawObject) (k : ℕ) (xs : List RawObject) → sum_by (timer_count_of charts) earlier ≤ 64 → first_behind (placing_fault charts) earlier k xs ≡ None
+      → sum_by (timer_count_of charts) earlier + sum_by (timer_count_of charts) xs ≤ 64
   unfolding first_behind
   few-behind earlier k [] so_far h = omega arith
   few-behind earlier k (x ∷ xs) so_far h =
       let two = none-two (placing_fault charts earlier k x) (first_behind (placing_fault charts) (earlier ++ x ∷ []) (k + 1) xs) h in
-      let sum = sum_by-append (timers_of charts) earlier (x ∷ []) in
-      let one = sum_by-cons (timers_of charts) x [] in
-      let both = sum_by-cons (timers_of charts) x xs in
+      let sum = sum_by-append (timer_count_of charts) earlier (x ∷ []) in
+      let one = sum_by-cons (timer_count_of charts) x [] in
+      let both = sum_by-cons (timer_count_of charts) x xs in
       let here = few earlier k x two.0 in
       let rest = few-behind (earlier ++ x ∷ []) (k + 1) xs (omega (arith, sum, one, here)) two.1 in
       omega (arith, sum, one, both, rest)
 
   -- all objects have few time events in all
-  pub timers-few : (objects : List RawObject) → first_behind (placing_fault charts) [] 1 objects ≡ None → sum_by (timers_of charts) objects ≤ 64
+  pub timers-few : (objects : List RawObject) → first_behind (placing_fault charts) [] 1 objects ≡ None → sum_by (timer_count_of charts) objects ≤ 64
   timers-few objects h = let all = few-behind [] 1 objects (omega arith) h in omega (arith, all)
 
 -- sizes above one are above those below it

@@ -21,7 +21,7 @@ use Rattle.qp_chart_names.specs.declared.raw.RawTimer.{RawTimer}
 use Rattle.qp_chart_names.specs.declared.raw.RawRow.{RawRow}
 use Rattle.qp_chart_names.specs.declared.raw.RawState.{RawState}
 use Rattle.qp_chart_names.specs.RawNumbers.{Refers, state_number}
-use Rattle.qp_chart_names.specs.ActionFaults.{params_in, params_of}
+use Rattle.qp_chart_names.specs.ActionFaults.{params_in, params_of_name}
 use Rattle.qp_chart.specs.Binding.{Binds}
 use Rattle.qp_chart.specs.ActionOf.{IsBoundOf, IsTargetOf, IsByteOf, IsPlainOf, IsActOf, IsActOfText, IsGuardOf}
 use Rattle.qp_chart.specs.ChartOf.{AreActsOf, IsTimerOf, IsRowOf, IsStateOf, IsChartOf}
@@ -126,8 +126,8 @@ module _ (names : Names) (chart : RawChart) where
   row-one : (raw : RawRow) (r s : Row) → IsRowOf names chart raw r → IsRowOf names chart raw s → r ≡ s
   row-one raw r s h k = λ i. record {
     on = same_Some r.on s.on (sym h.on ∙ k.on) i;
-    when = guard-one (params_of names raw.on) raw.when r.when s.when h.when k.when i;
-    acts = acts-one (Some (params_of names raw.on)) raw.acts r.acts s.acts h.acts k.acts i;
+    when = guard-one (params_of_name names raw.on) raw.when r.when s.when h.when k.when i;
+    acts = acts-one (Some (params_of_name names raw.on)) raw.acts r.acts s.acts h.acts k.acts i;
     to = refers-one (state_number chart) raw.to r.to s.to h.to k.to i;
   }
 

@@ -11,10 +11,10 @@ use Rattle.qp_chart_names.specs.Faults.{Fault}
 use Rattle.qp_chart.specs.ChartFaults.{chart_fault}
 use Rattle.qp_chart.proofs.ChartTree.{none-both}
 use Rattle.qp_system_tables.specs.declared.raw.RawSystem.{RawSystem}
-use Rattle.qp_system.specs.Between.{between_fault, timers_of}
+use Rattle.qp_system.specs.Between.{between_fault, timer_count_of}
 use Rattle.qp_system.specs.Later.{later_of, later_fault}
 use Rattle.qp_model.specs.Sound.{SizesAscend}
-use Rattle.qp_system.specs.Within.{names_of, in_chart, within_chart, charts_fault}
+use Rattle.qp_system.specs.Within.{outer_names, in_chart, within_chart, charts_fault}
 use Rattle.qp_system.proofs.BehindLemmas.{each-in, signals-bare, IsPlaced, each-placed, priorities-distinct, timers-few, sizes-ascend, signals-pooled}
 use Rattle.qp_system.proofs.OrderLemmas.{priorities}
 use Rattle.qp_model.proofs.NumberLemmas.{every}
@@ -26,8 +26,8 @@ pub record IsPassed (raw : RawSystem) : Type 0 where
   pub pooled : AllByRecursion (λ s. s.fixed ≡ false → list_any (λ p. nat_le s.params p.size) raw.pools ≡ true) raw.signals
   pub placed : AllByRecursion (IsPlaced raw.charts) raw.objects
   pub distinct : IsDistinct (λ m n. m == n) (priorities raw.objects)
-  pub timers : sum_by (timers_of raw.charts) raw.objects ≤ 64
-  pub charts : AllByRecursion (λ c. chart_fault (names_of raw.signals raw.objects) c ≡ None) raw.charts
+  pub timers : sum_by (timer_count_of raw.charts) raw.objects ≤ 64
+  pub charts : AllByRecursion (λ c. chart_fault (outer_names raw.signals raw.objects) c ≡ None) raw.charts
 
 bare-test : (f : Bool) (n : ℕ) → (f && not (n == 0)) ≡ false → f ≡ true → n ≡ 0
 bare-test true n h fixed = grind (arith, nat_tests, h)
@@ -60,5 +60,5 @@ passed-from raw h =
       placed = each-placed raw.charts raw.objects placing.0;
       distinct = priorities-distinct raw.charts raw.objects placing.0;
       timers = timers-few raw.charts raw.objects placing.0;
-      charts = charts-none (names_of raw.signals raw.objects) raw.charts within.0;
+      charts = charts-none (outer_names raw.signals raw.objects) raw.charts within.0;
     }

@@ -15,7 +15,7 @@ use Rattle.qp_chart_names.specs.Faults.{Fault}
 use Rattle.qp_chart_names.proofs.FaultLemmas.{none-next, none-last}
 use Rattle.qp_system_tables.specs.declared.fault.SystemFault.{SystemFault}
 use Rattle.qp_system_tables.specs.declared.raw.RawObject.{RawObject}
-use Rattle.qp_system.specs.Between.{chart_named, has_vars, timers_of, placing_fault}
+use Rattle.qp_system.specs.Between.{chart_named, has_vars, timer_count_of, placing_fault}
 use Rattle.qp_system.specs.Passes.{IsFirstFault}
 use Rattle.qp_system_tables.specs.Refused.{fault_at}
 use Rattle.qp_system.proofs.PassLemmas.{first-head, first-tail, fault_if-holds, fault_if-fails}
@@ -49,7 +49,7 @@ module _ (charts : List RawChart) (earlier : List RawObject) (k : ℕ) (o : RawO
     vars-is : not (option_map_or (λ d. has_vars d o) (chart_named charts o.chart) false) ≡ not (all_known c o)
     vars-is = ap (λ n. not (option_map_or (λ d. has_vars d o) n false)) is
 
-    pub timers-is : timers_of charts o ≡ length c.timer
+    pub timers-is : timer_count_of charts o ≡ length c.timer
     timers-is = ap (λ n. option_map_or (λ (d : RawChart). length d.timer) n 0) is
 
     pub bad_vars : (e : SystemFault) → all_known c o ≡ false → e ≡ fault_at NO_SUCH_NAME (Key OBJECT ∷ Pos k ∷ Key VARS ∷ []) → IsFirstFault faulty e
@@ -70,8 +70,8 @@ module _ (charts : List RawChart) (earlier : List RawObject) (k : ℕ) (o : RawO
         (first-tail _ _ _ (fault_if-fails _ _ _ (once))
         (first-head _ _ _ (fault_if-holds _ _ _ e (lt-ltb o.threshold o.priority low) h))))
 
-    module _ (timers : ℕ) (so_far : timers ≡ sum_by (timers_of charts) earlier) where
-      sum-is : sum_by (timers_of charts) earlier + timers_of charts o ≡ timers + length c.timer
+    module _ (timers : ℕ) (so_far : timers ≡ sum_by (timer_count_of charts) earlier) where
+      sum-is : sum_by (timer_count_of charts) earlier + timer_count_of charts o ≡ timers + length c.timer
       sum-is = rw (timers-is, so_far) refl
 
       pub bad_count : (e : SystemFault) → all_known c o ≡ true → taken ≡ false → o.priority ≤ o.threshold → 64 < timers + length c.timer

@@ -22,14 +22,14 @@ use Rattle.qp_chart.specs.declared.checked.Row.{Row}
 use Rattle.qp_chart.specs.declared.checked.State.{State}
 use Rattle.qp_chart.specs.declared.checked.Chart.{Chart}
 use Rattle.qp_chart_text.specs.Terms.{Term, Address, ToMe, ToObject, EventTerm, Order, Set, Say, Post, Lifo, Forward, Publish, Defer, Recall, Flush, Subscribe, Unsubscribe, Arm, Rearm, Disarm, Command, Plain, Locked}
-use Rattle.qp_chart_names.specs.ActionFaults.{is_between, is_static, params_of, params_in, reserve_allowed, event_fits, order_in_range, order_fits, command_in_range, command_fits}
+use Rattle.qp_chart_names.specs.ActionFaults.{is_between, is_static_name, params_of_name, params_in, reserve_allowed, event_fits, order_in_range, order_fits, command_in_range, command_fits}
 use Rattle.qp_chart.specs.ActionOf.{IsBoundOf, IsTargetOf, IsEventOf, IsByteOf, IsPlainOf, IsActOf, IsActOfText, IsGuardOf}
 use Rattle.qp_chart.specs.ChartOf.{AreActsOf, IsRowOf, IsStateOf, IsChartOf}
 use Rattle.qp_chart.proofs.LegalLemmas.{Corresponds-length}
 use Rattle.qp_chart_names.specs.RawNumbers.{Refers}
 use Rattle.qp_chart_names.specs.Numbering.{number_in}
 use Rattle.qp_chart_names.specs.Readable.{IsReadableRow, IsReadableState}
-use Rattle.qp_chart_names.specs.RawNumbers.{state_names, timer_names, variable_names, signal_names, object_names, state_number, timer_number, signal_number, signal_named, object_named}
+use Rattle.qp_chart_names.specs.RawNumbers.{state_names, timer_names, variable_names, signal_names, object_names, state_number, timer_by_name, signal_number, signal_named, object_named}
 use Rattle.qp_chart_names.proofs.NumberingLemmas.{number_in-above, number_in-below}
 use Rattle.qp_model.specs.declared.systems.SignalDef.{SignalDef}
 use Rattle.qp_model.specs.declared.systems.System.{System}
@@ -40,7 +40,7 @@ use Rattle.qp_system_tables.specs.Few.{IsFewChart}
 use Rattle.qp_model.specs.SoundChart.{IsSignal, IsDeclared, IsState, IsReceiver, IsTimer, NamesKnown, IsSoundEvent, IsSoundPlain, IsSoundAct, IsSoundGuard, IsSoundRow, IsSoundState, IsSoundChart}
 use Rattle.qp_model.proofs.ListLemmas.{every-at}
 use Rattle.qp_system.specs.SystemOf.{IsObjectOf, AreObjectsOf}
-use Rattle.qp_system.specs.Within.{signal_name, object_name, names_of}
+use Rattle.qp_system.specs.Within.{signal_name, object_name, outer_names}
 use Rattle.qp_system.proofs.TimerLemmas.{IsOwned, each-owned}
 use Rattle.qp_system.proofs.PairLemmas.{Corresponds-each, Corresponds-every, Corresponds-partner}
 
@@ -54,7 +54,7 @@ all-pass p q (x ∷ xs) h k =
 
 module _ (sys : System) (raw : RawSystem) (signals : sys.signals ≡ raw.signals) (objects : AreObjectsOf raw.charts raw.objects sys.objects) where
   abbrev names : Names
-  names = names_of raw.signals raw.objects
+  names = outer_names raw.signals raw.objects
 
   -- a name with a number is that of a signal
   declared : (q : List ℕ) (sig : ℕ) → signal_number names q ≡ Some sig → (s : SignalDef) × IsSignal sys sig s × (signal_named names q ≡ Some (signal_name s))
@@ -80,10 +80,10 @@ module _ (sys : System) (raw : RawSystem) (signals : sys.signals ≡ raw.signals
       )
       by (inr past) = absurd (omega (arith, past.0, low, high))
 
-  params-is : (q : List ℕ) (s : SignalDef) → signal_named names q ≡ Some (signal_name s) → params_of names q ≡ s.params
+  params-is : (q : List ℕ) (s : SignalDef) → signal_named names q ≡ Some (signal_name s) → params_of_name names q ≡ s.params
   params-is q s h = ap (λ o. unwrap_or (option_map (λ t. t.params) o) 0) h
 
-  static-is : (q : List ℕ) (s : SignalDef) → signal_named names q ≡ Some (signal_name s) → is_static names q ≡ s.fixed
+  static-is : (q : List ℕ) (s : SignalDef) → signal_named names q ≡ Some (signal_name s) → is_static_name names q ≡ s.fixed
   static-is q s h = ap (λ o. unwrap_or (option_map (λ t. t.fixed) o) false) h
 
   -- an object of the file is one of the system
@@ -134,7 +134,7 @@ module _ (sys : System) (raw : RawSystem) (signals : sys.signals ≡ raw.signals
         let high = number_in-below 1 (state_names c.state) q s h in
         (low, omega (arith, high, states, length-map c.state (λ (s : RawState). s.name)))
 
-    timer-inside : (q : List ℕ) (t : ℕ) → timer_number c q ≡ Some t → IsTimer chart t
+    timer-inside : (q : List ℕ) (t : ℕ) → timer_by_name c q ≡ Some t → IsTimer chart t
     timer-inside q t h =
         let low = number_in-above 1 (timer_names c.timer) q t h in
         let high = number_in-below 1 (timer_names c.timer) q t h in
@@ -154,11 +154,11 @@ module _ (sys : System) (raw : RawSystem) (signals : sys.signals ≡ raw.signals
         by None is = tt
         by (Some s) is = state-inside name s is
 
-    free-reserve : (s : SignalDef) (event : EventTerm) (z : Option ℤ) (r : Option ℕ) → is_static names event.signal ≡ s.fixed → reserve_allowed names event z ≡ true → IsByteOf z r → s.fixed ≡ true → r ≡ None
+    free-reserve : (s : SignalDef) (event : EventTerm) (z : Option ℤ) (r : Option ℕ) → is_static_name names event.signal ≡ s.fixed → reserve_allowed names event z ≡ true → IsByteOf z r → s.fixed ≡ true → r ≡ None
     free-reserve s event z None static allowed byte fixed = refl
     free-reserve s event z (Some n) static allowed byte fixed =
         let here : reserve_allowed names event (Some (pos n)) ≡ true = subst (λ y. reserve_allowed names event y ≡ true) byte allowed in
-        let second : not (is_static names event.signal) ≡ true = (and_parts (is_between 0 255 (pos n)) (not (is_static names event.signal)) here).1 in
+        let second : not (is_static_name names event.signal) ≡ true = (and_parts (is_between 0 255 (pos n)) (not (is_static_name names event.signal)) here).1 in
         let no : true ≡ false = sym second ∙ ap not (static ∙ fixed) in
         cc
 
@@ -166,8 +166,8 @@ module _ (sys : System) (raw : RawSystem) (signals : sys.signals ≡ raw.signals
         → event_fits names (params_in inside) e ≡ true → reserve_allowed names e z ≡ true → IsByteOf z r → IsSoundEvent sys chart inside sig pars r
     event inside e sig pars z r made fits allowed byte =
         let s = declared e.signal sig made.signal_is in
-        let test : (length e.pars == params_of names e.signal) ≡ true = (and_parts _ _ fits).0 in
-        let count : length e.pars ≡ params_of names e.signal = grind (arith, nat_tests, test) in
+        let test : (length e.pars == params_of_name names e.signal) ≡ true = (and_parts _ _ fits).0 in
+        let count : length e.pars ≡ params_of_name names e.signal = grind (arith, nat_tests, test) in
         record {
           signal = s.0;
           is_signal = s.1;
@@ -240,7 +240,7 @@ module _ (sys : System) (raw : RawSystem) (signals : sys.signals ≡ raw.signals
           signal = s.0;
           on = s.1;
           when = guard-sound s.0.params x.when r.when (subst (λ n. IsGuardOf c n x.when r.when) params made.when);
-          few_acts = acts-few (Some (params_of names x.on)) x.acts r.acts made.acts few;
+          few_acts = acts-few (Some (params_of_name names x.on)) x.acts r.acts made.acts few;
           acts = acts-sound (Some s.0.params) x.acts r.acts (subst (λ n. AreActsOf names c (Some n) x.acts r.acts) params made.acts);
           to = state-key x.to r.to made.to;
         }

@@ -25,14 +25,14 @@ use Rattle.qp_model.specs.declared.systems.System.{System}
 use Rattle.qp_model.specs.Sites.{object_at}
 use Rattle.qp_system_tables.specs.declared.raw.RawObject.{RawObject}
 use Rattle.qp_system_tables.specs.declared.raw.RawSystem.{RawSystem}
-use Rattle.qp_system.specs.Between.{timers_of as count_of}
+use Rattle.qp_system.specs.Between.{timer_count_of as count_of}
 use Rattle.qp_system_tables.specs.Document.{TreeGives}
 use Rattle.qp_system_tables.specs.Few.{IsFewChart, IsFew}
 use Rattle.qp_model.specs.SoundChart.{IsSoundChart}
 use Rattle.qp_model.specs.Sound.{IsSoundPool, IsSoundSignal, IsSoundObject, IsSoundTimer, IsSound}
-use Rattle.qp_system.specs.SystemOf.{chart_names, first_value, IsObjectOf, IsSystemOf}
+use Rattle.qp_system.specs.SystemOf.{chart_names, initial_value, IsObjectOf, IsSystemOf}
 use Rattle.qp_model.specs.Sound.{timer_of, timers_of}
-use Rattle.qp_system.specs.Within.{names_of}
+use Rattle.qp_system.specs.Within.{outer_names}
 use Rattle.qp_system.proofs.BehindLemmas.{IsPlaced}
 use Rattle.qp_system_tables.proofs.FewLemmas.{raw-is_few, IsInRange, raw-is_in_range}
 use Rattle.qp_system.proofs.NamedLemmas.{number-names}
@@ -89,7 +89,7 @@ module _ (names : Names) (raws : List RawChart) (charts : List Chart) (made : Co
       let most = number_in-below 1 (chart_names raws) o.chart d.chart r.chart in
       let count = Corresponds-length (IsChartOf names) raws charts made in
       let low : o.priority ≤ o.threshold = grind (arith, nat_tests, h.0.threshold) in
-      let values : map (first_value o.vars) c.raw.vars ≡ d.vars = same_Some _ _ (rw c.is_raw at r.vars) in
+      let values : map (initial_value o.vars) c.raw.vars ≡ d.vars = same_Some _ _ (rw c.is_raw at r.vars) in
       record {
         some_priority = rw r.priority h.1.0.0;
         threshold = rw (r.priority, r.threshold) low;
@@ -100,7 +100,7 @@ module _ (names : Names) (raws : List RawChart) (charts : List Chart) (made : Co
         few_charts = omega (arith, most, count, length-map raws (λ (c : RawChart). c.name));
         its = c.chart;
         is_its = c.is_chart;
-        vars = sym (ap length values) ∙ length-map c.raw.vars (first_value o.vars) ∙ sym (ap length c.its.vars);
+        vars = sym (ap length values) ∙ length-map c.raw.vars (initial_value o.vars) ∙ sym (ap length c.its.vars);
       }
 
   -- how many time events an object has
@@ -151,7 +151,7 @@ module _ (bytes : List ℕ) (sys : System) (h : IsSystemOf bytes sys) where
   raw = h.raw
 
   abbrev names : Names
-  names = names_of h.raw.signals h.raw.objects
+  names = outer_names h.raw.signals h.raw.objects
 
   few : IsFew h.raw
   few = read-few bytes h.raw h.read

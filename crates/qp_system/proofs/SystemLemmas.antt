@@ -22,8 +22,8 @@ use Rattle.qp_system_tables.specs.declared.raw.RawObject.{RawObject}
 use Rattle.qp_system_tables.specs.declared.raw.RawSystem.{RawSystem}
 use Rattle.qp_system.specs.Checked.{HasLater, IsChecked}
 use Rattle.qp_system_tables.specs.Document.{RefusesBytes}
-use Rattle.qp_system.specs.Placed.{chart_place, HasChart, HasChartAmong}
-use Rattle.qp_system.specs.SystemOf.{chart_names, first_value, first_values, IsObjectOf, AreObjectsOf, HasFault, RefusesSystem}
+use Rattle.qp_system.specs.Placed.{chart_place, NamesChart, HasChartAmong}
+use Rattle.qp_system.specs.SystemOf.{chart_names, initial_value, first_values, IsObjectOf, AreObjectsOf, HasFault, RefusesSystem}
 use Rattle.qp_model.specs.Sound.{timer_of, timers_of}
 use Rattle.qp_system.proofs.BehindLemmas.{IsPlaced}
 use Rattle.qp_system_tables.proofs.FewLemmas.{IsInRange}
@@ -52,16 +52,16 @@ is-some : {A : Type 0} (o : Option A) → is_none o ≡ false → IsSome o
 is-some None h = cc
 is-some (Some x) h = refl
 
-placed-has_chart : (charts : List RawChart) (o : RawObject) → IsPlaced charts o → HasChart charts o
+placed-has_chart : (charts : List RawChart) (o : RawObject) → IsPlaced charts o → NamesChart charts o
 placed-has_chart charts o h =
     is-some (chart_place charts o.chart)
     (sym (none-map (λ i. 1 + i) (chart_place charts o.chart)) ∙ ap is_none (sym (number-position 1 charts o.chart)) ∙ number-none 1 charts o.chart ∙ h.chart)
 
 -- the charts of objects that were moved are declared
-pub all-have_charts : (charts : List RawChart) (raws order : List RawObject) → AllByRecursion (IsPlaced charts) raws → IsPermutation raws order → All (HasChart charts) order
+pub all-have_charts : (charts : List RawChart) (raws order : List RawObject) → AllByRecursion (IsPlaced charts) raws → IsPermutation raws order → All (NamesChart charts) order
 all-have_charts charts raws order h moved =
-    All-permutation (HasChart charts) raws order moved
-    (All-from_recursion (HasChart charts) raws (every (IsPlaced charts) (HasChart charts) (placed-has_chart charts) raws h))
+    All-permutation (NamesChart charts) raws order moved
+    (All-from_recursion (NamesChart charts) raws (every (IsPlaced charts) (NamesChart charts) (placed-has_chart charts) raws h))
 
 -- the numbers of the charts of objects are inside
 pub all-within : (raws : List RawChart) (charts : List Chart) (order : List RawObject) (objects : List ObjectDef) → length raws ≡ length charts → Corresponds (IsObjectOf raws) order objects → All (HasChartAmong charts) objects
@@ -91,7 +91,7 @@ objects-of bytes raw charts order objects checked moved up pairs =
 
 -- an object made of its table and its chart
 pub object-of : (charts : List RawChart) (raw : RawObject) (place : ℕ) (chart : RawChart) (values : List ℤ) → chart_place charts raw.chart ≡ Some place → place < length charts
-    → chart ≡ get_or charts place chart → values ≡ map (first_value raw.vars) chart.vars
+    → chart ≡ get_or charts place chart → values ≡ map (initial_value raw.vars) chart.vars
     → IsObjectOf charts raw (record { name = raw.name; chart = place + 1; priority = raw.priority; threshold = raw.threshold; ring = raw.queue; defer = raw.defer; vars = values })
 object-of charts raw place chart values found inside is valued =
     let number : 1 + place ≡ place + 1 = omega arith in

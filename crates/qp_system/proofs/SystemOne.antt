@@ -12,7 +12,7 @@ use Rattle.qp_model.specs.Sound.{timers_of}
 use Rattle.qp_system_tables.specs.declared.raw.RawObject.{RawObject}
 use Rattle.qp_system.specs.SystemLaw.{SystemsAreOne}
 use Rattle.qp_system.specs.SystemOf.{first_values, IsObjectOf, AreObjectsOf}
-use Rattle.qp_system.specs.Within.{names_of}
+use Rattle.qp_system.specs.Within.{outer_names}
 use Rattle.qp_system.proofs.LawLemmas.{raws-one}
 use Rattle.qp_system.proofs.OnceLemmas.{Rising, rising-one}
 use Rattle.qp_system.proofs.OneChart.{chart-one, corresponds-one}
@@ -60,10 +60,10 @@ module _ (charts : List RawChart) where
 pub systems_are_one : SystemsAreOne
 systems_are_one bytes a b h k =
     let raws : h.raw ≡ k.raw = raws-one bytes h.raw k.raw h.read k.read in
-    let names = names_of k.raw.signals k.raw.objects in
+    let names = outer_names k.raw.signals k.raw.objects in
     let charts : a.charts ≡ b.charts =
     corresponds-one (IsChartOf names) (chart-one names) k.raw.charts a.charts b.charts
-    (subst (λ r. Corresponds (IsChartOf (names_of r.signals r.objects)) r.charts a.charts) raws h.charts) k.charts in
+    (subst (λ r. Corresponds (IsChartOf (outer_names r.signals r.objects)) r.charts a.charts) raws h.charts) k.charts in
     let objects : a.objects ≡ b.objects =
     objects-one k.raw.charts k.raw.objects a.objects b.objects (subst (λ r. AreObjectsOf r.charts r.objects a.objects) raws h.objects) k.objects in
     λ i. record {

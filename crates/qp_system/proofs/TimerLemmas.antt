@@ -13,7 +13,7 @@ use Rattle.qp_chart_names.specs.declared.raw.Names.{Names}
 use Rattle.qp_chart_names.specs.declared.raw.SigName.{SigName}
 use Rattle.qp_chart.specs.declared.checked.Timer.{Timer}
 use Rattle.qp_chart.specs.declared.checked.Chart.{Chart}
-use Rattle.qp_chart_names.specs.ActionFaults.{is_static}
+use Rattle.qp_chart_names.specs.ActionFaults.{is_static_name}
 use Rattle.qp_chart.specs.ChartFaults.{chart_fault, parts_fault, frame_fault, timer_fault}
 use Rattle.qp_chart.specs.ChartOf.{IsTimerOf, IsChartOf}
 use Rattle.qp_chart.proofs.ChartTree.{none-both}
@@ -22,7 +22,7 @@ use Rattle.qp_chart_names.proofs.NumberingLemmas.{number_in-above}
 use Rattle.qp_model.specs.declared.systems.SignalDef.{SignalDef}
 use Rattle.qp_model.specs.declared.systems.ObjectDef.{ObjectDef}
 use Rattle.qp_system_tables.specs.declared.raw.RawObject.{RawObject}
-use Rattle.qp_system.specs.Within.{signal_name, names_of}
+use Rattle.qp_system.specs.Within.{signal_name, outer_names}
 use Rattle.qp_system.proofs.BehindLemmas.{fault_if-None, each-in}
 use Rattle.qp_system_tables.proofs.RangeLemmas.{TimerInRange}
 use Rattle.qp_system.proofs.PairLemmas.{Corresponds-every}
@@ -47,10 +47,10 @@ pub record Fits (signals : List SignalDef) (t : Timer) : Type 0 where
 
 module _ (signals : List SignalDef) (objects : List RawObject) where
   abbrev names : Names
-  names = names_of signals objects
+  names = outer_names signals objects
 
   -- a static signal by its number
-  static-at : (name : List ℕ) (n : ℕ) → is_static names name ≡ true → option_and_then (λ m. slice_get (map signal_name signals) (m - 4)) (Some n) ≡ signal_named names name
+  static-at : (name : List ℕ) (n : ℕ) → is_static_name names name ≡ true → option_and_then (λ m. slice_get (map signal_name signals) (m - 4)) (Some n) ≡ signal_named names name
       → (s : SignalDef) × (slice_get signals (n - 4) ≡ Some s) × (s.fixed ≡ true)
   static-at name n static is = by (slice_get signals (n - 4)) refl
     where
@@ -61,7 +61,7 @@ module _ (signals : List SignalDef) (objects : List RawObject) where
       by None at = let no = rw at at found in cc
       by (Some s) at = let yes = rw at at found in (s, at, yes)
 
-  timer-fits : (raw : RawTimer) (t : Timer) → IsTimerOf names raw t → (is_static names raw.signal ≡ true) × TimerInRange raw → Fits signals t
+  timer-fits : (raw : RawTimer) (t : Timer) → IsTimerOf names raw t → (is_static_name names raw.signal ≡ true) × TimerInRange raw → Fits signals t
   unfolding signal_named
   timer-fits raw t made h =
       let at = static-at raw.signal t.signal h.0 (ap (option_and_then (λ m. slice_get (map signal_name signals) (m - 4))) (sym made.signal)) in
@@ -73,7 +73,7 @@ module _ (signals : List SignalDef) (objects : List RawObject) where
         rate = rw made.rate h.1.1;
       }
 
-  static-timer : (k : ℕ) (t : RawTimer) → timer_fault names k t ≡ None → is_static names t.signal ≡ true
+  static-timer : (k : ℕ) (t : RawTimer) → timer_fault names k t ≡ None → is_static_name names t.signal ≡ true
   unfolding timer_fault
   static-timer k t h = not-false _ (fault_if-None _ _ _ (none-both _ _ (none-both _ _ h).1).0)
 
@@ -84,10 +84,10 @@ module _ (signals : List SignalDef) (objects : List RawObject) where
       let parts = (none-both _ _ (none-both _ _ h.0).1).0 in
       let frame = none-both _ _ parts in
       let timers = none-both _ _ frame.0 in
-      let static = each-in (timer_fault names) (λ t. is_static names t.signal ≡ true) static-timer 1 raw.timer timers.0 in
-      let both = every-two (λ t. is_static names t.signal ≡ true) TimerInRange (λ t. (is_static names t.signal ≡ true) × TimerInRange t)
+      let static = each-in (timer_fault names) (λ t. is_static_name names t.signal ≡ true) static-timer 1 raw.timer timers.0 in
+      let both = every-two (λ t. is_static_name names t.signal ≡ true) TimerInRange (λ t. (is_static_name names t.signal ≡ true) × TimerInRange t)
       (λ t p q. (p, q)) raw.timer static (recursion_from_All TimerInRange raw.timer h.1) in
-      Corresponds-every (IsTimerOf names) (λ t. (is_static names t.signal ≡ true) × TimerInRange t) (Fits signals) timer-fits raw.timer chart.timer made.timer both
+      Corresponds-every (IsTimerOf names) (λ t. (is_static_name names t.signal ≡ true) × TimerInRange t) (Fits signals) timer-fits raw.timer chart.timer made.timer both
 
 -- an object of this priority is found
 abbrev pub IsOwned : List ObjectDef → ℕ → Type 0

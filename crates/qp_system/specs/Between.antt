@@ -38,8 +38,8 @@ signal_fault earlier k s =
     ∷ [])
 
 -- a chart behind these
-unfoldable pub chart_fault : List RawChart → ℕ → RawChart → Option Fault
-chart_fault earlier k c = name_fault CHART (map (λ d. d.name) earlier) k c.name
+unfoldable pub chart_name_fault : List RawChart → ℕ → RawChart → Option Fault
+chart_name_fault earlier k c = name_fault CHART (map (λ d. d.name) earlier) k c.name
 
 -- an object behind these, by its name
 unfoldable pub object_fault : List RawObject → ℕ → RawObject → Option Fault
@@ -54,8 +54,8 @@ abbrev pub has_vars : RawChart → RawObject → Bool
 has_vars c o = list_all (λ var. list_any (λ own. bytes_eq own.0 var.0) c.vars) o.vars
 
 -- how many time events an object has
-abbrev pub timers_of : List RawChart → RawObject → ℕ
-timers_of charts o = option_map_or (λ c. length c.timer) (chart_named charts o.chart) 0
+abbrev pub timer_count_of : List RawChart → RawObject → ℕ
+timer_count_of charts o = option_map_or (λ c. length c.timer) (chart_named charts o.chart) 0
 
 -- an object behind these: its chart, its variables, its priority, its threshold, and the time events up to it
 unfoldable pub placing_fault : List RawChart → List RawObject → ℕ → RawObject → Option Fault
@@ -65,7 +65,7 @@ placing_fault charts earlier k o =
     ∷ fault_if (not (option_map_or (λ c. has_vars c o) (chart_named charts o.chart) false)) NO_SUCH_NAME (Key OBJECT ∷ Pos k ∷ Key VARS ∷ [])
     ∷ fault_if (list_any (λ p. p.priority == o.priority) earlier) DOUBLE (Key OBJECT ∷ Pos k ∷ Key PRIORITY ∷ [])
     ∷ fault_if (nat_lt o.threshold o.priority) RANGE (Key OBJECT ∷ Pos k ∷ Key THRESHOLD ∷ [])
-    ∷ fault_if (nat_lt 64 (sum_by (timers_of charts) earlier + timers_of charts o)) TOO_MANY (Key OBJECT ∷ Pos k ∷ [])
+    ∷ fault_if (nat_lt 64 (sum_by (timer_count_of charts) earlier + timer_count_of charts o)) TOO_MANY (Key OBJECT ∷ Pos k ∷ [])
     ∷ [])
 
 -- the first fault among things, each seen with those before it
@@ -79,7 +79,7 @@ between_fault raw =
     first_of
     (sizes_fault 1 None raw.pools
     ∷ first_behind signal_fault [] 1 raw.signals
-    ∷ first_behind chart_fault [] 1 raw.charts
+    ∷ first_behind chart_name_fault [] 1 raw.charts
     ∷ first_behind object_fault [] 1 raw.objects
     ∷ first_behind (placing_fault raw.charts) [] 1 raw.objects
     ∷ [])

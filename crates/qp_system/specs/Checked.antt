@@ -8,7 +8,7 @@ use Rattle.qp_system_tables.specs.declared.raw.RawSystem.{RawSystem}
 use Rattle.qp_system_tables.specs.Document.{TreeGives}
 use Rattle.qp_system.specs.Later.{later_fault}
 use Rattle.qp_system.specs.Passes.{IsFirstFault}
-use Rattle.qp_system.specs.Within.{names_of}
+use Rattle.qp_system.specs.Within.{outer_names}
 
 -- the tables of the bytes have none by themselves, and this is the first fault of the whole
 unfoldable pub HasLater : List ℕ → SystemFault → Type 0
@@ -18,4 +18,4 @@ HasLater bytes e = (raw : RawSystem) × TreeGives bytes (Ok raw) × IsFirstFault
 pub record IsChecked (bytes : List ℕ) (raw : RawSystem) (charts : List Chart) : Type 0 where
   pub read : TreeGives bytes (Ok raw)
   pub passed : later_fault raw ≡ None
-  pub made : Corresponds (IsChartOf (names_of raw.signals raw.objects)) raw.charts charts
+  pub made : Corresponds (IsChartOf (outer_names raw.signals raw.objects)) raw.charts charts

@@ -9,14 +9,14 @@ use Rattle.qp_system_tables.specs.declared.raw.RawObject.{RawObject}
 use Rattle.qp_system_tables.specs.declared.raw.RawSystem.{RawSystem}
 use Rattle.qp_system.specs.Between.{between_fault, no_pool_fault}
 use Rattle.qp_system_tables.specs.Few.{whole}
-use Rattle.qp_system.specs.Within.{names_of, charts_fault}
+use Rattle.qp_system.specs.Within.{outer_names, charts_fault}
 
 -- the first fault between these tables, within the charts, and of a signal without a pool
 unfoldable pub later_of : List PoolDef → List SignalDef → List RawChart → List RawObject → Option Fault
 later_of pools signals charts objects =
     first_of
     (between_fault (whole pools signals charts objects)
-    ∷ charts_fault (names_of signals objects) charts
+    ∷ charts_fault (outer_names signals objects) charts
     ∷ no_pool_fault pools signals
     ∷ [])
 

@@ -13,8 +13,8 @@ abbrev pub chart_place : List RawChart → List ℕ → Option ℕ
 chart_place charts name = position (λ chart. bytes_eq chart.name name) charts
 
 -- the object's chart is one of these
-abbrev pub HasChart : List RawChart → RawObject → Type 0
-HasChart charts raw = IsSome (chart_place charts raw.chart)
+abbrev pub NamesChart : List RawChart → RawObject → Type 0
+NamesChart charts raw = IsSome (chart_place charts raw.chart)
 
 -- the object's chart has a number among these
 abbrev pub HasChartAmong : List Chart → ObjectDef → Type 0

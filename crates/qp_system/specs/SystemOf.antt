@@ -21,7 +21,7 @@ use Rattle.qp_system_tables.specs.declared.raw.RawObject.{RawObject}
 use Rattle.qp_system_tables.specs.declared.raw.RawSystem.{RawSystem}
 use Rattle.qp_system_tables.specs.Document.{TreeGives}
 use Rattle.qp_system.specs.Later.{later_fault}
-use Rattle.qp_system.specs.Within.{names_of}
+use Rattle.qp_system.specs.Within.{outer_names}
 
 -- the names of these charts
 abbrev pub chart_names : List RawChart → List (List ℕ)
@@ -32,12 +32,12 @@ abbrev pub chart_number : List RawChart → List ℕ → Option ℕ
 chart_number charts name = number_in 1 (chart_names charts) name
 
 -- the first value of a variable of the chart: the object's own, where it has one
-abbrev pub first_value : List ((List ℕ) × ℤ) → (List ℕ) × ℤ → ℤ
-first_value own var = option_map_or (λ v. v.1) (find (λ v. bytes_eq v.0 var.0) own) var.1
+abbrev pub initial_value : List ((List ℕ) × ℤ) → (List ℕ) × ℤ → ℤ
+initial_value own var = option_map_or (λ v. v.1) (find (λ v. bytes_eq v.0 var.0) own) var.1
 
 -- the first values of the variables of the chart with this number
 abbrev pub first_values : List RawChart → ℕ → List ((List ℕ) × ℤ) → Option (List ℤ)
-first_values charts number own = option_map (λ chart. map (first_value own) chart.vars) (slice_get charts (number - 1))
+first_values charts number own = option_map (λ chart. map (initial_value own) chart.vars) (slice_get charts (number - 1))
 
 -- an object of the file, with its chart's number
 pub record IsObjectOf (charts : List RawChart) (raw : RawObject) (object : ObjectDef) : Type 0 where
@@ -64,7 +64,7 @@ pub record IsSystemOf (bytes : List ℕ) (sys : System) : Type 0 where
   pub passed : later_fault raw ≡ None
   pub pools : sys.pools ≡ raw.pools
   pub signals : sys.signals ≡ raw.signals
-  pub charts : Corresponds (IsChartOf (names_of raw.signals raw.objects)) raw.charts sys.charts
+  pub charts : Corresponds (IsChartOf (outer_names raw.signals raw.objects)) raw.charts sys.charts
   pub objects : AreObjectsOf raw.charts raw.objects sys.objects
   pub timers : sys.timers ≡ flat_map (timers_of sys.charts) sys.objects
 

@@ -20,8 +20,8 @@ abbrev pub object_name : RawObject → ObjName
 object_name o = record { name = o.name; priority = o.priority }
 
 -- what charts may name outside themselves
-abbrev pub names_of : List SignalDef → List RawObject → Names
-names_of signals objects = record { signals = map signal_name signals; objects = map object_name objects }
+abbrev pub outer_names : List SignalDef → List RawObject → Names
+outer_names signals objects = record { signals = map signal_name signals; objects = map object_name objects }
 
 -- a fault of the k-th chart, as one of the file
 abbrev pub in_chart : ℕ → Fault → Fault

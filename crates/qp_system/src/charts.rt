@@ -5,7 +5,7 @@ ghost use Rattle.qp_chart.specs.ChartOf.{IsChartOf};
 ghost use Rattle.qp_chart_names.specs.Pairs.{Corresponds};
 ghost use Rattle.qp_chart_names.specs.Readable.{IsReadable};
 ghost use Rattle.qp_system.specs.Passes.{Passes};
-ghost use Rattle.qp_system.specs.Within.{signal_name, object_name, names_of, within_chart, charts_fault};
+ghost use Rattle.qp_system.specs.Within.{signal_name, object_name, outer_names, within_chart, charts_fault};
 
 use qp_chart::{
     Chart, ChartFault, Names, ObjName, ObjNames, Part, Path, RawChart, SigName, SigNames, key,
@@ -47,7 +47,7 @@ pub fn outer_names(
     signals: &[SignalDef],
     objects: &[RawObject],
 ) -> Result<Names, AllocError>
-    ensures { IfOk result (λ names. names ≡ names_of signals.now objects.now) }
+    ensures { IfOk result (λ names. names ≡ outer_names signals.now objects.now) }
 {
     let signals = signal_names(alloc, signals)?;
     let objects = object_names(alloc, objects)?;

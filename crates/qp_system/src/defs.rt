@@ -6,9 +6,9 @@ ghost use Rattle.std.specs.Str.{bytes_eq};
 ghost use Rattle.std.specs.List.{All, find, flat_map};
 ghost use Rattle.std.specs.List.Sorted.{IsPermutation, IsNonDecreasingBy};
 ghost use Rattle.qp_chart_names.specs.Pairs.{Corresponds};
-ghost use Rattle.qp_system.specs.SystemOf.{first_value, IsObjectOf};
+ghost use Rattle.qp_system.specs.SystemOf.{initial_value, IsObjectOf};
 ghost use Rattle.qp_model.specs.Sound.{timer_of, timers_of};
-ghost use Rattle.qp_system.specs.Placed.{chart_place, HasChart, HasChartAmong};
+ghost use Rattle.qp_system.specs.Placed.{chart_place, NamesChart, HasChartAmong};
 
 use qp_chart::{Chart, Name, RawChart, Timer};
 use qp_model::{ObjectDef, ObjectDefs, TimerDef, TimerDefs, Values};
@@ -40,14 +40,14 @@ fn own_value<'a>(own: &'a [(Name, i64)], name: &Name) -> Option<&'a (Name, i64)>
 
 /// The first value of a variable: the object's own, where it has one.
 fn value_of(own: &[(Name, i64)], var: &(Name, i64)) -> i64
-    ensures { result ≡ first_value own.now var.now }
+    ensures { result ≡ initial_value own.now var.now }
 {
     own_value(own, &var.0).map_or(var.1, |value| value.1)
 }
 
 /// The first values of a chart's variables for an object with these of its own.
 fn values_of(alloc: Global, vars: &[(Name, i64)], own: &[(Name, i64)]) -> Result<Values, AllocError>
-    ensures { IfOk result (λ values. values ≡ map (first_value own.now) vars.now) }
+    ensures { IfOk result (λ values. values ≡ map (initial_value own.now) vars.now) }
 {
     let items = vars.iter().map(|var| value_of(own, var)).collect(alloc)?;
     Ok(Values { items })
@@ -56,7 +56,7 @@ fn values_of(alloc: Global, vars: &[(Name, i64)], own: &[(Name, i64)]) -> Result
 /// An object whose chart is one of these.
 fn object_def(alloc: Global, charts: &[RawChart], raw: &RawObject) -> Result<ObjectDef, AllocError>
     requires few { length charts.now ≤ 32 }
-    requires declared { HasChart charts.now raw.now }
+    requires declared { NamesChart charts.now raw.now }
     ensures { IfOk result (IsObjectOf charts.now raw.now) }
 {
     let place = place_of(charts, &raw.chart).unwrap();
@@ -79,7 +79,7 @@ pub fn object_defs(
     raws: &[RawObject],
 ) -> Result<ObjectDefs, AllocError>
     requires few { length charts.now ≤ 32 }
-    requires declared { All (HasChart charts.now) raws.now }
+    requires declared { All (NamesChart charts.now) raws.now }
     ensures { IfOk result (Corresponds (IsObjectOf charts.now) raws.now) }
 {
     let mut items = Vec::new(alloc);

@@ -6,7 +6,7 @@ ghost use Rattle.qp_chart_names.specs.Pairs.{Corresponds};
 ghost use Rattle.qp_system_tables.specs.Few.{IsFewChart, IsFew};
 ghost use Rattle.qp_system.specs.Later.{later_of, later_fault};
 ghost use Rattle.qp_system.specs.Passes.{Passes};
-ghost use Rattle.qp_system.specs.Within.{names_of};
+ghost use Rattle.qp_system.specs.Within.{outer_names};
 
 use crate::between::{pools_pass, tables_pass};
 use crate::charts::{checked_charts, outer_names};
@@ -29,7 +29,7 @@ fn charts_of_tables(
     requires objects { length objects.now ≤ 32 }
     requires each { All IsFewChart charts.now }
     ensures passes { Passes (later_of pools.now signals.now charts.now objects.now) result }
-    ensures made { IfOk result (Corresponds (IsChartOf (names_of signals.now objects.now)) charts.now) }
+    ensures made { IfOk result (Corresponds (IsChartOf (outer_names signals.now objects.now)) charts.now) }
 {
     tables_pass(pools, signals, charts, objects)?;
     let names = outer_names(alloc, signals, objects)?;
@@ -44,7 +44,7 @@ fn charts_of_tables(
 pub fn charts_of(alloc: Global, raw: &RawSystem) -> Result<Charts, SystemFault>
     requires { IsFew raw.now }
     ensures passes { Passes (later_fault raw.now) result }
-    ensures made { IfOk result (Corresponds (IsChartOf (names_of raw.now.signals raw.now.objects)) raw.now.charts) }
+    ensures made { IfOk result (Corresponds (IsChartOf (outer_names raw.now.signals raw.now.objects)) raw.now.charts) }
 {
     charts_of_tables(
         alloc,

@@ -4,7 +4,7 @@ ghost use Rattle.std.specs.Prelude.{◌≡◌, ◌+◌, ◌≤◌, ◌==◌, [],
 ghost use Rattle.std.specs.List.{find, list_all, list_any, sum_by};
 ghost use Rattle.std.specs.Option.{option_copied};
 ghost use Rattle.std.specs.Str.{bytes_eq};
-ghost use Rattle.qp_system.specs.Between.{timers_of, placing_fault, first_behind};
+ghost use Rattle.qp_system.specs.Between.{timer_count_of, placing_fault, first_behind};
 ghost use Rattle.qp_system.specs.Passes.{Passes};
 
 use crate::twice::member_fault;
@@ -48,10 +48,10 @@ fn object_placed(
     place: u16,
     object: &RawObject,
 ) -> Result<usize, SystemFault>
-    requires sum { timers ≡ sum_by (timers_of charts.now) earlier.now }
+    requires sum { timers ≡ sum_by (timer_count_of charts.now) earlier.now }
     requires few { timers ≤ 64 }
     ensures passes { Passes (placing_fault charts.now earlier.now place object.now) result }
-    ensures total { IfOk result (λ total. (total ≡ timers + timers_of charts.now object.now) ×
+    ensures total { IfOk result (λ total. (total ≡ timers + timer_count_of charts.now object.now) ×
         (total ≤ 64)) }
 {
     let Some(chart) = chart_of(charts, &object.chart) else {

@@ -4,7 +4,7 @@ ghost use Rattle.std.specs.Prelude.{◌≡◌, ◌≤◌, ◌==◌, ◌&&◌, �
 ghost use Rattle.std.specs.List.{list_any};
 ghost use Rattle.std.specs.Str.{bytes_eq};
 ghost use Rattle.qp_chart_names.specs.declared.place.Part.TheVariants.{Key, Pos};
-ghost use Rattle.qp_system.specs.Between.{is_not_above, sizes_fault, first_behind, signal_fault, chart_fault, object_fault};
+ghost use Rattle.qp_system.specs.Between.{is_not_above, sizes_fault, first_behind, signal_fault, chart_name_fault, object_fault};
 ghost use Rattle.qp_system.specs.Passes.{Passes};
 ghost use Rattle.qp_system_tables.specs.Refused.{fault_at};
 
@@ -90,7 +90,7 @@ fn chart_is_named(charts: &[RawChart], name: &Name) -> bool
 
 /// A chart behind others.
 fn chart_passes(earlier: &[RawChart], place: u16, chart: &RawChart) -> Result<(), SystemFault>
-    ensures { Passes (chart_fault earlier.now place chart.now) result }
+    ensures { Passes (chart_name_fault earlier.now place chart.now) result }
 {
     if chart_is_named(earlier, &chart.name) {
         return Err(member_fault(code::DOUBLE, key::CHART, place, key::NAME));
@@ -101,7 +101,7 @@ fn chart_passes(earlier: &[RawChart], place: u16, chart: &RawChart) -> Result<()
 /// Refuses charts of one name.
 pub fn charts_pass(charts: &[RawChart]) -> Result<(), SystemFault>
     requires { length charts.now ≤ 200 }
-    ensures { Passes (first_behind chart_fault [] 1 charts.now) result }
+    ensures { Passes (first_behind chart_name_fault [] 1 charts.now) result }
 {
     for (i, chart) in charts.iter().enumerate() {
         chart_passes(&charts[..i], i as u16 + 1, chart)?;

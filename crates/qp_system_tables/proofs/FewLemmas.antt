@@ -10,16 +10,16 @@ use Rattle.qp_chart_names.specs.declared.place.Part.{Part}
 use Rattle.qp_chart_names.specs.declared.place.Part.TheVariants.{Key, Pos}
 use Rattle.qp_chart_names.specs.Codes.{TOO_MANY, RANGE}
 use Rattle.qp_chart_names.specs.Faults.{Fault}
-use Rattle.qp_system_tables.specs.Tree.{refuse, at_key, knows, defaulted, needed, optional}
+use Rattle.qp_system_tables.specs.Tree.{refuse, at_key, knows_keys, defaulted, needed, optional}
 use Rattle.qp_model.specs.Results.{◌>>=◌}
-use Rattle.qp_system_tables.specs.Values.{integer_between, name_of, text_of, tables_of, texts_of, some_texts, short_texts, vars_of, some_vars, named_vars, all_integers, items_of_kind, allowed}
+use Rattle.qp_system_tables.specs.Values.{integer_between, name_of, text_value, tables_of, texts_of, some_texts, short_texts, vars_of, some_vars, named_vars, all_integers, items_of_kind, allowed_name}
 use Rattle.qp_chart_names.specs.Keys.{QP, POOL, SIGNAL, CHART, OBJECT, NAME, PARENT, INIT, INIT_DO, VARS, TIMER, STATE, ENTRY, EXIT, ROW, ON, WHEN, DO, TO}
 use Rattle.qp_chart_names.specs.declared.raw.RawState.{RawState}
 use Rattle.qp_chart_names.specs.declared.raw.RawChart.{RawChart}
 use Rattle.qp_chart_names.specs.Readable.{IsReadableRow, IsReadableState}
 use Rattle.qp_system_tables.specs.declared.raw.RawSystem.{RawSystem}
 use Rattle.qp_chart_names.specs.declared.raw.RawRow.{RawRow}
-use Rattle.qp_system_tables.specs.Tables.{read_tables, initial, pool_at, signal_at, read_row, timer_at, state_at, chart_at, object_at, raw_of}
+use Rattle.qp_system_tables.specs.Tables.{read_tables, read_initial, read_pool, read_signal, read_row, read_timer, read_state, read_chart, read_object, raw_of}
 use Rattle.qp_system_tables.specs.Few.{IsFewChart, IsFew}
 use Rattle.qp_system_tables.proofs.ReadLemmas.{Between, bind-Ok, ok-same, defaulted-Ok, needed-Ok, tables_of-counted, tables-few, listed}
 use Rattle.qp_system_tables.proofs.RangeLemmas.{PoolInRange, pool_at-range, SignalInRange, signal_at-range, TimerInRange, timer_at-range, ObjectInRange, object_at-range}
@@ -61,7 +61,7 @@ named_vars-count : (place : List Part) (vars xs : List (List ℕ × ℤ)) → na
 unfolding named_vars
 named_vars-count place [] xs h = let same : [] ≡ xs = ok-same [] xs h in rw (sym same) refl
 named_vars-count place (v ∷ more) xs h =
-    let a = bind-Ok (allowed place v.0) _ xs h in
+    let a = bind-Ok (allowed_name place v.0) _ xs h in
     let b = bind-Ok (named_vars place more) _ xs a.2 in
     let same : (a.0, v.1) ∷ b.0 ≡ xs = ok-same ((a.0, v.1) ∷ b.0) xs b.2 in
     let count = named_vars-count place more b.0 b.1 in
@@ -88,9 +88,9 @@ FewRow r = length r.acts ≤ 16
 row-few : (at : List Part) (t : Members) (r : RawRow) → read_row at t ≡ Ok r → FewRow r
 unfolding read_row
 row-few at t r h =
-    let a = bind-Ok (knows (ON ∷ WHEN ∷ DO ∷ TO ∷ []) at t) _ r h in
+    let a = bind-Ok (knows_keys (ON ∷ WHEN ∷ DO ∷ TO ∷ []) at t) _ r h in
     let b = bind-Ok (needed name_of ON at t) _ r a.2 in
-    let c = bind-Ok (optional text_of WHEN at t) _ r b.2 in
+    let c = bind-Ok (optional text_value WHEN at t) _ r b.2 in
     let d = bind-Ok (defaulted [] texts_of DO at t) _ r c.2 in
     let e = bind-Ok (optional name_of TO at t) _ r d.2 in
     let q : RawRow = record { on = b.0; when = c.0; acts = d.0; to = e.0 } in
@@ -100,15 +100,15 @@ row-few at t r h =
 abbrev pub FewState : RawState → Type 0
 FewState s = (length s.entry ≤ 16) × (length s.exit ≤ 16) × (length s.init_do ≤ 16) × (length s.row ≤ 32) × All FewRow s.row
 
-state-few : (at : List Part) (t : Members) (s : RawState) → state_at at t ≡ Ok s → FewState s
-unfolding state_at
+state-few : (at : List Part) (t : Members) (s : RawState) → read_state at t ≡ Ok s → FewState s
+unfolding read_state
 state-few at t s h =
-    let a = bind-Ok (knows (NAME ∷ PARENT ∷ ENTRY ∷ EXIT ∷ INIT ∷ INIT_DO ∷ ROW ∷ []) at t) _ s h in
+    let a = bind-Ok (knows_keys (NAME ∷ PARENT ∷ ENTRY ∷ EXIT ∷ INIT ∷ INIT_DO ∷ ROW ∷ []) at t) _ s h in
     let b = bind-Ok (needed name_of NAME at t) _ s a.2 in
     let c = bind-Ok (optional name_of PARENT at t) _ s b.2 in
     let d = bind-Ok (defaulted [] texts_of ENTRY at t) _ s c.2 in
     let e = bind-Ok (defaulted [] texts_of EXIT at t) _ s d.2 in
-    let f = bind-Ok (initial (at ++ Key INIT ∷ []) (at_key INIT t) (at_key INIT_DO t)) _ s e.2 in
+    let f = bind-Ok (read_initial (at ++ Key INIT ∷ []) (at_key INIT t) (at_key INIT_DO t)) _ s e.2 in
     let g = bind-Ok (defaulted [] texts_of INIT_DO at t) _ s f.2 in
     let i = bind-Ok (read_tables read_row (at ++ Key ROW ∷ []) (defaulted [] (tables_of 0 32) ROW at t)) _ s g.2 in
     let q : RawState = record { name = b.0; parent = c.0; entry = d.0; exit = e.0; init = f.0; init_do = g.0; row = i.0 } in
@@ -119,21 +119,21 @@ state-few at t s h =
 abbrev pub FewChart : RawChart → Type 0
 FewChart c = (length c.init_do ≤ 16) × (length c.vars ≤ 16) × (length c.timer ≤ 8) × (length c.state ≤ 64) × All FewState c.state × All TimerInRange c.timer
 
-chart-few : (at : List Part) (t : Members) (k : RawChart) → chart_at at t ≡ Ok k → FewChart k
-unfolding chart_at
+chart-few : (at : List Part) (t : Members) (k : RawChart) → read_chart at t ≡ Ok k → FewChart k
+unfolding read_chart
 chart-few at t k h =
-    let a = bind-Ok (knows (NAME ∷ INIT ∷ INIT_DO ∷ VARS ∷ TIMER ∷ STATE ∷ []) at t) _ k h in
+    let a = bind-Ok (knows_keys (NAME ∷ INIT ∷ INIT_DO ∷ VARS ∷ TIMER ∷ STATE ∷ []) at t) _ k h in
     let b = bind-Ok (needed name_of NAME at t) _ k a.2 in
     let c = bind-Ok (needed name_of INIT at t) _ k b.2 in
     let d = bind-Ok (defaulted [] texts_of INIT_DO at t) _ k c.2 in
     let e = bind-Ok (defaulted [] (vars_of (Some 16)) VARS at t) _ k d.2 in
-    let f = bind-Ok (read_tables timer_at (at ++ Key TIMER ∷ []) (defaulted [] (tables_of 0 8) TIMER at t)) _ k e.2 in
-    let g = bind-Ok (read_tables state_at (at ++ Key STATE ∷ []) (needed (tables_of 1 64) STATE at t)) _ k f.2 in
+    let f = bind-Ok (read_tables read_timer (at ++ Key TIMER ∷ []) (defaulted [] (tables_of 0 8) TIMER at t)) _ k e.2 in
+    let g = bind-Ok (read_tables read_state (at ++ Key STATE ∷ []) (needed (tables_of 1 64) STATE at t)) _ k f.2 in
     let q : RawChart = record { name = b.0; init = c.0; init_do = d.0; vars = e.0; timer = f.0; state = g.0 } in
     let same : q ≡ k = ok-same q k g.2 in
     let vars = defaulted-Ok (λ (l : List (List ℕ × ℤ)). length l ≤ 16) [] (vars_of (Some 16)) VARS at t e.0 (omega arith) vars-few e.1 in
-    let timers = listed TimerInRange timer_at (λ n. n ≤ 8) (at ++ Key TIMER ∷ []) (defaulted [] (tables_of 0 8) TIMER at t) f.0 (λ ts. defaulted-Ok (λ (l : List Members). length l ≤ 8) [] (tables_of 0 8) TIMER at t ts (omega arith) (tables-few 0 8)) timer_at-range f.1 in
-    let states = listed FewState state_at (λ n. n ≤ 64) (at ++ Key STATE ∷ []) (needed (tables_of 1 64) STATE at t) g.0 (λ ts. needed-Ok (λ (l : List Members). length l ≤ 64) (tables_of 1 64) STATE at t ts (tables-few 1 64)) state-few g.1 in
+    let timers = listed TimerInRange read_timer (λ n. n ≤ 8) (at ++ Key TIMER ∷ []) (defaulted [] (tables_of 0 8) TIMER at t) f.0 (λ ts. defaulted-Ok (λ (l : List Members). length l ≤ 8) [] (tables_of 0 8) TIMER at t ts (omega arith) (tables-few 0 8)) timer_at-range f.1 in
+    let states = listed FewState read_state (λ n. n ≤ 64) (at ++ Key STATE ∷ []) (needed (tables_of 1 64) STATE at t) g.0 (λ ts. needed-Ok (λ (l : List Members). length l ≤ 64) (tables_of 1 64) STATE at t ts (tables-few 1 64)) state-few g.1 in
     subst FewChart same (acts-few INIT_DO at t d.0 d.1, vars, timers.1, states.1, states.0, timers.0)
 
 abbrev pub FewRaw : RawSystem → Type 0
@@ -144,18 +144,18 @@ FewRaw r =
 raw-few : (t : Members) (r : RawSystem) → raw_of t ≡ Ok r → FewRaw r
 unfolding raw_of
 raw-few t r h =
-    let a = bind-Ok (knows (QP ∷ POOL ∷ SIGNAL ∷ CHART ∷ OBJECT ∷ []) [] t) _ r h in
+    let a = bind-Ok (knows_keys (QP ∷ POOL ∷ SIGNAL ∷ CHART ∷ OBJECT ∷ []) [] t) _ r h in
     let b = bind-Ok (needed (integer_between 1 1) QP [] t) _ r a.2 in
-    let c = bind-Ok (read_tables pool_at (Key POOL ∷ []) (defaulted [] (tables_of 0 15) POOL [] t)) _ r b.2 in
-    let d = bind-Ok (read_tables signal_at (Key SIGNAL ∷ []) (defaulted [] (tables_of 0 200) SIGNAL [] t)) _ r c.2 in
-    let e = bind-Ok (read_tables chart_at (Key CHART ∷ []) (needed (tables_of 1 32) CHART [] t)) _ r d.2 in
-    let f = bind-Ok (read_tables object_at (Key OBJECT ∷ []) (needed (tables_of 1 32) OBJECT [] t)) _ r e.2 in
+    let c = bind-Ok (read_tables read_pool (Key POOL ∷ []) (defaulted [] (tables_of 0 15) POOL [] t)) _ r b.2 in
+    let d = bind-Ok (read_tables read_signal (Key SIGNAL ∷ []) (defaulted [] (tables_of 0 200) SIGNAL [] t)) _ r c.2 in
+    let e = bind-Ok (read_tables read_chart (Key CHART ∷ []) (needed (tables_of 1 32) CHART [] t)) _ r d.2 in
+    let f = bind-Ok (read_tables read_object (Key OBJECT ∷ []) (needed (tables_of 1 32) OBJECT [] t)) _ r e.2 in
     let q : RawSystem = record { pools = c.0; signals = d.0; charts = e.0; objects = f.0 } in
     let same : q ≡ r = ok-same q r f.2 in
-    let pools = listed PoolInRange pool_at (λ n. n ≤ 15) (Key POOL ∷ []) (defaulted [] (tables_of 0 15) POOL [] t) c.0 (λ ts. defaulted-Ok (λ (l : List Members). length l ≤ 15) [] (tables_of 0 15) POOL [] t ts (omega arith) (tables-few 0 15)) pool_at-range c.1 in
-    let signals = listed SignalInRange signal_at (λ n. n ≤ 200) (Key SIGNAL ∷ []) (defaulted [] (tables_of 0 200) SIGNAL [] t) d.0 (λ ts. defaulted-Ok (λ (l : List Members). length l ≤ 200) [] (tables_of 0 200) SIGNAL [] t ts (omega arith) (tables-few 0 200)) signal_at-range d.1 in
-    let charts = listed FewChart chart_at (Between 1 32) (Key CHART ∷ []) (needed (tables_of 1 32) CHART [] t) e.0 (λ ts. needed-Ok (λ (l : List Members). Between 1 32 (length l)) (tables_of 1 32) CHART [] t ts (tables_of-counted 1 32)) chart-few e.1 in
-    let objects = listed ObjectInRange object_at (Between 1 32) (Key OBJECT ∷ []) (needed (tables_of 1 32) OBJECT [] t) f.0 (λ ts. needed-Ok (λ (l : List Members). Between 1 32 (length l)) (tables_of 1 32) OBJECT [] t ts (tables_of-counted 1 32)) object_at-range f.1 in
+    let pools = listed PoolInRange read_pool (λ n. n ≤ 15) (Key POOL ∷ []) (defaulted [] (tables_of 0 15) POOL [] t) c.0 (λ ts. defaulted-Ok (λ (l : List Members). length l ≤ 15) [] (tables_of 0 15) POOL [] t ts (omega arith) (tables-few 0 15)) pool_at-range c.1 in
+    let signals = listed SignalInRange read_signal (λ n. n ≤ 200) (Key SIGNAL ∷ []) (defaulted [] (tables_of 0 200) SIGNAL [] t) d.0 (λ ts. defaulted-Ok (λ (l : List Members). length l ≤ 200) [] (tables_of 0 200) SIGNAL [] t ts (omega arith) (tables-few 0 200)) signal_at-range d.1 in
+    let charts = listed FewChart read_chart (Between 1 32) (Key CHART ∷ []) (needed (tables_of 1 32) CHART [] t) e.0 (λ ts. needed-Ok (λ (l : List Members). Between 1 32 (length l)) (tables_of 1 32) CHART [] t ts (tables_of-counted 1 32)) chart-few e.1 in
+    let objects = listed ObjectInRange read_object (Between 1 32) (Key OBJECT ∷ []) (needed (tables_of 1 32) OBJECT [] t) f.0 (λ ts. needed-Ok (λ (l : List Members). Between 1 32 (length l)) (tables_of 1 32) OBJECT [] t ts (tables_of-counted 1 32)) object_at-range f.1 in
     subst FewRaw same (pools.1, signals.1, charts.1, objects.1, charts.0, pools.0, signals.0, objects.0)
 
 -- what holds of some things, of all members

@@ -17,9 +17,9 @@ use Rattle.qp_system_tables.specs.declared.fault.SystemFault.{SystemFault}
 use Rattle.qp_system_tables.specs.declared.fault.SystemFault.TheVariants.{Memory, NotToml, At}
 use Rattle.qp_system_tables.specs.Tree.{each}
 use Rattle.qp_model.specs.Results.{◌>>=◌}
-use Rattle.qp_system_tables.specs.Values.{with_first, all_of_kind, short_texts}
+use Rattle.qp_system_tables.specs.Values.{both_values, all_of_kind, short_texts}
 use Rattle.qp_system_tables.specs.Refused.{ReadFails}
-use Rattle.qp_system_tables.specs.Front.{with_front, Table, members}
+use Rattle.qp_system_tables.specs.Front.{with_front, Table, table_members}
 
 -- a refusal of a part is one of the whole
 pub Fails-through : {Y Z : Type 0} (e : SystemFault) (part : Result Y Fault) (whole : Result Z Fault) → ReadFails e part
@@ -45,7 +45,7 @@ option-front-nil (Some xs) = refl
 option-front-nil None = refl
 
 pub option-front-more : {A : Type 0} (front : List A) (o : Option A) (x : A) (more : Option (List A)) → o ≡ Some x
-    → option_map (λ rest. (front ++ x ∷ []) ++ rest) more ≡ option_map (λ rest. front ++ rest) (with_first o more)
+    → option_map (λ rest. (front ++ x ∷ []) ++ rest) more ≡ option_map (λ rest. front ++ rest) (both_values o more)
 option-front-more front None x more h = cc
 option-front-more front (Some y) x None h = refl
 option-front-more {A} front (Some y) x (Some xs) h =
@@ -53,13 +53,13 @@ option-front-more {A} front (Some y) x (Some xs) h =
     ap (λ (l : List A). Some l) (append_assoc front (x ∷ []) xs) ∙ ap (λ z. Some (front ++ z ∷ xs)) (sym same)
 
 pub option-front-none : {A : Type 0} (front : List A) (o : Option A) (more : Option (List A)) → o ≡ None
-    → option_map (λ rest. front ++ rest) (with_first o more) ≡ None
+    → option_map (λ rest. front ++ rest) (both_values o more) ≡ None
 option-front-none front None more h = refl
 option-front-none front (Some x) more h = cc
 
 -- the items of a kind from place i on
 pub all_of_kind-drop : {A : Type 0} (as_kind : Data → Option A) (i : ℕ) (vs : List Value) (d : Value) → i < length vs
-    → all_of_kind as_kind (items_view (drop i vs)) ≡ with_first (as_kind (view (get_or vs i d))) (all_of_kind as_kind (items_view (drop (i + 1) vs)))
+    → all_of_kind as_kind (items_view (drop i vs)) ≡ both_values (as_kind (view (get_or vs i d))) (all_of_kind as_kind (items_view (drop (i + 1) vs)))
 unfolding all_of_kind
 all_of_kind-drop as_kind i vs d h =
     let first : drop i vs ≡ get_or vs i d ∷ drop (i + 1) vs = rw add-one (drop-cons vs i d h) in
@@ -122,7 +122,7 @@ pub all_of_kind-turn : {A : Type 0} (as_kind : Data → Option A) (front : List 
 all_of_kind-turn {A} as_kind front i vs v x h is found =
     let more = all_of_kind as_kind (items_view (drop (i + 1) vs)) in
     option-front-more front (as_kind (view v)) x more found
-    ∙ ap (λ (w : Value). option_map (λ (rest : List A). front ++ rest) (with_first (as_kind (view w)) more)) is
+    ∙ ap (λ (w : Value). option_map (λ (rest : List A). front ++ rest) (both_values (as_kind (view w)) more)) is
     ∙ ap (λ (o : Option (List A)). option_map (λ (rest : List A). front ++ rest) o) (sym (all_of_kind-drop as_kind i vs v h))
 
 -- an item of another kind
@@ -131,7 +131,7 @@ pub all_of_kind-none : {A : Type 0} (as_kind : Data → Option A) (front : List 
 all_of_kind-none {A} as_kind front i vs v h is found =
     let more = all_of_kind as_kind (items_view (drop (i + 1) vs)) in
     sym (option-front-none front (as_kind (view v)) more found)
-    ∙ ap (λ (w : Value). option_map (λ (rest : List A). front ++ rest) (with_first (as_kind (view w)) more)) is
+    ∙ ap (λ (w : Value). option_map (λ (rest : List A). front ++ rest) (both_values (as_kind (view w)) more)) is
     ∙ ap (λ (o : Option (List A)). option_map (λ (rest : List A). front ++ rest) o) (sym (all_of_kind-drop as_kind i vs v h))
 
 -- the last item
@@ -142,58 +142,58 @@ all_of_kind-last {A} as_kind front i vs h =
     ∙ ap (λ (o : Option (List A)). option_map (λ (rest : List A). front ++ rest) o) (sym (all_of_kind-end as_kind (drop i vs) (drop_all i vs h)))
 
 each-first : {A : Type 0} (read : List Part → Members → Result A Fault) (place : List Part) (i : ℕ) (ts : List (Bor Table)) (d : Bor Table) → i < length ts
-    → each read place (i + 1) (map members (drop i ts)) ≡ each read place (i + 1) (members (get_or ts i d) ∷ map members (drop (i + 1) ts))
+    → each read place (i + 1) (map table_members (drop i ts)) ≡ each read place (i + 1) (table_members (get_or ts i d) ∷ map table_members (drop (i + 1) ts))
 each-first read place i ts d h =
     let first : drop i ts ≡ get_or ts i d ∷ drop (i + 1) ts = rw add-one (drop-cons ts i d h) in
-    ap (λ (l : List (Bor Table)). each read place (i + 1) (map members l)) first
+    ap (λ (l : List (Bor Table)). each read place (i + 1) (map table_members l)) first
 
 -- one table more is read
 pub each-turn : {A : Type 0} (read : List Part → Members → Result A Fault) (place : List Part) (front : List A) (i : ℕ) (ts : List (Bor Table)) (d : Bor Table) (x : A)
-    → i < length ts → read (place ++ Pos (i + 1) ∷ []) (members (get_or ts i d)) ≡ Ok x
-    → with_front (front ++ x ∷ []) (each read place (i + 1 + 1) (map members (drop (i + 1) ts))) ≡ with_front front (each read place (i + 1) (map members (drop i ts)))
+    → i < length ts → read (place ++ Pos (i + 1) ∷ []) (table_members (get_or ts i d)) ≡ Ok x
+    → with_front (front ++ x ∷ []) (each read place (i + 1 + 1) (map table_members (drop (i + 1) ts))) ≡ with_front front (each read place (i + 1) (map table_members (drop i ts)))
 each-turn read place front i ts d x h ok =
-    let more = map members (drop (i + 1) ts) in
-    sym (ap (with_front front) (each-first read place i ts d h ∙ each-Ok read place (i + 1) (members (get_or ts i d)) more x ok)
+    let more = map table_members (drop (i + 1) ts) in
+    sym (ap (with_front front) (each-first read place i ts d h ∙ each-Ok read place (i + 1) (table_members (get_or ts i d)) more x ok)
     ∙ with_front-more front x (each read place (i + 1 + 1) more))
 
 -- a table that is refused
 pub each-stop : {A : Type 0} (read : List Part → Members → Result A Fault) (place : List Part) (front : List A) (i : ℕ) (ts : List (Bor Table)) (d : Bor Table) (f : Fault)
-    → i < length ts → read (place ++ Pos (i + 1) ∷ []) (members (get_or ts i d)) ≡ Err f
-    → with_front front (each read place (i + 1) (map members (drop i ts))) ≡ Err f
+    → i < length ts → read (place ++ Pos (i + 1) ∷ []) (table_members (get_or ts i d)) ≡ Err f
+    → with_front front (each read place (i + 1) (map table_members (drop i ts))) ≡ Err f
 each-stop read place front i ts d f h refused =
-    ap (with_front front) (each-first read place i ts d h ∙ each-Err read place (i + 1) (members (get_or ts i d)) (map members (drop (i + 1) ts)) f refused)
+    ap (with_front front) (each-first read place i ts d h ∙ each-Err read place (i + 1) (table_members (get_or ts i d)) (map table_members (drop (i + 1) ts)) f refused)
 
 -- all tables are read
 each-last : {A : Type 0} (read : List Part → Members → Result A Fault) (place : List Part) (front : List A) (i : ℕ) (ts : List (Bor Table)) → length ts ≤ i
-    → with_front front (each read place (i + 1) (map members (drop i ts))) ≡ Ok front
+    → with_front front (each read place (i + 1) (map table_members (drop i ts))) ≡ Ok front
 each-last read place front i ts h =
-    ap (λ (l : List (Bor Table)). with_front front (each read place (i + 1) (map members l))) (drop_all i ts h)
+    ap (λ (l : List (Bor Table)). with_front front (each read place (i + 1) (map table_members l))) (drop_all i ts h)
     ∙ ap (with_front front) (each-end read place (i + 1))
     ∙ with_front-end front
 
 -- so what was read is the whole
 pub each-whole : {A : Type 0} (read : List Part → Members → Result A Fault) (place : List Part) (front : List A) (i : ℕ) (ts : List (Bor Table)) (whole : Result (List A) Fault)
-    → length ts ≤ i → with_front front (each read place (i + 1) (map members (drop i ts))) ≡ whole → whole ≡ Ok front
+    → length ts ≤ i → with_front front (each read place (i + 1) (map table_members (drop i ts))) ≡ whole → whole ≡ Ok front
 each-whole read place front i ts whole h invariant = sym invariant ∙ each-last read place front i ts h
 
 -- a table that the program refuses
 pub each-refused : {A : Type 0} (read : List Part → Members → Result A Fault) (place : List Part) (front : List A) (i : ℕ) (ts : List (Bor Table)) (table : Bor Table)
     (at : List Part) (e : SystemFault) (whole : Result (List A) Fault) → i < length ts → table ≡ get_or ts i table → at ≡ place ++ Pos (i + 1) ∷ []
-    → with_front front (each read place (i + 1) (map members (drop i ts))) ≡ whole → ReadFails e (read at (members table)) → ReadFails e whole
+    → with_front front (each read place (i + 1) (map table_members (drop i ts))) ≡ whole → ReadFails e (read at (table_members table)) → ReadFails e whole
 each-refused {A} read place front i ts table at e whole h is here invariant refused =
-    Fails-through e (read at (members table)) whole refused
+    Fails-through e (read at (table_members table)) whole refused
     (λ f found.
     sym invariant
     ∙ each-stop read place front i ts table f h
-    (ap (λ (t : Bor Table). read (place ++ Pos (i + 1) ∷ []) (members t)) (sym is) ∙ ap (λ p. read p (members table)) (sym here) ∙ found))
+    (ap (λ (t : Bor Table). read (place ++ Pos (i + 1) ∷ []) (table_members t)) (sym is) ∙ ap (λ p. read p (table_members table)) (sym here) ∙ found))
 
 -- a table that the program reads
 pub each-read : {A : Type 0} (read : List Part → Members → Result A Fault) (place : List Part) (items new : List A) (x : A) (i : ℕ) (ts : List (Bor Table))
     (table : Bor Table) (at : List Part) (whole : Result (List A) Fault) → i < length ts → table ≡ get_or ts i table → at ≡ place ++ Pos (i + 1) ∷ []
-    → with_front items (each read place (i + 1) (map members (drop i ts))) ≡ whole → read at (members table) ≡ Ok x → new ≡ items ++ x ∷ []
-    → with_front new (each read place (i + 1 + 1) (map members (drop (i + 1) ts))) ≡ whole
+    → with_front items (each read place (i + 1) (map table_members (drop i ts))) ≡ whole → read at (table_members table) ≡ Ok x → new ≡ items ++ x ∷ []
+    → with_front new (each read place (i + 1 + 1) (map table_members (drop (i + 1) ts))) ≡ whole
 each-read read place items new x i ts table at whole h is here invariant found pushed =
-    ap (λ f. with_front f (each read place (i + 1 + 1) (map members (drop (i + 1) ts)))) pushed
+    ap (λ f. with_front f (each read place (i + 1 + 1) (map table_members (drop (i + 1) ts)))) pushed
     ∙ each-turn read place items i ts table x h
-    (ap (λ (t : Bor Table). read (place ++ Pos (i + 1) ∷ []) (members t)) (sym is) ∙ ap (λ p. read p (members table)) (sym here) ∙ found)
+    (ap (λ (t : Bor Table). read (place ++ Pos (i + 1) ∷ []) (table_members t)) (sym is) ∙ ap (λ p. read p (table_members table)) (sym here) ∙ found)
     ∙ invariant

@@ -12,9 +12,9 @@ use Rattle.qp_model.specs.declared.systems.PoolDef.{PoolDef}
 use Rattle.qp_model.specs.declared.systems.SignalDef.{SignalDef}
 use Rattle.qp_chart_names.specs.declared.raw.RawTimer.{RawTimer}
 use Rattle.qp_system_tables.specs.declared.raw.RawObject.{RawObject}
-use Rattle.qp_system_tables.specs.Tree.{refuse, knows, needed, defaulted}
-use Rattle.qp_system_tables.specs.Values.{integer_between, integer_in, within, name_of, flag_of, vars_of}
-use Rattle.qp_system_tables.specs.Tables.{pool_at, signal_at, timer_at, object_at}
+use Rattle.qp_system_tables.specs.Tree.{refuse, knows_keys, needed, defaulted}
+use Rattle.qp_system_tables.specs.Values.{integer_between, integer_in, integer_within, name_of, flag_value, vars_of}
+use Rattle.qp_system_tables.specs.Tables.{read_pool, read_signal, read_timer, read_object}
 use Rattle.qp_system_tables.proofs.ReadLemmas.{Between, bind-Ok, ok-same, defaulted-Ok, needed-Ok}
 
 pass-range : (least most n m : ℕ) (place : List Part) (b : Bool) → (nat_le least n && nat_le n most) ≡ b
@@ -26,7 +26,7 @@ pass-range least most n m place true test h =
     rw (sym same) (low, high)
 pass-range least most n m place false test h = cc
 
-within-range : (least most : ℕ) (place : List Part) (z : ℤ) (m : ℕ) → within least most place z ≡ Ok m → Between least most m
+within-range : (least most : ℕ) (place : List Part) (z : ℤ) (m : ℕ) → integer_within least most place z ≡ Ok m → Between least most m
 within-range least most place (pos n) m h = pass-range least most n m place _ refl h
 within-range least most place (negsuc n) m h = cc
 
@@ -51,10 +51,10 @@ defaulted-range least most default key at t n base h = defaulted-Ok (Between lea
 abbrev pub PoolInRange : PoolDef → Type 0
 PoolInRange p = Between 0 8 p.size × Between 1 32 p.blocks
 
-pub pool_at-range : (at : List Part) (t : Members) (p : PoolDef) → pool_at at t ≡ Ok p → PoolInRange p
-unfolding pool_at
+pub pool_at-range : (at : List Part) (t : Members) (p : PoolDef) → read_pool at t ≡ Ok p → PoolInRange p
+unfolding read_pool
 pool_at-range at t p h =
-    let a = bind-Ok (knows (SIZE ∷ BLOCKS ∷ []) at t) _ p h in
+    let a = bind-Ok (knows_keys (SIZE ∷ BLOCKS ∷ []) at t) _ p h in
     let b = bind-Ok (needed (integer_between 0 8) SIZE at t) _ p a.2 in
     let c = bind-Ok (needed (integer_between 1 32) BLOCKS at t) _ p b.2 in
     let q : PoolDef = record { size = b.0; blocks = c.0 } in
@@ -64,13 +64,13 @@ pool_at-range at t p h =
 abbrev pub SignalInRange : SignalDef → Type 0
 SignalInRange s = Between 0 8 s.params
 
-pub signal_at-range : (at : List Part) (t : Members) (s : SignalDef) → signal_at at t ≡ Ok s → SignalInRange s
-unfolding signal_at
+pub signal_at-range : (at : List Part) (t : Members) (s : SignalDef) → read_signal at t ≡ Ok s → SignalInRange s
+unfolding read_signal
 signal_at-range at t s h =
-    let a = bind-Ok (knows (NAME ∷ PARAMS ∷ STATIC ∷ []) at t) _ s h in
+    let a = bind-Ok (knows_keys (NAME ∷ PARAMS ∷ STATIC ∷ []) at t) _ s h in
     let b = bind-Ok (needed name_of NAME at t) _ s a.2 in
     let c = bind-Ok (defaulted 0 (integer_between 0 8) PARAMS at t) _ s b.2 in
-    let d = bind-Ok (defaulted false flag_of STATIC at t) _ s c.2 in
+    let d = bind-Ok (defaulted false flag_value STATIC at t) _ s c.2 in
     let q : SignalDef = record { name = b.0; params = c.0; fixed = d.0 } in
     let same : q ≡ s = ok-same q s d.2 in
     subst SignalInRange same (defaulted-range 0 8 0 PARAMS at t c.0 (omega arith, omega arith) c.1)
@@ -78,10 +78,10 @@ signal_at-range at t s h =
 abbrev pub TimerInRange : RawTimer → Type 0
 TimerInRange t = Between 0 3 t.rate
 
-pub timer_at-range : (at : List Part) (t : Members) (r : RawTimer) → timer_at at t ≡ Ok r → TimerInRange r
-unfolding timer_at
+pub timer_at-range : (at : List Part) (t : Members) (r : RawTimer) → read_timer at t ≡ Ok r → TimerInRange r
+unfolding read_timer
 timer_at-range at t r h =
-    let a = bind-Ok (knows (NAME ∷ SIGNAL ∷ RATE ∷ []) at t) _ r h in
+    let a = bind-Ok (knows_keys (NAME ∷ SIGNAL ∷ RATE ∷ []) at t) _ r h in
     let b = bind-Ok (needed name_of NAME at t) _ r a.2 in
     let c = bind-Ok (needed name_of SIGNAL at t) _ r b.2 in
     let d = bind-Ok (needed (integer_between 0 3) RATE at t) _ r c.2 in
@@ -92,10 +92,10 @@ timer_at-range at t r h =
 abbrev pub ObjectInRange : RawObject → Type 0
 ObjectInRange o = Between 1 32 o.priority × Between 1 32 o.threshold × Between 0 255 o.queue × Between 0 255 o.defer
 
-pub object_at-range : (at : List Part) (t : Members) (o : RawObject) → object_at at t ≡ Ok o → ObjectInRange o
-unfolding object_at
+pub object_at-range : (at : List Part) (t : Members) (o : RawObject) → read_object at t ≡ Ok o → ObjectInRange o
+unfolding read_object
 object_at-range at t o h =
-    let a = bind-Ok (knows (NAME ∷ CHART ∷ PRIORITY ∷ THRESHOLD ∷ QUEUE ∷ DEFER ∷ VARS ∷ []) at t) _ o h in
+    let a = bind-Ok (knows_keys (NAME ∷ CHART ∷ PRIORITY ∷ THRESHOLD ∷ QUEUE ∷ DEFER ∷ VARS ∷ []) at t) _ o h in
     let b = bind-Ok (needed name_of NAME at t) _ o a.2 in
     let c = bind-Ok (needed name_of CHART at t) _ o b.2 in
     let d = bind-Ok (needed (integer_between 1 32) PRIORITY at t) _ o c.2 in

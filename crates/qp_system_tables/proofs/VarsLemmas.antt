@@ -11,7 +11,7 @@ use Rattle.qp_chart_names.specs.declared.place.Part.{Part}
 use Rattle.qp_chart_names.specs.Faults.{Fault}
 use Rattle.qp_system_tables.specs.declared.fault.SystemFault.{SystemFault}
 use Rattle.qp_model.specs.Results.{◌>>=◌}
-use Rattle.qp_system_tables.specs.Values.{allowed, named_vars, all_integers}
+use Rattle.qp_system_tables.specs.Values.{allowed_name, named_vars, all_integers}
 use Rattle.qp_system_tables.specs.Refused.{ReadFails}
 use Rattle.qp_system_tables.specs.Front.{with_front}
 use Rattle.qp_system_tables.proofs.FrontLemmas.{Fails-through, with_front-more, with_front-end, option-front-more, option-front-none}
@@ -29,11 +29,11 @@ named-first place i vars d h =
     let first : drop i vars ≡ get_or vars i d ∷ drop (i + 1) vars = rw add-one (drop-cons vars i d h) in
     ap (λ (l : List Pair). named_vars place (map pair_view l)) first
 
-named-Err : (place : List Part) (var : List ℕ × ℤ) (more : List (List ℕ × ℤ)) (f : Fault) → allowed place var.0 ≡ Err f → named_vars place (var ∷ more) ≡ Err f
+named-Err : (place : List Part) (var : List ℕ × ℤ) (more : List (List ℕ × ℤ)) (f : Fault) → allowed_name place var.0 ≡ Err f → named_vars place (var ∷ more) ≡ Err f
 unfolding named_vars
 named-Err place var more f h = ap (λ r. r >>= λ name. named_vars place more >>= λ vars. Ok ((name, var.1) ∷ vars)) h
 
-named-Ok : (place : List Part) (var : List ℕ × ℤ) (more : List (List ℕ × ℤ)) (name : List ℕ) → allowed place var.0 ≡ Ok name
+named-Ok : (place : List Part) (var : List ℕ × ℤ) (more : List (List ℕ × ℤ)) (name : List ℕ) → allowed_name place var.0 ≡ Ok name
     → named_vars place (var ∷ more) ≡ (named_vars place more >>= λ vars. Ok ((name, var.1) ∷ vars))
 unfolding named_vars
 named-Ok place var more name h = ap (λ r. r >>= λ n. named_vars place more >>= λ vars. Ok ((n, var.1) ∷ vars)) h
@@ -44,9 +44,9 @@ named-end place = refl
 
 -- a variable whose key is no name
 pub named-refused : (place : List Part) (front : List (List ℕ × ℤ)) (i : ℕ) (vars : List Pair) (d : Pair) (e : SystemFault) (whole : Result (List (List ℕ × ℤ)) Fault)
-    → i < length vars → with_front front (named_vars place (map pair_view (drop i vars))) ≡ whole → ReadFails e (allowed place (get_or vars i d).0.now) → ReadFails e whole
+    → i < length vars → with_front front (named_vars place (map pair_view (drop i vars))) ≡ whole → ReadFails e (allowed_name place (get_or vars i d).0.now) → ReadFails e whole
 named-refused place front i vars d e whole h invariant refused =
-    Fails-through e (allowed place (get_or vars i d).0.now) whole refused
+    Fails-through e (allowed_name place (get_or vars i d).0.now) whole refused
     (λ f found.
     sym invariant
     ∙ ap (with_front front) (named-first place i vars d h ∙ named-Err place (pair_view (get_or vars i d)) (map pair_view (drop (i + 1) vars)) f found))
@@ -54,7 +54,7 @@ named-refused place front i vars d e whole h invariant refused =
 -- a variable that is read
 pub named-read : (place : List Part) (items new : List ((List ℕ) × ℤ)) (name : (List ℕ)) (i : ℕ) (vars : List Pair) (d : Pair)
     (whole : Result (List (List ℕ × ℤ)) Fault) → i < length vars → with_front items (named_vars place (map pair_view (drop i vars))) ≡ whole
-    → allowed place (get_or vars i d).0.now ≡ Ok name → new ≡ items ++ (name, (get_or vars i d).1) ∷ []
+    → allowed_name place (get_or vars i d).0.now ≡ Ok name → new ≡ items ++ (name, (get_or vars i d).1) ∷ []
     → with_front new (named_vars place (map pair_view (drop (i + 1) vars))) ≡ whole
 named-read place items new name i vars d whole h invariant found pushed =
     let more = map pair_view (drop (i + 1) vars) in

@@ -19,5 +19,5 @@ abbrev pub Table : Type 0
 Table = BTreeMap (String Global) Value
 
 -- a table's members
-abbrev pub members : Bor Table → Members
-members table = table_view table.now
+abbrev pub table_members : Bor Table → Members
+table_members table = table_view table.now

@@ -32,38 +32,38 @@ all_known keys no_members = true
 all_known keys (member word value more) = is_key keys word && all_known keys more
 
 -- a table has no keys but these
-unfoldable pub knows : List ℕ → List Part → Members → Result (Unit {0}) Fault
+unfoldable pub knows_keys : List ℕ → List Part → Members → Result (Unit {0}) Fault
 unfolding all_known
-knows keys at table = if all_known keys table then Ok tt else refuse UNKNOWN at
+knows_keys keys at table = if all_known keys table then Ok tt else refuse UNKNOWN at
 
 -- the reading of a value, at the path to it
-abbrev pub Reader : Type 0 → Type 0
-Reader A = List Part → Data → Result A Fault
+abbrev pub DataReader : Type 0 → Type 0
+DataReader A = List Part → Data → Result A Fault
 
-abbrev pub needed_at : {A : Type 0} → Reader A → List Part → Option Data → Result A Fault
+abbrev pub needed_at : {A : Type 0} → DataReader A → List Part → Option Data → Result A Fault
 needed_at read place None = refuse MISSING place
 needed_at read place (Some value) = read place value
 
 -- a key that has to stand
-unfoldable pub needed : {A : Type 0} → Reader A → ℕ → List Part → Members → Result A Fault
+unfoldable pub needed : {A : Type 0} → DataReader A → ℕ → List Part → Members → Result A Fault
 unfolding at_key
 needed read key at table = needed_at read (at ++ Key key ∷ []) (at_key key table)
 
-abbrev pub default_at : {A : Type 0} → A → Reader A → List Part → Option Data → Result A Fault
+abbrev pub default_at : {A : Type 0} → A → DataReader A → List Part → Option Data → Result A Fault
 default_at default read place None = Ok default
 default_at default read place (Some value) = read place value
 
 -- a key with a default
-unfoldable pub defaulted : {A : Type 0} → A → Reader A → ℕ → List Part → Members → Result A Fault
+unfoldable pub defaulted : {A : Type 0} → A → DataReader A → ℕ → List Part → Members → Result A Fault
 unfolding at_key
 defaulted default read key at table = default_at default read (at ++ Key key ∷ []) (at_key key table)
 
-abbrev pub optional_at : {A : Type 0} → Reader A → List Part → Option Data → Result (Option A) Fault
+abbrev pub optional_at : {A : Type 0} → DataReader A → List Part → Option Data → Result (Option A) Fault
 optional_at read place None = Ok None
 optional_at read place (Some value) = read place value >>= λ x. Ok (Some x)
 
 -- a key that may be missing
-unfoldable pub optional : {A : Type 0} → Reader A → ℕ → List Part → Members → Result (Option A) Fault
+unfoldable pub optional : {A : Type 0} → DataReader A → ℕ → List Part → Members → Result (Option A) Fault
 unfolding at_key
 optional read key at table = optional_at read (at ++ Key key ∷ []) (at_key key table)
 

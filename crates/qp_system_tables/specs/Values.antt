@@ -12,13 +12,13 @@ use Rattle.qp_system_tables.specs.Tree.{refuse}
 use Rattle.qp_model.specs.Results.{◌>>=◌}
 use Rattle.qp_system_tables.specs.Names.{is_name}
 
-abbrev pub within : ℕ → ℕ → List Part → ℤ → Result ℕ Fault
-within least most place (pos n) = if nat_le least n && nat_le n most then Ok n else refuse RANGE place
-within least most place (negsuc n) = refuse RANGE place
+abbrev pub integer_within : ℕ → ℕ → List Part → ℤ → Result ℕ Fault
+integer_within least most place (pos n) = if nat_le least n && nat_le n most then Ok n else refuse RANGE place
+integer_within least most place (negsuc n) = refuse RANGE place
 
 abbrev pub integer_in : ℕ → ℕ → List Part → Option ℤ → Result ℕ Fault
 integer_in least most place None = refuse WRONG_KIND place
-integer_in least most place (Some z) = within least most place z
+integer_in least most place (Some z) = integer_within least most place z
 
 -- an integer from least to most
 unfoldable pub integer_between : ℕ → ℕ → List Part → Data → Result ℕ Fault
@@ -30,40 +30,40 @@ of_kind place None = refuse WRONG_KIND place
 of_kind place (Some x) = Ok x
 
 -- a text that is a name
-unfoldable pub allowed : List Part → List ℕ → Result (List ℕ) Fault
+unfoldable pub allowed_name : List Part → List ℕ → Result (List ℕ) Fault
 unfolding is_name
-allowed place text = if is_name text then Ok text else refuse RANGE place
+allowed_name place text = if is_name text then Ok text else refuse RANGE place
 
-abbrev pub name_in : List Part → Option (List ℕ) → Result (List ℕ) Fault
-name_in place None = refuse WRONG_KIND place
-name_in place (Some text) = allowed place text
+abbrev pub name_value : List Part → Option (List ℕ) → Result (List ℕ) Fault
+name_value place None = refuse WRONG_KIND place
+name_value place (Some text) = allowed_name place text
 
 -- a name
 unfoldable pub name_of : List Part → Data → Result (List ℕ) Fault
-unfolding allowed
-name_of place value = name_in place (as_str value)
+unfolding allowed_name
+name_of place value = name_value place (as_str value)
 
 abbrev pub short_text : List Part → Option (List ℕ) → Result (List ℕ) Fault
 short_text place None = refuse WRONG_KIND place
 short_text place (Some text) = if nat_le (length text) 200 then Ok text else refuse RANGE place
 
 -- a text of at most 200 bytes
-unfoldable pub text_of : List Part → Data → Result (List ℕ) Fault
-text_of place value = short_text place (as_str value)
+unfoldable pub text_value : List Part → Data → Result (List ℕ) Fault
+text_value place value = short_text place (as_str value)
 
 -- a boolean
-unfoldable pub flag_of : List Part → Data → Result Bool Fault
-flag_of place value = of_kind place (as_bool value)
+unfoldable pub flag_value : List Part → Data → Result Bool Fault
+flag_value place value = of_kind place (as_bool value)
 
 -- both, if both stand
-abbrev pub with_first : {A : Type 0} → Option A → Option (List A) → Option (List A)
-with_first None more = None
-with_first (Some x) more = option_map (λ xs. x ∷ xs) more
+abbrev pub both_values : {A : Type 0} → Option A → Option (List A) → Option (List A)
+both_values None more = None
+both_values (Some x) more = option_map (λ xs. x ∷ xs) more
 
 -- items that are all of one kind
 unfoldable pub all_of_kind : {A : Type 0} → (Data → Option A) → Items → Option (List A)
 all_of_kind as_kind no_items = Some []
-all_of_kind as_kind (item value more) = with_first (as_kind value) (all_of_kind as_kind more)
+all_of_kind as_kind (item value more) = both_values (as_kind value) (all_of_kind as_kind more)
 
 -- texts of at most 200 bytes; the first has place k
 unfoldable pub short_texts : List Part → ℕ → List (List ℕ) → Result (List (List ℕ)) Fault
@@ -88,7 +88,7 @@ texts_of place value = some_texts place (items_of_kind as_str value)
 -- members whose values are all integers
 unfoldable pub all_integers : Members → Option (List (List ℕ × ℤ))
 all_integers no_members = Some []
-all_integers (member name value more) = with_first (option_map (λ z. (name, z)) (as_integer value)) (all_integers more)
+all_integers (member name value more) = both_values (option_map (λ z. (name, z)) (as_integer value)) (all_integers more)
 
 -- more than the limit, if there is one
 abbrev pub is_above : Option ℕ → ℕ → Bool
@@ -97,10 +97,10 @@ is_above (Some most) n = nat_lt most n
 
 -- variables, if all their keys are names
 unfoldable pub named_vars : List Part → List (List ℕ × ℤ) → Result (List (List ℕ × ℤ)) Fault
-unfolding allowed
+unfolding allowed_name
 named_vars place [] = Ok []
 named_vars place (var ∷ more) = do
-  name ← allowed place var.0
+  name ← allowed_name place var.0
   vars ← named_vars place more
   Ok ((name, var.1) ∷ vars)
 

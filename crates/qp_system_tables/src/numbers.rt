@@ -5,7 +5,7 @@ ghost use Rattle.toml.specs.View.{view, table_view};
 ghost use Rattle.qp_chart_names.specs.declared.place.Part.TheVariants.{Key};
 ghost use Rattle.qp_system_tables.specs.Refused.{ReadsAs};
 ghost use Rattle.qp_system_tables.specs.Tree.{needed, defaulted};
-ghost use Rattle.qp_system_tables.specs.Values.{integer_between, flag_of};
+ghost use Rattle.qp_system_tables.specs.Values.{integer_between, flag_value};
 
 use crate::fault::SystemFault;
 use crate::section::{KeyPlace, Section};
@@ -56,9 +56,9 @@ pub fn number_or(section: Section, key: u8, range: Range, default: u8) -> Result
     }
 }
 
-#[tactic(auto, unfolding(crate::specs::Values::flag_of))]
+#[tactic(auto, unfolding(crate::specs::Values::flag_value))]
 fn flag(place: KeyPlace, value: &Value) -> Result<bool, SystemFault>
-    ensures { ReadsAs (λ b. b) result (flag_of (place.entry.at.now ++ Key place.entry.key ∷ []) (view value.now)) }
+    ensures { ReadsAs (λ b. b) result (flag_value (place.entry.at.now ++ Key place.entry.key ∷ []) (view value.now)) }
 {
     match value.as_bool() {
         None => Err(place.refuse(code::WRONG_KIND)),
@@ -69,7 +69,7 @@ fn flag(place: KeyPlace, value: &Value) -> Result<bool, SystemFault>
 /// The boolean at a key, false where the key is missing.
 #[tactic(auto, unfolding(crate::specs::Tree::defaulted))]
 pub fn flag_or_false(section: Section, key: u8) -> Result<bool, SystemFault>
-    ensures { ReadsAs (λ b. b) result (defaulted false flag_of key section.entry.at.now (table_view section.entry.table.now)) }
+    ensures { ReadsAs (λ b. b) result (defaulted false flag_value key section.entry.at.now (table_view section.entry.table.now)) }
 {
     match section.value(key) {
         None => Ok(false),

@@ -2,7 +2,7 @@
 
 ghost use Rattle.toml.specs.View.{table_view};
 ghost use Rattle.qp_system_tables.specs.Refused.{ReadsAs};
-ghost use Rattle.qp_system_tables.specs.Tables.{object_at, raw_of};
+ghost use Rattle.qp_system_tables.specs.Tables.{read_object, raw_of};
 
 use crate::entries::{TableEntry, entries_or_none, needed_entries};
 use crate::fault::SystemFault;
@@ -28,11 +28,11 @@ const LENGTHS: Range = Range {
 const PARTS: Count = Count { least: 1, most: 32 };
 
 impl TableEntry for RawObject {
-    ghost reading = { object_at };
+    ghost reading = { read_object };
 
     ghost depth = { 6 };
 
-    #[tactic(auto, unfolding(crate::specs::Tables::object_at))]
+    #[tactic(auto, unfolding(crate::specs::Tables::read_object))]
     fn read(alloc: Global, section: Section) -> Result<RawObject, SystemFault> {
         section.knows(&[
             key::NAME,

@@ -1,6 +1,6 @@
 //! Pools and signals.
 
-ghost use Rattle.qp_system_tables.specs.Tables.{pool_at, signal_at};
+ghost use Rattle.qp_system_tables.specs.Tables.{read_pool, read_signal};
 
 use crate::entries::TableEntry;
 use crate::fault::SystemFault;
@@ -12,11 +12,11 @@ use qp_model::{PoolDef, SignalDef};
 use std::alloc::Global;
 
 impl TableEntry for PoolDef {
-    ghost reading = { pool_at };
+    ghost reading = { read_pool };
 
     ghost depth = { 6 };
 
-    #[tactic(auto, unfolding(crate::specs::Tables::pool_at))]
+    #[tactic(auto, unfolding(crate::specs::Tables::read_pool))]
     fn read(_alloc: Global, section: Section) -> Result<PoolDef, SystemFault> {
         section.knows(&[key::SIZE, key::BLOCKS])?;
         let size = needed_number(section, key::SIZE, Range { least: 0, most: 8 })?;
@@ -26,11 +26,11 @@ impl TableEntry for PoolDef {
 }
 
 impl TableEntry for SignalDef {
-    ghost reading = { signal_at };
+    ghost reading = { read_signal };
 
     ghost depth = { 6 };
 
-    #[tactic(auto, unfolding(crate::specs::Tables::signal_at))]
+    #[tactic(auto, unfolding(crate::specs::Tables::read_signal))]
     fn read(_alloc: Global, section: Section) -> Result<SignalDef, SystemFault> {
         section.knows(&[key::NAME, key::PARAMS, key::STATIC])?;
         let name = needed_name(section, key::NAME)?;

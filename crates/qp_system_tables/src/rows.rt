@@ -1,6 +1,6 @@
 //! Time events and rows.
 
-ghost use Rattle.qp_system_tables.specs.Tables.{timer_at, read_row};
+ghost use Rattle.qp_system_tables.specs.Tables.{read_timer, read_row};
 
 use crate::entries::TableEntry;
 use crate::fault::SystemFault;
@@ -11,11 +11,11 @@ use qp_chart::{RawRow, RawTimer, key};
 use std::alloc::Global;
 
 impl TableEntry for RawTimer {
-    ghost reading = { timer_at };
+    ghost reading = { read_timer };
 
     ghost depth = { 6 };
 
-    #[tactic(auto, unfolding(crate::specs::Tables::timer_at))]
+    #[tactic(auto, unfolding(crate::specs::Tables::read_timer))]
     fn read(_alloc: Global, section: Section) -> Result<RawTimer, SystemFault> {
         section.knows(&[key::NAME, key::SIGNAL, key::RATE])?;
         let name = needed_name(section, key::NAME)?;

@@ -6,7 +6,7 @@ ghost use Rattle.std.specs.List.{list_all};
 ghost use Rattle.std.specs.Option.{option_map};
 ghost use Rattle.toml.specs.View.{view, table_view};
 ghost use Rattle.qp_chart_names.specs.declared.place.Part.TheVariants.{Key, Pos};
-ghost use Rattle.qp_system_tables.specs.Tree.{at_key, is_key, all_known, knows};
+ghost use Rattle.qp_system_tables.specs.Tree.{at_key, is_key, all_known, knows_keys};
 ghost use Rattle.qp_system_tables.specs.Refused.{ReadsAs, fault_at};
 
 use crate::fault::SystemFault;
@@ -65,9 +65,9 @@ impl<'a> Section<'a> {
     }
 
     /// Refuses a table with another key than these.
-    #[tactic(auto, unfolding(crate::specs::Tree::knows))]
+    #[tactic(auto, unfolding(crate::specs::Tree::knows_keys))]
     pub fn knows(self, keys: &[u8]) -> Result<(), SystemFault>
-        ensures { ReadsAs (λ _. tt) result (knows keys.now self.entry.at.now (table_view self.entry.table.now)) }
+        ensures { ReadsAs (λ _. tt) result (knows_keys keys.now self.entry.at.now (table_view self.entry.table.now)) }
     {
         if are_known(keys, self.table) {
             Ok(())

@@ -7,7 +7,7 @@ ghost use Rattle.qp_chart_names.specs.declared.place.Part.TheVariants.{Key};
 ghost use Rattle.qp_chart_names.specs.Keys as key;
 ghost use Rattle.qp_system_tables.specs.Refused.{ReadsAs};
 ghost use Rattle.qp_system_tables.specs.Tree.{at_key};
-ghost use Rattle.qp_system_tables.specs.Tables.{initial, has_items, state_at, chart_at};
+ghost use Rattle.qp_system_tables.specs.Tables.{read_initial, has_items, read_state, read_chart};
 
 use crate::entries::{TableEntry, entries_or_none, needed_entries};
 use crate::fault::SystemFault;
@@ -34,7 +34,7 @@ fn is_filled_list(value: Option<&Value>) -> bool
 
 /// The initial state of a state, which has to stand where the state has initial actions.
 fn initial_name(section: Section) -> Result<Option<Name>, SystemFault>
-    ensures { ReadsAs (option_map (λ name. name)) result (initial (section.entry.at.now ++ Key key.INIT ∷ [])
+    ensures { ReadsAs (option_map (λ name. name)) result (read_initial (section.entry.at.now ++ Key key.INIT ∷ [])
         (at_key key.INIT (table_view section.entry.table.now)) (at_key key.INIT_DO (table_view section.entry.table.now))) }
 {
     let place = section.place(key::INIT);
@@ -46,11 +46,11 @@ fn initial_name(section: Section) -> Result<Option<Name>, SystemFault>
 }
 
 impl TableEntry for RawState {
-    ghost reading = { state_at };
+    ghost reading = { read_state };
 
     ghost depth = { 4 };
 
-    #[tactic(auto, unfolding(crate::specs::Tables::state_at))]
+    #[tactic(auto, unfolding(crate::specs::Tables::read_state))]
     fn read(alloc: Global, section: Section) -> Result<RawState, SystemFault> {
         section.knows(&[
             key::NAME,
@@ -81,11 +81,11 @@ impl TableEntry for RawState {
 }
 
 impl TableEntry for RawChart {
-    ghost reading = { chart_at };
+    ghost reading = { read_chart };
 
     ghost depth = { 2 };
 
-    #[tactic(auto, unfolding(crate::specs::Tables::chart_at))]
+    #[tactic(auto, unfolding(crate::specs::Tables::read_chart))]
     fn read(alloc: Global, section: Section) -> Result<RawChart, SystemFault> {
         section.knows(&[
             key::NAME,

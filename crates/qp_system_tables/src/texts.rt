@@ -7,7 +7,7 @@ ghost use Rattle.toml.specs.View.{view, items_view, table_view};
 ghost use Rattle.qp_chart_names.specs.declared.place.Part.TheVariants.{Key};
 ghost use Rattle.qp_system_tables.specs.Refused.{ReadsAs};
 ghost use Rattle.qp_system_tables.specs.Tree.{needed, defaulted, optional};
-ghost use Rattle.qp_system_tables.specs.Values.{allowed, name_of, text_of, all_of_kind, items_of_kind, short_texts, some_texts, texts_of};
+ghost use Rattle.qp_system_tables.specs.Values.{allowed_name, name_of, text_value, all_of_kind, items_of_kind, short_texts, some_texts, texts_of};
 
 use crate::fault::SystemFault;
 use crate::name::is_allowed;
@@ -17,9 +17,9 @@ use std::alloc::{AllocError, Global};
 use toml::Value;
 
 /// A text that has to be a name.
-#[tactic(auto, unfolding(crate::specs::Values::allowed))]
+#[tactic(auto, unfolding(crate::specs::Values::allowed_name))]
 pub fn allowed_name(place: KeyPlace, text: &str) -> Result<Name, SystemFault>
-    ensures { ReadsAs (λ name. name) result (allowed (place.entry.at.now ++ Key place.entry.key ∷ []) text.now) }
+    ensures { ReadsAs (λ name. name) result (allowed_name (place.entry.at.now ++ Key place.entry.key ∷ []) text.now) }
 {
     match Name::from(text) {
         Ok(name) if is_allowed(text) => Ok(name),
@@ -63,9 +63,9 @@ pub fn optional_name(section: Section, key: u8) -> Result<Option<Name>, SystemFa
 }
 
 /// A text of at most 200 bytes.
-#[tactic(auto, unfolding(crate::specs::Values::text_of))]
+#[tactic(auto, unfolding(crate::specs::Values::text_value))]
 fn text(alloc: Global, place: KeyPlace, value: &Value) -> Result<Text, SystemFault>
-    ensures { ReadsAs (λ text. text) result (text_of (place.entry.at.now ++ Key place.entry.key ∷ []) (view value.now)) }
+    ensures { ReadsAs (λ text. text) result (text_value (place.entry.at.now ++ Key place.entry.key ∷ []) (view value.now)) }
 {
     match value.as_str() {
         None => Err(place.refuse(code::WRONG_KIND)),
@@ -79,7 +79,7 @@ fn text(alloc: Global, place: KeyPlace, value: &Value) -> Result<Text, SystemFau
 /// The text at a key that may be missing.
 #[tactic(auto, unfolding(crate::specs::Tree::optional))]
 pub fn optional_text(alloc: Global, section: Section, key: u8) -> Result<Option<Text>, SystemFault>
-    ensures { ReadsAs (λ text. text) result (optional text_of key section.entry.at.now (table_view section.entry.table.now)) }
+    ensures { ReadsAs (λ text. text) result (optional text_value key section.entry.at.now (table_view section.entry.table.now)) }
 {
     match section.value(key) {
         None => Ok(None),

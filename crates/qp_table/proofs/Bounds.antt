@@ -20,7 +20,7 @@ use Rattle.qp_model.proofs.HistoryLemmas.{length-hist, total-length}
 use Rattle.qp_model.proofs.MachineLemmas.{after-keeps, count-after}
 use Rattle.qp_model.proofs.WordLawLemmas.{free_blocks-counts, references-counts}
 use Rattle.qp_table.specs.Counting.{Each, many}
-use Rattle.qp_table.specs.Now.{Now, Leaves}
+use Rattle.qp_table.specs.Now.{Now, LeavesWords}
 use Rattle.qp_table.specs.Rule.{bits_value}
 use Rattle.qp_model.proofs.RecordLemmas.{lane-length}
 
@@ -133,7 +133,7 @@ once-step s (Inc p b r) m h = (
 once-step s (Dec p b d k) m h = (names-step s (Dec p b d k) m h.0, λ j. let w = fewer-without k j s.names in let o = h.1 j in omega arith)
 once-step s _ m h = cc
 
-module _ (sys : System) (lanes : List (List Rec)) (now : Now) (leaves : Leaves sys lanes now) (count : length lanes ≡ 49) (room : Each (λ (l : List Rec). length l ≤ 1000001) lanes) where
+module _ (sys : System) (lanes : List (List Rec)) (now : Now) (leaves : LeavesWords sys lanes now) (count : length lanes ≡ 49) (room : Each (λ (l : List Rec). length l ≤ 1000001) lanes) where
   few : length (all_items lanes) ≤ 49000049
   few = let r = all-length 1000001 lanes room in omega arith
 

@@ -11,7 +11,7 @@ use Rattle.qp_model.specs.Sites.{ring_of}
 use Rattle.qp_model.specs.WordLaw.{is_object}
 use Rattle.qp_table.specs.Counting.{Each, many}
 use Rattle.qp_table.specs.Now.{Now, at}
-use Rattle.qp_table.specs.Rule.{cell_at, Idle, Tokens, InLine, Codable, code, entries_of, is_item, is_place, on_queue, is_serve, Queue, Serves, Holds}
+use Rattle.qp_table.specs.Rule.{cell_at, Idle, Tokens, InLine, Codable, code, entries_of, is_item, is_place, on_queue, is_serve, QueueCells, Serves, Holds}
 use Rattle.qp_table.specs.After.{place, laid, emptied}
 use Rattle.qp_table.specs.declared.view.View.{View}
 use Rattle.qp_table.proofs.Counting.{total-at, many-snoc}
@@ -37,7 +37,7 @@ module _ (sys : System) (words : List ℕ) (views : List View) (holds : Holds sy
   abbrev items : List InLine
   items = holds.items a
 
-  abbrev q : Queue sys n words a s items
+  abbrev q : QueueCells sys n words a s items
   q = holds.queues.queue a object
 
   inside : (a < 33) × (ring_of sys a < 256)
@@ -50,7 +50,7 @@ module _ (sys : System) (words : List ℕ) (views : List View) (holds : Holds sy
       holds.tokens.named
 
   -- a write to a cell of the queue, where its items become these
-  cell-step : (j x : ℕ) (is : List InLine) (u : View) → j < n → Queue sys n (set words (cell_at a j) x) a s is
+  cell-step : (j x : ℕ) (is : List InLine) (u : View) → j < n → QueueCells sys n (set words (cell_at a j) x) a s is
       → ((y : ℕ) (d : Entry) → many (is_place a y d) u.claims + many (is_item 0 y d) items ≡ many (is_place a y d) v.claims + many (is_item 0 y d) is)
       → ((b y : ℕ) (d : Entry) → b ≢ a → many (is_place b y d) u.claims ≡ many (is_place b y d) v.claims)
       → ((y : ℕ) (d : Entry) → many (is_place a y d) u.takes + many (is_item 2 y d) items ≡ many (is_place a y d) v.takes + many (is_item 2 y d) is)
@@ -66,8 +66,8 @@ module _ (sys : System) (words : List ℕ) (views : List View) (holds : Holds sy
       (events-same sys words (set words (cell_at a j) x) views now now id v u at_id holds.events (λ y h. get_or-set_other words (cell_at a j) y x 0 (λ e. absurd (omega arith))) (λ p b. refl) fills gives fresh)
       (queues-set sys words (set words (cell_at a j) x) views now now holds.items (at a is holds.items) id v u at_id holds.queues
       (λ b h. dite (ℕ_discrete b a)
-      (λ e. subst (λ z. Queue sys (ring_of sys z + 1) (set words (cell_at a j) x) z (now.line z) (at a is holds.items z)) (sym e) (subst (λ (y : List InLine). Queue sys n (set words (cell_at a j) x) a s y) (sym (at-here a is holds.items)) queue))
-      (λ ne. subst (λ (y : List InLine). Queue sys (ring_of sys b + 1) (set words (cell_at a j) x) b (now.line b) y) (sym (at-else a is holds.items b ne))
+      (λ e. subst (λ z. QueueCells sys (ring_of sys z + 1) (set words (cell_at a j) x) z (now.line z) (at a is holds.items z)) (sym e) (subst (λ (y : List InLine). QueueCells sys n (set words (cell_at a j) x) a s y) (sym (at-here a is holds.items)) queue))
+      (λ ne. subst (λ (y : List InLine). QueueCells sys (ring_of sys b + 1) (set words (cell_at a j) x) b (now.line b) y) (sym (at-else a is holds.items b ne))
       (queue-same sys (ring_of sys b + 1) words (set words (cell_at a j) x) b (now.line b) (holds.items b) (λ y lt. get_or-set_other words (cell_at a j) (cell_at b y) x 0 (λ e. ne (omega arith))) (holds.queues.queue b h))))
       (λ b no. let ne : b ≢ a = (λ e. let z : is_object sys a ≡ false = ap (is_object sys) (sym e) ∙ no in let w : true ≡ false = sym object ∙ z in true≢false w) in let o = holds.queues.none b no in (at-else a is holds.items b ne ∙ o.0, o.1))
       (λ b y d. at-each (λ b xs. many (is_place b y d) u.claims + many (is_item 0 y d) (holds.items b) ≡ many (is_place b y d) v.claims + many (is_item 0 y d) xs) a is holds.items (claims y d) (λ b ne. ap (λ z. z + many (is_item 0 y d) (holds.items b)) (claims_else b y d ne)) b)

@@ -11,9 +11,9 @@ use Rattle.qp_chart.specs.StateTree.{has}
 use Rattle.qp_model.specs.declared.systems.System.{System}
 use Rattle.qp_model.specs.FreeBlocks.{Pool}
 use Rattle.qp_model.specs.WordLaw.{is_block}
-use Rattle.qp_table.specs.Counting.{Each, total, many, without}
+use Rattle.qp_table.specs.Counting.{Each, sum_over, many, without}
 use Rattle.qp_table.specs.Now.{Now, at_two, with_given}
-use Rattle.qp_table.specs.Rule.{event_word_at, cell_at, is_fill, fills_of, is_value, gives_of, IsContent, HasEvent, Tells, Beside, is_spot, spots, Tokens, Events, Holds}
+use Rattle.qp_table.specs.Rule.{event_word_at, cell_at, is_fill, fills_of, fills_with, gives_of, IsContent, HasEvent, Tells, Beside, is_spot, spots, Tokens, Events, Holds}
 use Rattle.qp_table.specs.After.{spot, begun_give, fills_for, filled}
 use Rattle.qp_table.specs.declared.view.Fill.{Fill}
 use Rattle.qp_table.specs.declared.view.PendingGive.{PendingGive}
@@ -28,7 +28,7 @@ use Rattle.qp_table.proofs.Step.{plain-step}
 pub two-same : {X : Type 0} (p b : ℕ) (f : ℕ → ℕ → X) (q c : ℕ) → at_two p b (f p b) f q c ≡ f q c
 two-same p b f q c = two-each (λ q c x. x ≡ f q c) p b (f p b) f refl (λ q c n. refl) q c
 
-total-times : (f : View → ℕ) (views : List View) → total (λ (v : View). 9 * f v) views ≡ 9 * total f views
+total-times : (f : View → ℕ) (views : List View) → sum_over (λ (v : View). 9 * f v) views ≡ 9 * sum_over f views
 total-times f [] = refl
 total-times f (v ∷ views) = let s = total-times f views in omega arith
 
@@ -38,7 +38,7 @@ fills-else p b q c j k [] ne = (refl, refl)
 fills-else p b q c j k (n ∷ ns) ne = let r = fills-else p b q c j (suc k) ns ne in let r0 = r.0 in let r1 = r.1 in let e : (eqb p q && eqb b c) ≡ false = pair-else p b q c ne in
     let a = ap b2n e in let d : b2n ((eqb p q && eqb b c) && eqb k j) ≡ 0 = ap (λ t. b2n (t && eqb k j)) e in (omega arith, omega arith)
 
-value-else : (p b q c j m k : ℕ) (ns : List ℕ) → (q ≢ p) ⊎ (c ≢ b) → many (is_value q c j m) (fills_for p b k ns) ≡ 0
+value-else : (p b q c j m k : ℕ) (ns : List ℕ) → (q ≢ p) ⊎ (c ≢ b) → many (fills_with q c j m) (fills_for p b k ns) ≡ 0
 value-else p b q c j m k [] ne = refl
 value-else p b q c j m k (n ∷ ns) ne = let r = value-else p b q c j m (suc k) ns ne in let e : (eqb p q && eqb b c) ≡ false = pair-else p b q c ne in
     let d : b2n (((eqb p q && eqb b c) && eqb k j) && eqb n m) ≡ 0 = ap (λ t. b2n ((t && eqb k j) && eqb n m)) e in omega arith
@@ -53,7 +53,7 @@ fills-there p b j k (n ∷ ns) le lt = dite (ℕ_discrete k j)
     (λ e. let s : (eqb p p && eqb b b) ≡ true = spot-self p b 0 in let d : b2n ((eqb p p && eqb b b) && eqb k j) ≡ 1 = (λ i. b2n (s i && eq-eqb k j e i)) in omega arith)
     (λ ne. let r = fills-there p b j (suc k) ns (omega arith) (omega arith) in omega arith)
 
-value-before : (p b j m k : ℕ) (ns : List ℕ) → j < k → many (is_value p b j m) (fills_for p b k ns) ≡ 0
+value-before : (p b j m k : ℕ) (ns : List ℕ) → j < k → many (fills_with p b j m) (fills_for p b k ns) ≡ 0
 value-before p b j m k [] lt = refl
 value-before p b j m k (n ∷ ns) lt = let r = value-before p b j m (suc k) ns (omega arith) in
     let d : b2n (((eqb p p && eqb b b) && eqb k j) && eqb n m) ≡ 0 = off (eqb p p && eqb b b) (eqb k j) (eqb n m) (ne_eqb k j (λ e. omega arith)) in omega arith
@@ -63,7 +63,7 @@ value-before p b j m k (n ∷ ns) lt = let r = value-before p b j m (suc k) ns (
     off false t u e = refl
 
 -- none has another value than the content's
-value-right : (p b j m k : ℕ) (ns : List ℕ) → k ≤ j → m ≢ get_or ns (j - k) 0 → many (is_value p b j m) (fills_for p b k ns) ≡ 0
+value-right : (p b j m k : ℕ) (ns : List ℕ) → k ≤ j → m ≢ get_or ns (j - k) 0 → many (fills_with p b j m) (fills_for p b k ns) ≡ 0
 value-right p b j m k [] le ne = refl
 value-right p b j m k (n ∷ ns) le ne = dite (ℕ_discrete k j)
     (λ e. let z : j - k ≡ 0 = omega arith in let x : m ≢ n = subst (λ i. m ≢ get_or (n ∷ ns) i 0) z ne in
@@ -80,7 +80,7 @@ value-right p b j m k (n ∷ ns) le ne = dite (ℕ_discrete k j)
     mid false t u e = refl
 
 module _ (sys : System) (words : List ℕ) (views : List View) (now : Now) (id : ℕ) (v : View) (at_id : get_elem? views id ≡ some v) (tokens : Tokens sys views now) (events : Events sys words views now) (p b : ℕ) where
-  fills-fresh : total (λ (z : View). many (fills_of p b) z.fills) views ≤ 9 * spots (λ z. z.fresh) views p b
+  fills-fresh : sum_over (λ (z : View). many (fills_of p b) z.fills) views ≤ 9 * spots (λ z. z.fresh) views p b
   fills-fresh = let t = total-le (λ (z : View). many (fills_of p b) z.fills) (λ (z : View). 9 * many (is_spot p b) z.fresh) views (λ i z e. (events.beside i z e).fills p b) in let x = total-times (λ (z : View). many (is_spot p b) z.fresh) views in omega arith
 
 fill-le : (p b j : ℕ) (xs : List Fill) → many (is_fill p b j) xs ≤ many (fills_of p b) xs
@@ -91,7 +91,7 @@ fill-le p b j (x ∷ xs) = let r = fill-le p b j xs in let c = and-le (eqb x.poo
     and-le true t = cond-le t
     and-le false t = omega arith
 
-value-le : (p b j n : ℕ) (xs : List Fill) → many (is_value p b j n) xs ≤ many (fills_of p b) xs
+value-le : (p b j n : ℕ) (xs : List Fill) → many (fills_with p b j n) xs ≤ many (fills_of p b) xs
 value-le p b j n [] = omega arith
 value-le p b j n (x ∷ xs) = let r = value-le p b j n xs in let c = and-le (eqb x.pool p && eqb x.block b) (eqb x.place j) (eqb x.value n) in omega arith
   where
@@ -123,17 +123,17 @@ module _ (sys : System) (words after : List ℕ) (views : List View) (now : Now)
       let here : next.content p b ≡ sig ∷ pars = two-here p b (sig ∷ pars) now.content in
       let else : (q c : ℕ) → (q ≢ p) ⊎ (c ≢ b) → next.content q c ≡ now.content q c = (λ q c n. two-else p b (sig ∷ pars) now.content q c n) in
       let gain : (t : Fill → Bool) → many t u.fills ≡ many t v.fills + many t (fills_for p b 0 (sig ∷ pars)) = (λ t. ap (many t) fills ∙ total-append (λ x. cond (t x) 1 0) v.fills (fills_for p b 0 (sig ∷ pars))) in
-      let sum : (t : Fill → Bool) → total (λ (z : View). many t z.fills) (set views id u) ≡ total (λ (z : View). many t z.fills) views + many t (fills_for p b 0 (sig ∷ pars)) = (λ t. let a = total-set (λ (z : View). many t z.fills) views id v u at_id in let g = gain t in omega arith) in
+      let sum : (t : Fill → Bool) → sum_over (λ (z : View). many t z.fills) (set views id u) ≡ sum_over (λ (z : View). many t z.fills) views + many t (fills_for p b 0 (sig ∷ pars)) = (λ t. let a = total-set (λ (z : View). many t z.fills) views id v u at_id in let g = gain t in omega arith) in
       let unfresh : spots (λ z. z.fresh) views p b ≡ 0 = (let t = tokens.place p b in let f = ap b2n was in let k = ap b2n block in omega arith) in
-      let unfilled : total (λ (z : View). many (fills_of p b) z.fills) views ≡ 0 = (let f = fills-fresh sys words views now id v at_id tokens events p b in omega arith) in record {
+      let unfilled : sum_over (λ (z : View). many (fills_of p b) z.fills) views ≡ 0 = (let f = fills-fresh sys words views now id v at_id tokens events p b in omega arith) in record {
         few = λ q c h. each-two (λ q c. IsTrue (is_block sys q c) → length (next.content q c) ≤ 9) p b (λ _. rw here (omega arith)) (λ q c n k. rw (else q c n) (events.few q c k)) q c h;
-        word = λ q c j h l none_left. each-two (λ q c. IsTrue (is_block sys q c) → j < length (next.content q c) → total (λ (z : View). many (is_fill q c j) z.fills) (set views id u) ≡ 0 → get_or after (event_word_at q c j) 0 ≡ get_or (next.content q c) j 0) p b
+        word = λ q c j h l none_left. each-two (λ q c. IsTrue (is_block sys q c) → j < length (next.content q c) → sum_over (λ (z : View). many (is_fill q c j) z.fills) (set views id u) ≡ 0 → get_or after (event_word_at q c j) 0 ≡ get_or (next.content q c) j 0) p b
             (λ _ l gone. let lt : j < length (sig ∷ pars) = subst (λ (x : List ℕ). j < length x) here l in let t = fills-there p b j 0 (sig ∷ pars) (omega arith) (omega arith) in let g = sum (is_fill p b j) in absurd (omega arith))
             (λ q c n k l gone. stay (event_word_at q c j) (omega arith) ∙ (events.word q c j k (subst (λ (x : List ℕ). j < length x) (else q c n) l) (let g = sum (is_fill q c j) in omega arith) ∙ ap (λ (x : List ℕ). get_or x j 0) (sym (else q c n)))) q c h l none_left;
-        right = λ q c j n ne. each-two (λ q c. n ≢ get_or (next.content q c) j 0 → total (λ (z : View). many (is_value q c j n) z.fills) (set views id u) ≡ 0) p b
-            (λ no. let g = sum (is_value p b j n) in let r = value-right p b j n 0 (sig ∷ pars) (omega arith) (λ e. no (e ∙ (let z : j - 0 ≡ j = omega arith in ap (λ i. get_or (sig ∷ pars) i 0) z) ∙ ap (λ (x : List ℕ). get_or x j 0) (sym here))) in
-            let le = total-le (λ (z : View). many (is_value p b j n) z.fills) (λ (z : View). many (fills_of p b) z.fills) views (λ i z e. value-le p b j n z.fills) in omega arith)
-            (λ q c m no. let g = sum (is_value q c j n) in let r = value-else p b q c j n 0 (sig ∷ pars) m in let o = events.right q c j n (λ e. no (e ∙ ap (λ (x : List ℕ). get_or x j 0) (sym (else q c m)))) in omega arith) q c ne;
+        right = λ q c j n ne. each-two (λ q c. n ≢ get_or (next.content q c) j 0 → sum_over (λ (z : View). many (fills_with q c j n) z.fills) (set views id u) ≡ 0) p b
+            (λ no. let g = sum (fills_with p b j n) in let r = value-right p b j n 0 (sig ∷ pars) (omega arith) (λ e. no (e ∙ (let z : j - 0 ≡ j = omega arith in ap (λ i. get_or (sig ∷ pars) i 0) z) ∙ ap (λ (x : List ℕ). get_or x j 0) (sym here))) in
+            let le = total-le (λ (z : View). many (fills_with p b j n) z.fills) (λ (z : View). many (fills_of p b) z.fills) views (λ i z e. value-le p b j n z.fills) in omega arith)
+            (λ q c m no. let g = sum (fills_with q c j n) in let r = value-else p b q c j n 0 (sig ∷ pars) m in let o = events.right q c j n (λ e. no (e ∙ ap (λ (x : List ℕ). get_or x j 0) (sym (else q c m)))) in omega arith) q c ne;
         beside = fits-set (Beside now) (Beside next) views id u
             (λ j z ne there o. record { fills = o.fills; gives = o.gives; told = tells-else z.gives (let g = o.gives p b in let t = total-at (λ (y : View). many (is_spot p b) y.fresh) views j z there in omega arith) o.told })
             (let o = events.beside id v at_id in let mine = total-at (λ (y : View). many (is_spot p b) y.fresh) views id v at_id in
@@ -149,7 +149,7 @@ module _ (sys : System) (words after : List ℕ) (views : List View) (now : Now)
         event = λ q c h. each-two (λ q c. IsTrue (is_block sys q c) → HasEvent sys (next.content q c)) p b (λ _. subst (HasEvent sys) (sym here) content) (λ q c n k. subst (HasEvent sys) (sym (else q c n)) (events.event q c k)) q c h;
       }
 
-both-fill : (p b j n : ℕ) (x : Fill) → is_value p b j n x ≡ true → x ≡ record { pool = p; block = b; place = j; value = n }
+both-fill : (p b j n : ℕ) (x : Fill) → fills_with p b j n x ≡ true → x ≡ record { pool = p; block = b; place = j; value = n }
 both-fill p b j n x e = let t = and_parts ((eqb x.pool p && eqb x.block b) && eqb x.place j) (eqb x.value n) e in let s = and_parts (eqb x.pool p && eqb x.block b) (eqb x.place j) t.0 in let r = and_parts (eqb x.pool p) (eqb x.block b) s.0 in
     λ i. record { pool = eqb-true x.pool p r.0 i; block = eqb-true x.block b r.1 i; place = eqb-true x.place j s.1 i; value = eqb-true x.value n t.1 i }
 
@@ -174,12 +174,12 @@ module _ (sys : System) (words : List ℕ) (views : List View) (holds : Holds sy
       holds.events.word p b j block l (omega arith)
 
   -- An event word is written by the lane that was given the block
-  pub fills : (j n : ℕ) → j < 9 → 0 < many (is_value p b j n) v.fills → Holds sys (set words (event_word_at p b j) n) (set views id (filled v p b j n))
+  pub fills : (j n : ℕ) → j < 9 → 0 < many (fills_with p b j n) v.fills → Holds sys (set words (event_word_at p b j) n) (set views id (filled v p b j n))
   fills j n low mine =
       let u : View = filled v p b j n in let wd = holds.shows.wide in let z = holds.fitting.pools p b block in let z1 = z.1 in let z2 = z.2 in
-      let value_is : n ≡ get_or (now.content p b) j 0 = dite (ℕ_discrete n (get_or (now.content p b) j 0)) (λ e. e) (λ ne. let r = holds.events.right p b j n ne in let t = total-at (λ (z : View). many (is_value p b j n) z.fills) views id v at_id in absurd (omega arith)) in
-      let less : (t : Fill → Bool) → many t (without (is_value p b j n) v.fills) ≤ many t v.fills = (λ t. without-le (is_value p b j n) t v.fills) in
-      let sum : (t : Fill → Bool) → total (λ (z : View). many t z.fills) (set views id u) ≤ total (λ (z : View). many t z.fills) views = (λ t. let a = total-set (λ (z : View). many t z.fills) views id v u at_id in let m = less t in omega arith) in
+      let value_is : n ≡ get_or (now.content p b) j 0 = dite (ℕ_discrete n (get_or (now.content p b) j 0)) (λ e. e) (λ ne. let r = holds.events.right p b j n ne in let t = total-at (λ (z : View). many (fills_with p b j n) z.fills) views id v at_id in absurd (omega arith)) in
+      let less : (t : Fill → Bool) → many t (without (fills_with p b j n) v.fills) ≤ many t v.fills = (λ t. without-le (fills_with p b j n) t v.fills) in
+      let sum : (t : Fill → Bool) → sum_over (λ (z : View). many t z.fills) (set views id u) ≤ sum_over (λ (z : View). many t z.fills) views = (λ t. let a = total-set (λ (z : View). many t z.fills) views id v u at_id in let m = less t in omega arith) in
       let low_words : (y : ℕ) → y < 4488 → get_or (set words (event_word_at p b j) n) y 0 ≡ get_or words y 0 = (λ y l. get_or-set_other words (event_word_at p b j) y n 0 (λ e. absurd (omega arith))) in
       plain-step sys words (set words (event_word_at p b j) n) views holds id v u at_id holds.items
       (shows-else sys holds.fitting words now holds.shows (event_word_at p b j) n (omega arith))
@@ -193,16 +193,16 @@ module _ (sys : System) (words : List ℕ) (views : List View) (holds : Holds sy
             (get_or-set_same words (event_word_at p b j) n 0 (omega arith) ∙ (value_is ∙ (λ t. get_or (now.content (sym same_p t) (sym same_b t)) (sym same_i t) 0))))
             (λ ne. get_or-set_other words (event_word_at p b j) (event_word_at q c i) n 0 ne ∙ holds.events.word q c i h l
             (let a = total-set (λ (z : View). many (is_fill q c i) z.fills) views id v u at_id in
-            let m = many-without (is_value p b j n) (is_fill q c i) (is_fill q c i (record { pool = p; block = b; place = j; value = n })) (λ x e. ap (is_fill q c i) (both-fill p b j n x e)) v.fills mine in
+            let m = many-without (fills_with p b j n) (is_fill q c i) (is_fill q c i (record { pool = p; block = b; place = j; value = n })) (λ x e. ap (is_fill q c i) (both-fill p b j n x e)) v.fills mine in
             let d : b2n ((eqb p q && eqb b c) && eqb j i) ≡ 0 = not-this q c i ne in omega arith));
-        right = λ q c i m ne. let o = holds.events.right q c i m ne in let s = sum (is_value q c i m) in omega arith;
+        right = λ q c i m ne. let o = holds.events.right q c i m ne in let s = sum (fills_with q c i m) in omega arith;
         beside = fits-set (Beside now) (Beside now) views id u (λ j z ne there o. o)
             (let o = holds.events.beside id v at_id in record { fills = λ q c. let f = o.fills q c in let m = less (fills_of q c) in omega arith; gives = o.gives; told = o.told }) holds.events.beside;
         event = holds.events.event;
       })
       (queues-kept sys words (set words (event_word_at p b j) n) views now now holds.items id v u at_id holds.queues (λ a k h l. get_or-set_other words (event_word_at p b j) (cell_at a k) n 0 (λ e. let y = (holds.fitting.objects a h).0 in absurd (omega arith))) (λ a. refl) refl refl refl (quiet-same v u refl))
       refl refl
-      (λ nothing. let c = (holds.idle id v at_id nothing).fills in let z = ap (many (is_value p b j n)) c in absurd (omega arith))
+      (λ nothing. let c = (holds.idle id v at_id nothing).fills in let z = ap (many (fills_with p b j n)) c in absurd (omega arith))
       (seen-kept words (set words (event_word_at p b j) n) views holds.was id v u holds.seen at_id low_words refl)
       (holds.contents id v at_id)
     where
@@ -216,12 +216,12 @@ module _ (sys : System) (words : List ℕ) (views : List View) (holds : Holds sy
           go false y z e f g = refl
 
 -- One of a list's fills for this word has a value
-some-value : (p b j : ℕ) (xs : List Fill) → 0 < many (is_fill p b j) xs → (n : ℕ) × (0 < many (is_value p b j n) xs)
+some-value : (p b j : ℕ) (xs : List Fill) → 0 < many (is_fill p b j) xs → (n : ℕ) × (0 < many (fills_with p b j n) xs)
 some-value p b j [] h = absurd (omega arith)
 some-value p b j (x ∷ xs) h = go (is_fill p b j x) refl (some-value p b j xs) h
   where
-    go : (t : Bool) → is_fill p b j x ≡ t → (0 < many (is_fill p b j) xs → (n : ℕ) × (0 < many (is_value p b j n) xs)) → 0 < cond t 1 0 + many (is_fill p b j) xs → (n : ℕ) × (0 < many (is_value p b j n) (x ∷ xs))
-    go true e r l = let one : b2n (is_value p b j x.value x) ≡ 1 = (λ i. b2n (e i && eq-eqb x.value x.value refl i)) in (x.value, omega arith)
+    go : (t : Bool) → is_fill p b j x ≡ t → (0 < many (is_fill p b j) xs → (n : ℕ) × (0 < many (fills_with p b j n) xs)) → 0 < cond t 1 0 + many (is_fill p b j) xs → (n : ℕ) × (0 < many (fills_with p b j n) (x ∷ xs))
+    go true e r l = let one : b2n (fills_with p b j x.value x) ≡ 1 = (λ i. b2n (e i && eq-eqb x.value x.value refl i)) in (x.value, omega arith)
     go false e r l = let z = r (omega arith) in let z1 = z.1 in (z.0, omega arith)
 
 without-none : (t : Fill → Bool) (xs : List Fill) → many t xs ≡ 0 → without t xs ≡ xs
@@ -235,7 +235,7 @@ without-none t (x ∷ xs) e = go (t x) (without-none t xs) e
 module _ (sys : System) (words : List ℕ) (views : List View) (holds : Holds sys words views) (id : ℕ) (v : View) (at_id : get_elem? views id ≡ some v) (p b : ℕ) (block : IsTrue (is_block sys p b)) where
   -- what a give under way knows of the event words
   module _ (event : List ℕ) (told : event ≡ holds.now.content p b) (mine : 0 < many (is_spot p b) v.fresh) (j : ℕ) (inside : j < length event) where
-    others-none : total (λ (z : View). many (is_fill p b j) z.fills) views ≡ many (is_fill p b j) v.fills
+    others-none : sum_over (λ (z : View). many (is_fill p b j) z.fills) views ≡ many (is_fill p b j) v.fills
     others-none = alone-total (λ (z : View). many (is_fill p b j) z.fills) views id v at_id
         (λ i z ne there. let o = (holds.events.beside i z there).fills p b in let le = fill-le p b j z.fills in
         let one = fresh-alone sys views holds.now id v at_id holds.tokens p b mine in let two = total-two (λ (y : View). many (is_spot p b) y.fresh) views id i v z at_id there (λ e. ne (sym e)) in let o4 = one.4 in omega arith)
@@ -249,13 +249,13 @@ module _ (sys : System) (words : List ℕ) (views : List View) (holds : Holds sy
     fills_in n is = dite (ℕ_discrete (many (is_fill p b j) v.fills) 0)
         (λ none_left.
         let same : set words (event_word_at p b j) n ≡ words = ap (set words (event_word_at p b j)) (is ∙ sym (written none_left)) ∙ set-get_or words (event_word_at p b j) 0 in
-        let still : filled v p b j n ≡ v = (λ i. record v { fills = without-none (is_value p b j n) v.fills (let le = value-fill p b j n v.fills in omega arith) i }) in
+        let still : filled v p b j n ≡ v = (λ i. record v { fills = without-none (fills_with p b j n) v.fills (let le = value-fill p b j n v.fills in omega arith) i }) in
         subst (λ (z : List ℕ × List View). Holds sys z.0 z.1) (λ i. (sym same i, sym (ap (set views id) still ∙ set_again views id v at_id) i)) holds)
         (λ some_left. let z = some-value p b j v.fills (omega arith) in let few = holds.events.few p b block in let l = ap length told in
-        fills sys words views holds id v at_id p b block j n (omega arith) (dite (ℕ_discrete z.0 n) (λ e. subst (λ y. 0 < many (is_value p b j y) v.fills) e z.1)
-        (λ ne. let r = holds.events.right p b j z.0 (λ e. ne (e ∙ (ap (λ (x : List ℕ). get_or x j 0) (sym told) ∙ sym is))) in let t = total-at (λ (y : View). many (is_value p b j z.0) y.fills) views id v at_id in let z1 = z.1 in absurd (omega arith))))
+        fills sys words views holds id v at_id p b block j n (omega arith) (dite (ℕ_discrete z.0 n) (λ e. subst (λ y. 0 < many (fills_with p b j y) v.fills) e z.1)
+        (λ ne. let r = holds.events.right p b j z.0 (λ e. ne (e ∙ (ap (λ (x : List ℕ). get_or x j 0) (sym told) ∙ sym is))) in let t = total-at (λ (y : View). many (fills_with p b j z.0) y.fills) views id v at_id in let z1 = z.1 in absurd (omega arith))))
       where
-        value-fill : (p b j n : ℕ) (xs : List Fill) → many (is_value p b j n) xs ≤ many (is_fill p b j) xs
+        value-fill : (p b j n : ℕ) (xs : List Fill) → many (fills_with p b j n) xs ≤ many (is_fill p b j) xs
         value-fill p b j n [] = omega arith
         value-fill p b j n (x ∷ xs) = let r = value-fill p b j n xs in let c = and-le (is_fill p b j x) (eqb x.value n) in omega arith
           where

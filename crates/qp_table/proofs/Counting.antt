@@ -2,7 +2,7 @@
 use Rattle.std.proofs.Common.{◌≡◌, ℕ, zero, suc, ◌+◌, ◌<◌, ◌≤◌, ◌≢◌, List, [], ◌∷◌, ◌++◌, Bool, true, false, cond, length, set, refl, sym, ap, arith}
 use mathlib.Core.Option.{some, some-injective, some-ne-none}
 use lib.ListN.{get_elem?}
-use Rattle.qp_table.specs.Counting.{Each, total, many, without}
+use Rattle.qp_table.specs.Counting.{Each, sum_over, many, without}
 
 pub cond-le : (b : Bool) → cond b 1 0 ≤ 1
 cond-le true = omega arith
@@ -18,35 +18,35 @@ module _ {A : Type 0} where
   each-map P Q f (y ∷ ys) e = (f y e.0, each-map P Q f ys e.1)
 
   -- the sum after a change of one
-  pub total-set : (f : A → ℕ) (xs : List A) (i : ℕ) (v w : A) → get_elem? xs i ≡ some v → total f (set xs i w) + f v ≡ total f xs + f w
+  pub total-set : (f : A → ℕ) (xs : List A) (i : ℕ) (v w : A) → get_elem? xs i ≡ some v → sum_over f (set xs i w) + f v ≡ sum_over f xs + f w
   total-set f [] i v w e = absurd (some-ne-none v (sym e))
   total-set f (x ∷ xs) zero v w e = let s : f x ≡ f v = ap f (some-injective x v e) in omega arith
   total-set f (x ∷ xs) (suc i) v w e = let s = total-set f xs i v w e in omega arith
 
-  pub total-at : (f : A → ℕ) (xs : List A) (i : ℕ) (v : A) → get_elem? xs i ≡ some v → f v ≤ total f xs
+  pub total-at : (f : A → ℕ) (xs : List A) (i : ℕ) (v : A) → get_elem? xs i ≡ some v → f v ≤ sum_over f xs
   total-at f [] i v e = absurd (some-ne-none v (sym e))
   total-at f (x ∷ xs) zero v e = let s : f x ≡ f v = ap f (some-injective x v e) in omega arith
   total-at f (x ∷ xs) (suc i) v e = let s = total-at f xs i v e in omega arith
 
-  total-none : (f : A → ℕ) (xs : List A) → ((j : ℕ) (y : A) → get_elem? xs j ≡ some y → f y ≡ 0) → total f xs ≡ 0
+  total-none : (f : A → ℕ) (xs : List A) → ((j : ℕ) (y : A) → get_elem? xs j ≡ some y → f y ≡ 0) → sum_over f xs ≡ 0
   total-none f [] h = refl
   total-none f (x ∷ xs) h = let a = h 0 x refl in let b = total-none f xs (λ j y e. h (suc j) y e) in omega arith
 
   -- a sum to which one alone adds
-  pub alone-total : (f : A → ℕ) (xs : List A) (i : ℕ) (x : A) → get_elem? xs i ≡ some x → ((j : ℕ) (y : A) → j ≢ i → get_elem? xs j ≡ some y → f y ≡ 0) → total f xs ≡ f x
+  pub alone-total : (f : A → ℕ) (xs : List A) (i : ℕ) (x : A) → get_elem? xs i ≡ some x → ((j : ℕ) (y : A) → j ≢ i → get_elem? xs j ≡ some y → f y ≡ 0) → sum_over f xs ≡ f x
   alone-total f [] i x e h = absurd (some-ne-none x (sym e))
   alone-total f (y ∷ xs) zero x e h = let a = ap f (some-injective y x e) in let z = total-none f xs (λ j z q. h (suc j) z (λ w. omega arith) q) in omega arith
   alone-total f (y ∷ xs) (suc i) x e h = let a = h 0 y (λ w. omega arith) refl in let r = alone-total f xs i x e (λ j z n q. h (suc j) z (λ w. n (omega arith)) q) in omega arith
 
-  pub total-le : (f g : A → ℕ) (xs : List A) → ((i : ℕ) (v : A) → get_elem? xs i ≡ some v → f v ≤ g v) → total f xs ≤ total g xs
+  pub total-le : (f g : A → ℕ) (xs : List A) → ((i : ℕ) (v : A) → get_elem? xs i ≡ some v → f v ≤ g v) → sum_over f xs ≤ sum_over g xs
   total-le f g [] h = omega arith
   total-le f g (x ∷ xs) h = let a = h 0 x refl in let b = total-le f g xs (λ i v e. h (suc i) v e) in omega arith
 
-  pub total-snoc : (f : A → ℕ) (xs : List A) (x : A) → total f (xs ++ x ∷ []) ≡ total f xs + f x
+  pub total-snoc : (f : A → ℕ) (xs : List A) (x : A) → sum_over f (xs ++ x ∷ []) ≡ sum_over f xs + f x
   total-snoc f [] x = omega arith
   total-snoc f (y ∷ ys) x = let s = total-snoc f ys x in omega arith
 
-  pub total-append : (f : A → ℕ) (xs ys : List A) → total f (xs ++ ys) ≡ total f xs + total f ys
+  pub total-append : (f : A → ℕ) (xs ys : List A) → sum_over f (xs ++ ys) ≡ sum_over f xs + sum_over f ys
   total-append f [] ys = omega arith
   total-append f (x ∷ xs) ys = let s = total-append f xs ys in omega arith
 

@@ -19,7 +19,7 @@ use Rattle.qp_model.specs.Lives.{life_of}
 use Rattle.qp_model.specs.Sites.{ring_of, blocks_of}
 use Rattle.qp_model.specs.WordLaw.{is_pool, is_block, is_object}
 use Rattle.qp_model.proofs.BeginningLemmas.{all_items-empty, held-first, words-first}
-use Rattle.qp_table.specs.Counting.{Each, total, many, upto}
+use Rattle.qp_table.specs.Counting.{Each, sum_over, many, upto}
 use Rattle.qp_table.specs.Now.{content_from}
 use Rattle.qp_table.specs.Rule.{cell_at, Fitting, Shows, is_log, is_number, Idle, is_spot, Beside, is_ref, is_serve, Served, Serves, mark_in, Holds}
 use Rattle.qp_table.specs.After.{newcomer}
@@ -29,13 +29,13 @@ use Rattle.qp_table.specs.declared.view.Glance.{Glance}
 use Rattle.qp_table.specs.declared.view.View.{View}
 use Rattle.qp_table.proofs.Counting.{each-map, many-le}
 use Rattle.qp_table.proofs.Views.{total-two, SawFrom}
-use Rattle.qp_table.specs.Whole.{IsBehind, IsWhole, first_now, later_lanes}
+use Rattle.qp_table.specs.Whole.{GlanceIsBehind, IsWholeView, first_now, later_lanes}
 
-no-total : {A : Type 0} (f : A → ℕ) (xs : List A) (i : ℕ) (x : A) → get_elem? xs i ≡ some x → ((j : ℕ) (y : A) → j ≢ i → get_elem? xs j ≡ some y → f y ≡ 0) → total f xs ≡ f x
+no-total : {A : Type 0} (f : A → ℕ) (xs : List A) (i : ℕ) (x : A) → get_elem? xs i ≡ some x → ((j : ℕ) (y : A) → j ≢ i → get_elem? xs j ≡ some y → f y ≡ 0) → sum_over f xs ≡ f x
 no-total f [] i x e h = absurd (some-ne-none x (sym e))
 no-total f (y ∷ xs) zero x e h = let a = ap f (some-injective y x e) in let z = none f xs (λ j z q. h (suc j) z (λ w. omega arith) q) in omega arith
   where
-    none : {A : Type 0} (f : A → ℕ) (xs : List A) → ((j : ℕ) (y : A) → get_elem? xs j ≡ some y → f y ≡ 0) → total f xs ≡ 0
+    none : {A : Type 0} (f : A → ℕ) (xs : List A) → ((j : ℕ) (y : A) → get_elem? xs j ≡ some y → f y ≡ 0) → sum_over f xs ≡ 0
     none f [] h = refl
     none f (x ∷ xs) h = let a = h 0 x refl in let b = none f xs (λ j y e. h (suc j) y e) in omega arith
 no-total f (y ∷ xs) (suc i) x e h = let a = h 0 y (λ w. omega arith) refl in let r = no-total f xs i x e (λ j z n q. h (suc j) z (λ w. n (omega arith)) q) in omega arith
@@ -46,16 +46,16 @@ module _ (sys : System) (words : List ℕ) (views : List View) (holds : Holds sy
   others-idle j z ne there = holds.idle j z there (let t = total-two (λ (y : View). length y.logs + length y.lane_numbers) views id j v z at_id there (λ e. ne (sym e)) in let r = holds.logs.rights in omega arith)
 
   -- no other view has a log, nor a lane number
-  logs-alone : (n : ℕ) → total (λ (z : View). many (is_log n) z.logs) views ≡ many (is_log n) v.logs
+  logs-alone : (n : ℕ) → sum_over (λ (z : View). many (is_log n) z.logs) views ≡ many (is_log n) v.logs
   logs-alone n = no-total (λ (z : View). many (is_log n) z.logs) views id v at_id (λ j z ne there. let t = total-two (λ (y : View). length y.logs + length y.lane_numbers) views id j v z at_id there (λ e. ne (sym e)) in let r = holds.logs.rights in let l = many-le (is_log n) z.logs in omega arith)
 
-  numbers-alone : (n : ℕ) → total (λ (z : View). many (is_number n) z.lane_numbers) views ≡ many (is_number n) v.lane_numbers
+  numbers-alone : (n : ℕ) → sum_over (λ (z : View). many (is_number n) z.lane_numbers) views ≡ many (is_number n) v.lane_numbers
   numbers-alone n = no-total (λ (z : View). many (is_number n) z.lane_numbers) views id v at_id (λ j z ne there. let t = total-two (λ (y : View). length y.logs + length y.lane_numbers) views id j v z at_id there (λ e. ne (sym e)) in let r = holds.logs.rights in let l = many-le (is_number n) z.lane_numbers in omega arith)
 
-  alone : (f : View → ℕ) → ((z : View) → Idle z → f z ≡ 0) → total f views ≡ f v
+  alone : (f : View → ℕ) → ((z : View) → Idle z → f z ≡ 0) → sum_over f views ≡ f v
   alone f h = no-total f views id v at_id (λ j z ne there. h z (others-idle j z ne there))
 
-  pub whole : IsWhole sys v
+  pub whole : IsWholeView sys v
   whole = record {
     now = holds.now;
     words = words;
@@ -67,7 +67,7 @@ module _ (sys : System) (words : List ℕ) (views : List View) (holds : Holds sy
     rest = λ n few mine. holds.logs.later n few (let k = numbers-alone n in omega arith);
     leaves = holds.leaves;
     shows = holds.shows;
-    glances = each-map (SawFrom words holds.was) (IsBehind words) (λ g s. (s.1, λ e. s.2 ∙ (ap (holds.was g.word) e ∙ sym (holds.seen.now g.word s.0)))) v.seen (holds.seen.each id v at_id);
+    glances = each-map (SawFrom words holds.was) (GlanceIsBehind words) (λ g s. (s.1, λ e. s.2 ∙ (ap (holds.was g.word) e ∙ sym (holds.seen.now g.word s.0)))) v.seen (holds.seen.each id v at_id);
     seen = each-map (SawFrom words holds.was) (λ (g : Glance). g.value ≡ holds.was g.word (mark_in g.word g.value)) (λ g s. s.2) v.seen (holds.seen.each id v at_id);
     past = record { pool = holds.past.pool; refs = holds.past.refs; line = holds.past.line };
     contents = holds.contents id v at_id;
@@ -187,7 +187,7 @@ opens sys words xs fitting shows cells serves zeros = record {
   contents = alone-view (λ z. Each _ z.contents) (newcomer later_lanes xs) tt;
 }
   where
-    summed : (ys : List Serve) → Each (λ (x : Serve). (x.lifos ≡ 0) × (x.takes ≡ 0)) ys → total (λ (x : Serve). x.lifos + x.takes) ys ≡ 0
+    summed : (ys : List Serve) → Each (λ (x : Serve). (x.lifos ≡ 0) × (x.takes ≡ 0)) ys → sum_over (λ (x : Serve). x.lifos + x.takes) ys ≡ 0
     summed [] e = refl
     summed (x ∷ ys) e = let a = e.0.0 in let b = e.0.1 in let r = summed ys e.1 in omega arith
 

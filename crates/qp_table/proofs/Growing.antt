@@ -23,7 +23,7 @@ use Rattle.qp_model.proofs.MachineLemmas.{count-after}
 use Rattle.qp_model.proofs.WordLemmas.{Held, hist-stays}
 use Rattle.qp_model.proofs.WordLawLemmas.{references-counts}
 use Rattle.qp_model.proofs.ReferenceLemmas.{Alive, words-inc, words-dec, held-inc, held-dec}
-use Rattle.qp_table.specs.Now.{Now, at, at_two, with_refs, with_line, with_given, content_by, content_from, Leaves}
+use Rattle.qp_table.specs.Now.{Now, at, at_two, with_refs, with_line, with_given, content_by, content_from, LeavesWords}
 
 -- one changed, and the others
 pub at-here : {X : Type 0} (p : ℕ) (x : X) (f : ℕ → X) → at p x f p ≡ x
@@ -61,7 +61,7 @@ off-block : (p b q c : ℕ) → (q ≢ p) ⊎ (c ≢ b) → same_word (word.Bloc
 off-block p b q c (inl n) = rw (ne_eqb p q (λ e. n (sym e))) refl
 off-block p b q c (inr n) = rw (ne_eqb b c (λ e. n (sym e)), (and_right (p == q) false refl)) refl
 
-module _ (sys : System) (before : List (List Rec)) (lane : List Rec) (behind : List (List Rec)) (now : Now) (leaves : Leaves sys (before ++ lane ∷ behind) now) (r : Rec) (i : Item) (is : item_of r ≡ i) where
+module _ (sys : System) (before : List (List Rec)) (lane : List Rec) (behind : List (List Rec)) (now : Now) (leaves : LeavesWords sys (before ++ lane ∷ behind) now) (r : Rec) (i : Item) (is : item_of r ≡ i) where
   abbrev grown : List (List Rec)
   grown = before ++ (lane ++ r ∷ []) ∷ behind
 
@@ -70,7 +70,7 @@ module _ (sys : System) (before : List (List Rec)) (lane : List Rec) (behind : L
 
   -- an operation on a block
   pub block-leaves : (p b n : ℕ) (s : Refs) → touch i ≡ Draws (word.Block p b) n → Words sys grown
-      → (IsTrue (is_block sys p b) → after references (hist (word.Block p b) (all_items grown)) ≡ s) → Leaves sys grown (with_refs now p b s)
+      → (IsTrue (is_block sys p b) → after references (hist (word.Block p b) (all_items grown)) ≡ s) → LeavesWords sys grown (with_refs now p b s)
   block-leaves p b n s on law here = record {
     law = law;
     pool = λ q h. ap (after (free_blocks (blocks_of sys q))) (stays (word.Pool q) (ap (drawn_on (word.Pool q)) on)) ∙ leaves.pool q h;
@@ -83,7 +83,7 @@ module _ (sys : System) (before : List (List Rec)) (lane : List Rec) (behind : L
 
   -- an operation on a queue
   pub queue-leaves : (a n : ℕ) (s : Line) → touch i ≡ Draws (word.Queue a) n → Words sys grown
-      → (IsTrue (is_object sys a) → after (line (ring_of sys a)) (hist (word.Queue a) (all_items grown)) ≡ s) → Leaves sys grown (with_line now a s)
+      → (IsTrue (is_object sys a) → after (line (ring_of sys a)) (hist (word.Queue a) (all_items grown)) ≡ s) → LeavesWords sys grown (with_line now a s)
   queue-leaves a n s on law here = record {
     law = law;
     pool = λ q h. ap (after (free_blocks (blocks_of sys q))) (stays (word.Pool q) (ap (drawn_on (word.Pool q)) on)) ∙ leaves.pool q h;
@@ -101,7 +101,7 @@ module _ (sys : System) (before : List (List Rec)) (lane : List Rec) (behind : L
       → ((c : ℕ) → c ≢ b → (after (life_of c) (hist (word.Pool p) (all_items grown))).edge ≡ (after (life_of c) (hist (word.Pool p) (all_items (before ++ lane ∷ behind)))).edge)
       → (IsTrue (is_block sys p b) → content_from b [] (hist (word.Pool p) (all_items grown)) ≡ t)
       → ((c : ℕ) → c ≢ b → content_from c [] (hist (word.Pool p) (all_items grown)) ≡ content_from c [] (hist (word.Pool p) (all_items (before ++ lane ∷ behind))))
-      → Leaves sys grown (with_given now p s b e t)
+      → LeavesWords sys grown (with_given now p s b e t)
   pool-leaves p b n e s t on law here begun others told untold = record {
     law = law;
     pool = at-each (λ q x. IsTrue (is_pool sys q) → after (free_blocks (blocks_of sys q)) (hist (word.Pool q) (all_items grown)) ≡ x) p s now.pool here
@@ -119,7 +119,7 @@ module _ (sys : System) (before : List (List Rec)) (lane : List Rec) (behind : L
   }
 
   -- a record that shows a word
-  pub shown-leaves : (w : Word) (n : ℕ) → touch i ≡ Shows w n → Words sys grown → Leaves sys grown now
+  pub shown-leaves : (w : Word) (n : ℕ) → touch i ≡ Shows w n → Words sys grown → LeavesWords sys grown now
   shown-leaves w n on law = record {
     law = law;
     pool = λ q h. ap (after (free_blocks (blocks_of sys q))) (stays (word.Pool q) (ap (drawn_on (word.Pool q)) on)) ∙ leaves.pool q h;
@@ -130,7 +130,7 @@ module _ (sys : System) (before : List (List Rec)) (lane : List Rec) (behind : L
   }
 
 -- Each kind of record, where the state allows it.
-module _ (sys : System) (before : List (List Rec)) (lane : List Rec) (behind : List (List Rec)) (now : Now) (leaves : Leaves sys (before ++ lane ∷ behind) now) (r : Rec) where
+module _ (sys : System) (before : List (List Rec)) (lane : List Rec) (behind : List (List Rec)) (now : Now) (leaves : LeavesWords sys (before ++ lane ∷ behind) now) (r : Rec) where
   module _ (p b : ℕ) (block : IsTrue (is_block sys p b)) where
     abbrev old : Held Refs references (word.Block p b) (before ++ lane ∷ behind) (now.refs p b)
     old = record { keeps = leaves.law.blocks p b block; state = leaves.refs p b block }
@@ -149,7 +149,7 @@ module _ (sys : System) (before : List (List Rec)) (lane : List Rec) (behind : L
     after_inc = record { count = (now.refs p b).count + 1; names = (now.refs p b).count ∷ (now.refs p b).names }
 
     pub inc-leaves : (o : ℕ) → item_of r ≡ record { of = o; body = Inc p b (now.refs p b).count } → Alive b pool_hist block_hist
-        → Leaves sys (before ++ (lane ++ r ∷ []) ∷ behind) (with_refs now p b after_inc)
+        → LeavesWords sys (before ++ (lane ++ r ∷ []) ∷ behind) (with_refs now p b after_inc)
     inc-leaves o is alive =
         block-leaves sys before lane behind now leaves r _ is p b (suc (now.refs p b).count) after_inc refl
         (words-inc sys before lane behind r leaves.law p b (now.refs p b) old.state o (λ _. alive) is)
@@ -159,7 +159,7 @@ module _ (sys : System) (before : List (List Rec)) (lane : List Rec) (behind : L
     after_dec k = record { count = (now.refs p b).count + 1; names = without_one k (now.refs p b).names }
 
     pub dec-leaves : (o k : ℕ) → item_of r ≡ record { of = o; body = Dec p b (now.refs p b).count k } → Alive b pool_hist block_hist → has (now.refs p b).names k ≡ true
-        → Leaves sys (before ++ (lane ++ r ∷ []) ∷ behind) (with_refs now p b (after_dec k))
+        → LeavesWords sys (before ++ (lane ++ r ∷ []) ∷ behind) (with_refs now p b (after_dec k))
     dec-leaves o k is alive stands =
         block-leaves sys before lane behind now leaves r _ is p b (suc (now.refs p b).count) (after_dec k) refl
         (words-dec sys before lane behind r leaves.law p b (now.refs p b) old.state o k (λ _. alive) is stands)

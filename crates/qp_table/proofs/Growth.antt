@@ -25,8 +25,8 @@ use Rattle.qp_model.specs.WordLaw.{is_pool, is_block, is_object}
 use Rattle.qp_model.proofs.LineLemmas.{same_number, line-counts}
 use Rattle.qp_model.proofs.WordLawLemmas.{free_blocks-counts, references-counts}
 use Rattle.qp_model.proofs.WordLemmas.{hist-held-draws, hist-stays}
-use Rattle.qp_table.specs.Now.{Now, at_two, with_refs, with_line, content_by, content_from, Leaves}
-use Rattle.qp_table.specs.Rule.{pool_at, block_at, queue_at, mark_in, pool_value, refs_value, line_value, Was, Past, event_in, IsKnown, Holds}
+use Rattle.qp_table.specs.Now.{Now, at_two, with_refs, with_line, content_by, content_from, LeavesWords}
+use Rattle.qp_table.specs.Rule.{pool_at, block_at, queue_at, mark_in, pool_value, refs_value, line_value, Was, Past, event_of_content, IsKnown, Holds}
 use Rattle.qp_table.specs.declared.view.Content.{Content}
 use Rattle.qp_table.specs.declared.view.View.{View}
 use Rattle.qp_table.proofs.Growing.{two-else, two-each}
@@ -46,7 +46,7 @@ pub record Grows (sys : System) (old new : List (List Rec)) (now next : Now) (i 
   pub counts : (p b : ℕ) → (now.refs p b).count ≤ (next.refs p b).count
   pub given : (p b k : ℕ) → IsTrue (is_block sys p b) → k < (now.refs p b).count → last_given b k None (hist (word.Pool p) (all_items new)) ≡ last_given b k None (hist (word.Pool p) (all_items old))
 
-module _ (sys : System) (before : List (List Rec)) (lane : List Rec) (behind : List (List Rec)) (now : Now) (leaves : Leaves sys (before ++ lane ∷ behind) now) (r : Rec) (i : Item) (is : item_of r ≡ i) where
+module _ (sys : System) (before : List (List Rec)) (lane : List Rec) (behind : List (List Rec)) (now : Now) (leaves : LeavesWords sys (before ++ lane ∷ behind) now) (r : Rec) (i : Item) (is : item_of r ≡ i) where
   abbrev old : List (List Rec)
   old = before ++ lane ∷ behind
 
@@ -174,7 +174,7 @@ module _ (sys : System) (words : List ℕ) (views : List View) (holds : Holds sy
 
 -- The event of a life that is open is the content of its `new`, for each number from the life's beginning on
 abbrev Tracks : ℕ → Life → List ℕ → Option Event → Type 0
-Tracks k s t e = s.out ≡ true → s.edge ≤ k → e ≡ Some (event_in t)
+Tracks k s t e = s.out ≡ true → s.edge ≤ k → e ≡ Some (event_of_content t)
 
 tracks-step : (b k : ℕ) (s : Life) (t : List ℕ) (e : Option Event) (x : Body) → Tracks k s t e → Tracks k (life_next b s x) (content_by b t x) (given_by b k e x)
 tracks-step b k s t e (New p n c from sig pars) h = go (c == b) refl
@@ -194,6 +194,6 @@ unfolding after_from content_from last_given
 tracks b k s t e [] h = h
 tracks b k s t e (x ∷ xs) h = tracks b k (life_next b s x.body) (content_by b t x.body) (given_by b k e x.body) xs (tracks-step b k s t e x.body h)
 
-pub tracks-first : (b k : ℕ) (xs : List Item) → (after (life_of b) xs).out ≡ true → (after (life_of b) xs).edge ≤ k → last_given b k None xs ≡ Some (event_in (content_from b [] xs))
+pub tracks-first : (b k : ℕ) (xs : List Item) → (after (life_of b) xs).out ≡ true → (after (life_of b) xs).edge ≤ k → last_given b k None xs ≡ Some (event_of_content (content_from b [] xs))
 unfolding after
 tracks-first b k xs = tracks b k (record { out = false; edge = 0 }) [] None xs (λ out at. cc)

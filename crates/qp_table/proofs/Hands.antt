@@ -16,7 +16,7 @@ use Rattle.qp_table.proofs.Counting.{many-without, many-snoc}
 use Rattle.qp_calls.specs.Tokens.{Token, Held, Loose, same_token, token_of, take_out, stands, hands_after, handles}
 use Rattle.qp_calls.specs.LaneView.{handled_in}
 use Rattle.qp_calls.proofs.HandLemmas.{same-equal}
-use Rattle.qp_table.specs.Lane.{tokens, tokens_in, has_content, is_read}
+use Rattle.qp_table.specs.Lane.{tokens, tokens_of_view, has_content, is_read}
 
 pub eq-turned : (a b : ℕ) → eqb a b ≡ (b == a)
 eq-turned a b = dite (ℕ_discrete a b)
@@ -59,7 +59,7 @@ pub loose-true : (q c p b : ℕ) → same_token (Loose q c true) (Loose p b true
 loose-true q c p b = and-on ((q == p) && (c == b)) ∙ (λ i. sym (eq-turned p q) i && sym (eq-turned b c) i)
 
 -- the token that a lane handed in stands in its view
-pub held-in : (told : List ToldItem) (v : View) (p b k : ℕ) → ((t : Token) → tokens t (hands_after [] told) ≡ tokens_in v t) → IsTrue (stands (Held p b k) (hands_after [] told)) → 0 < many (is_ref p b k) v.hands
+pub held-in : (told : List ToldItem) (v : View) (p b k : ℕ) → ((t : Token) → tokens t (hands_after [] told) ≡ tokens_of_view v t) → IsTrue (stands (Held p b k) (hands_after [] told)) → 0 < many (is_ref p b k) v.hands
 unfolding stands
 held-in told v p b k all h = let z = some (hands_after [] told) h in let e = all (Held p b k) in omega arith
   where

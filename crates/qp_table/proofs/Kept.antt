@@ -11,7 +11,7 @@ use Rattle.qp_model.specs.Sites.{ring_of}
 use Rattle.qp_model.specs.WordLaw.{is_pool, is_block, is_object}
 use Rattle.qp_table.specs.Counting.{many}
 use Rattle.qp_table.specs.Now.{Now, with_refs, with_line, with_given}
-use Rattle.qp_table.specs.Rule.{event_word_at, is_fill, is_value, HasEvent, Tells, Beside, Events, is_lifo, is_took, records, Served, pool_at, block_at, queue_at, cell_at, Fitting, pool_value, refs_value, line_value, Shows, InLine, Items, is_item, is_place, is_serve, Queue, Serves, Queues}
+use Rattle.qp_table.specs.Rule.{event_word_at, is_fill, fills_with, HasEvent, Tells, Beside, Events, is_lifo, is_take_of, records, Served, pool_at, block_at, queue_at, cell_at, Fitting, pool_value, refs_value, line_value, Shows, InLine, Items, is_item, is_place, is_serve, QueueCells, Serves, Queues}
 use Rattle.qp_table.specs.declared.view.SeatLog.{SeatLog}
 use Rattle.qp_table.specs.declared.view.Serve.{Serve}
 use Rattle.qp_table.specs.declared.view.View.{View}
@@ -63,7 +63,7 @@ module _ (sys : System) (fitting : Fitting sys) (words : List ℕ) (now : Now) (
   }
 
 -- a queue whose cells stay
-pub queue-same : (sys : System) (n : ℕ) (words after : List ℕ) (a : ℕ) (s : Line) (items : List InLine) → ((j : ℕ) → j < 256 → get_or after (cell_at a j) 0 ≡ get_or words (cell_at a j) 0) → Queue sys n words a s items → Queue sys n after a s items
+pub queue-same : (sys : System) (n : ℕ) (words after : List ℕ) (a : ℕ) (s : Line) (items : List InLine) → ((j : ℕ) → j < 256 → get_or after (cell_at a j) 0 ≡ get_or words (cell_at a j) 0) → QueueCells sys n words a s items → QueueCells sys n after a s items
 queue-same sys n words after a s items stay q = let c = q.some_cell in record {
   some_cell = q.some_cell;
   same = q.same;
@@ -77,7 +77,7 @@ queue-same sys n words after a s items stay q = let c = q.some_cell in record {
 }
 
 -- what a lane serves, after a step that changes no line
-pub served-moved : (now next : Now) (old new : List SeatLog) → ((a : ℕ) → next.line a ≡ now.line a) → ((a : ℕ) → records (is_lifo a) new ≡ records (is_lifo a) old) → ((a : ℕ) → records (is_took a) new ≡ records (is_took a) old)
+pub served-moved : (now next : Now) (old new : List SeatLog) → ((a : ℕ) → next.line a ≡ now.line a) → ((a : ℕ) → records (is_lifo a) new ≡ records (is_lifo a) old) → ((a : ℕ) → records (is_take_of a) new ≡ records (is_take_of a) old)
     → (x : Serve) → Served now old x → Served next new x
 served-moved now next old new same lifos takes x e = record {
   lifos = ap (λ (t : Line). t.l) (same x.object) ∙ e.lifos;
@@ -96,7 +96,7 @@ serves-kept now next v u same serves takes quiet s = record {
 }
 
 module _ (sys : System) (words after : List ℕ) (views : List View) (now next : Now) (items items' : Items) (id : ℕ) (v u : View) (at_id : get_elem? views id ≡ some v) (queues : Queues sys words views now items) where
-  pub queues-set : ((a : ℕ) → IsTrue (is_object sys a) → Queue sys (ring_of sys a + 1) after a (next.line a) (items' a))
+  pub queues-set : ((a : ℕ) → IsTrue (is_object sys a) → QueueCells sys (ring_of sys a + 1) after a (next.line a) (items' a))
       → ((a : ℕ) → is_object sys a ≡ false → (items' a ≡ []) × ((next.line a).entries ≡ []))
       → ((a j : ℕ) (e : Entry) → many (is_place a j e) u.claims + many (is_item 0 j e) (items a) ≡ many (is_place a j e) v.claims + many (is_item 0 j e) (items' a))
       → ((a j : ℕ) (e : Entry) → many (is_place a j e) u.takes + many (is_item 2 j e) (items a) ≡ many (is_place a j e) v.takes + many (is_item 2 j e) (items' a))
@@ -117,7 +117,7 @@ pub queues-kept : (sys : System) (words after : List ℕ) (views : List View) (n
     → u.claims ≡ v.claims → u.takes ≡ v.takes → u.serves ≡ v.serves → Quiet v u → Queues sys after (set views id u) next items
 queues-kept sys words after views now next items id v u at_id queues stay same claims takes serves quiet =
     queues-set sys words after views now next items items id v u at_id queues
-    (λ a h. subst (λ (s : Line). Queue sys (ring_of sys a + 1) after a s (items a)) (sym (same a)) (queue-same sys (ring_of sys a + 1) words after a (now.line a) (items a) (λ j l. stay a j h l) (queues.queue a h)))
+    (λ a h. subst (λ (s : Line). QueueCells sys (ring_of sys a + 1) after a s (items a)) (sym (same a)) (queue-same sys (ring_of sys a + 1) words after a (now.line a) (items a) (λ j l. stay a j h l) (queues.queue a h)))
     (λ a no. let x = queues.none a no in (x.0, ap (λ (s : Line). s.entries) (same a) ∙ x.1))
     (λ a j e. rw claims refl) (λ a j e. rw takes refl) (λ a. ap (many (is_serve a)) serves)
     (serves-kept now next v u same serves takes quiet (queues.home id v at_id))
@@ -138,7 +138,7 @@ events-kept sys words after views now next id v u at_id events stay same fills m
   few = λ p b h. rw same (events.few p b h);
   word = λ p b j h l none_left. let t = total-set (λ (z : View). many (is_fill p b j) z.fills) views id v u at_id in let e = ap (many (is_fill p b j)) fills in
       stay (event_word_at p b j) (omega arith) ∙ (events.word p b j h (subst (λ (c : List ℕ). j < length c) (same p b) l) (omega arith) ∙ ap (λ (c : List ℕ). get_or c j 0) (sym (same p b)));
-  right = λ p b j n ne. let t = total-set (λ (z : View). many (is_value p b j n) z.fills) views id v u at_id in let e = ap (many (is_value p b j n)) fills in let r = events.right p b j n (λ q. ne (q ∙ ap (λ (c : List ℕ). get_or c j 0) (sym (same p b)))) in omega arith;
+  right = λ p b j n ne. let t = total-set (λ (z : View). many (fills_with p b j n) z.fills) views id v u at_id in let e = ap (many (fills_with p b j n)) fills in let r = events.right p b j n (λ q. ne (q ∙ ap (λ (c : List ℕ). get_or c j 0) (sym (same p b)))) in omega arith;
   beside = fits-set (Beside now) (Beside next) views id u (λ j z ne there o. beside-moved now next z same o) mine events.beside;
   event = λ p b h. subst (HasEvent sys) (sym (same p b)) (events.event p b h);
 }

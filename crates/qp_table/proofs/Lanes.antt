@@ -9,11 +9,11 @@ use Rattle.qp_model.specs.declared.record.Rec.{Rec}
 use Rattle.qp_model.specs.declared.bodies.Entry.{Entry}
 use Rattle.qp_model.specs.declared.systems.System.{System}
 use Rattle.qp_model.specs.WordLaw.{is_object}
-use Rattle.qp_table.specs.Counting.{Each, total, many, without}
+use Rattle.qp_table.specs.Counting.{Each, sum_over, many, without}
 use Rattle.qp_table.specs.Now.{Now}
-use Rattle.qp_table.specs.Rule.{Was, is_log, is_number, Logs, Idle, AllIdle, is_spot, is_spot_at, is_ref, is_fill, is_value, fills_of, gives_of, Tells, Beside, is_place, on_queue, is_serve, is_lifo, is_took, records, Served, Serves, IsKnown, AllKnown, Holds}
+use Rattle.qp_table.specs.Rule.{Was, is_log, is_number, Logs, Idle, AllIdle, is_spot, is_spot_at, is_ref, is_fill, fills_with, fills_of, gives_of, Tells, Beside, is_place, on_queue, is_serve, is_lifo, is_take_of, records, Served, Serves, IsKnown, AllKnown, Holds}
 use Rattle.qp_table.specs.Whole.{Unused}
-use Rattle.qp_table.specs.After.{passing, failing, nothing, onlooker, granting, granted, handing, handed, views_joined}
+use Rattle.qp_table.specs.After.{passing, failing, empty_view, onlooker, granting, granted, handing, handed, views_joined}
 use Rattle.qp_table.specs.declared.view.SeatLog.{SeatLog}
 use Rattle.qp_table.specs.declared.view.Spot.{Spot}
 use Rattle.qp_table.specs.declared.view.Fill.{Fill}
@@ -36,13 +36,13 @@ Own lanes v = Each (λ (g : SeatLog). get_elem? lanes g.number ≡ some g.recs) 
 
 -- other views, with the same tokens in all
 pub record SameTokens (other views : List View) : Type 0 where
-  pub fresh : (t : Spot → Bool) → total (λ (v : View). many t v.fresh) other ≡ total (λ (v : View). many t v.fresh) views
-  pub used : (t : Spot → Bool) → total (λ (v : View). many t v.used) other ≡ total (λ (v : View). many t v.used) views
-  pub hands : (t : Entry → Bool) → total (λ (v : View). many t v.hands) other ≡ total (λ (v : View). many t v.hands) views
-  pub fills : (t : Fill → Bool) → total (λ (v : View). many t v.fills) other ≡ total (λ (v : View). many t v.fills) views
-  pub claims : (t : CellPlace → Bool) → total (λ (v : View). many t v.claims) other ≡ total (λ (v : View). many t v.claims) views
-  pub takes : (t : CellPlace → Bool) → total (λ (v : View). many t v.takes) other ≡ total (λ (v : View). many t v.takes) views
-  pub serves : (t : Serve → Bool) → total (λ (v : View). many t v.serves) other ≡ total (λ (v : View). many t v.serves) views
+  pub fresh : (t : Spot → Bool) → sum_over (λ (v : View). many t v.fresh) other ≡ sum_over (λ (v : View). many t v.fresh) views
+  pub used : (t : Spot → Bool) → sum_over (λ (v : View). many t v.used) other ≡ sum_over (λ (v : View). many t v.used) views
+  pub hands : (t : Entry → Bool) → sum_over (λ (v : View). many t v.hands) other ≡ sum_over (λ (v : View). many t v.hands) views
+  pub fills : (t : Fill → Bool) → sum_over (λ (v : View). many t v.fills) other ≡ sum_over (λ (v : View). many t v.fills) views
+  pub claims : (t : CellPlace → Bool) → sum_over (λ (v : View). many t v.claims) other ≡ sum_over (λ (v : View). many t v.claims) views
+  pub takes : (t : CellPlace → Bool) → sum_over (λ (v : View). many t v.takes) other ≡ sum_over (λ (v : View). many t v.takes) views
+  pub serves : (t : Serve → Bool) → sum_over (λ (v : View). many t v.serves) other ≡ sum_over (λ (v : View). many t v.serves) views
 
 module _ (sys : System) (words : List ℕ) (views other : List View) (holds : Holds sys words views) (same : SameTokens other views) where
   -- the rule over the other views, where each of them keeps its own facts
@@ -69,7 +69,7 @@ module _ (sys : System) (words : List ℕ) (views other : List View) (holds : Ho
         events = record {
           few = holds.events.few;
           word = λ p b j h l gone. holds.events.word p b j h l (sym (same.fills (is_fill p b j)) ∙ gone);
-          right = λ p b j n ne. same.fills (is_value p b j n) ∙ holds.events.right p b j n ne;
+          right = λ p b j n ne. same.fills (fills_with p b j n) ∙ holds.events.right p b j n ne;
           beside = beside;
           event = holds.events.event;
         };
@@ -89,13 +89,13 @@ module _ (sys : System) (words : List ℕ) (views other : List View) (holds : Ho
 -- A view with nothing is added
 module _ (sys : System) (words : List ℕ) (views : List View) (holds : Holds sys words views) where
   abbrev more : List View
-  more = views ++ nothing ∷ []
+  more = views ++ empty_view ∷ []
 
-  more-sum : (f : View → ℕ) → f nothing ≡ 0 → total f more ≡ total f views
-  more-sum f empty = let b = total-snoc f views nothing in omega arith
+  more-sum : (f : View → ℕ) → f empty_view ≡ 0 → sum_over f more ≡ sum_over f views
+  more-sum f empty = let b = total-snoc f views empty_view in omega arith
 
-  each-more : (P : View → Type 0) → P nothing → ((i : ℕ) (z : View) → get_elem? views i ≡ some z → P z) → (i : ℕ) (z : View) → get_elem? more i ≡ some z → P z
-  each-more P empty all i z e = ⊎_elim (λ (t : get_elem? views i ≡ some z). all i z t) (λ (t : nothing ≡ z). subst P t empty) (at_snoc views nothing z i e)
+  each-more : (P : View → Type 0) → P empty_view → ((i : ℕ) (z : View) → get_elem? views i ≡ some z → P z) → (i : ℕ) (z : View) → get_elem? more i ≡ some z → P z
+  each-more P empty all i z e = ⊎_elim (λ (t : get_elem? views i ≡ some z). all i z t) (λ (t : empty_view ≡ z). subst P t empty) (at_snoc views empty_view z i e)
 
   pub adds-nothing : Holds sys words more
   adds-nothing = rearranged sys words views more holds
@@ -161,10 +161,10 @@ module _ (sys : System) (words : List ℕ) (views : List View) (holds : Holds sy
     from-mid : get_elem? mid from ≡ some w
     from-mid = set_else views id from v' apart ∙ there
 
-    same-sum : (f : View → ℕ) → f v' + f w' ≡ f v + f w → total f after ≡ total f views
+    same-sum : (f : View → ℕ) → f v' + f w' ≡ f v + f w → sum_over f after ≡ sum_over f views
     same-sum f both = let a = total-set f views id v v' at_id in let b = total-set f mid from w w' from-mid in omega arith
 
-    sum-fewer : (f : View → ℕ) → f v' + f w' ≤ f v + f w → total f after ≤ total f views
+    sum-fewer : (f : View → ℕ) → f v' + f w' ≤ f v + f w → sum_over f after ≤ sum_over f views
     sum-fewer f both = let a = total-set f views id v v' at_id in let b = total-set f mid from w w' from-mid in omega arith
 
     each-view : KeepsHere v' → KeepsHere w' → (i : ℕ) (z : View) → get_elem? after i ≡ some z → KeepsHere z
@@ -226,7 +226,7 @@ module _ (sys : System) (words : List ℕ) (views : List View) (holds : Holds sy
           takes = e.takes;
           few = e.few;
           lifos_are = let r = records-append (is_lifo x.object) v.logs w.logs in let z = e.lifos_are in omega arith;
-          takes_are = let r = records-append (is_took x.object) v.logs w.logs in let z = e.takes_are in omega arith;
+          takes_are = let r = records-append (is_take_of x.object) v.logs w.logs in let z = e.takes_are in omega arith;
         }) v.serves (own-each v.serves v.serves (λ a. omega arith)) p.counts)
         (each-both (λ (x : Serve). 0 < many (is_serve x.object) w.serves) (Served holds.now w.logs) (Served holds.now (v.logs ++ w.logs))
         (λ x mine e. let o = p.others x.object (serves-apart sys words views holds from w there id v (λ e. apart (sym e)) at_id v w x.object mine) in let o0 = o.0 in let o1 = o.1 in record {
@@ -234,16 +234,16 @@ module _ (sys : System) (words : List ℕ) (views : List View) (holds : Holds sy
           takes = e.takes;
           few = e.few;
           lifos_are = let r = records-append (is_lifo x.object) v.logs w.logs in let z = e.lifos_are in omega arith;
-          takes_are = let r = records-append (is_took x.object) v.logs w.logs in let z = e.takes_are in omega arith;
+          takes_are = let r = records-append (is_take_of x.object) v.logs w.logs in let z = e.takes_are in omega arith;
         }) w.serves (own-each w.serves w.serves (λ a. omega arith)) q.counts);
     within = let a = p.within in let b = q.within in let c = total-append (λ (x : Serve). x.lifos + x.takes) v.serves w.serves in let d = total-append (λ (g : SeatLog). length g.recs) v.logs w.logs in omega arith;
     others = λ a h. let s = many-append (is_serve a) v.serves w.serves in let x = p.others a (omega arith) in let y = q.others a (omega arith) in let x0 = x.0 in let x1 = x.1 in let y0 = y.0 in let y1 = y.1 in
-        let l = records-append (is_lifo a) v.logs w.logs in let m = records-append (is_took a) v.logs w.logs in (omega arith, omega arith);
+        let l = records-append (is_lifo a) v.logs w.logs in let m = records-append (is_take_of a) v.logs w.logs in (omega arith, omega arith);
     taking = λ a. let x = p.taking a in let y = q.taking a in let c = many-append (on_queue a) v.takes w.takes in let d = many-append (is_serve a) v.serves w.serves in omega arith;
   }
 
-  pub joins : Holds sys words (set (set views id (views_joined v w)) from nothing)
-  joins = swaps sys words views holds id v at_id from w apart there (views_joined v w) nothing
+  pub joins : Holds sys words (set (set views id (views_joined v w)) from empty_view)
+  joins = swaps sys words views holds id v at_id from w apart there (views_joined v w) empty_view
       (record {
         fresh = λ t. let a = many-append t v.fresh w.fresh in omega arith;
         used = λ t. let a = many-append t v.used w.used in omega arith;
@@ -286,7 +286,7 @@ module _ (sys : System) (words : List ℕ) (views : List View) (holds : Holds sy
       })
 
   -- A view with nothing sees what another has seen
-  pub looks-on : w ≡ nothing → Holds sys words (set (set views id v) from (onlooker v))
+  pub looks-on : w ≡ empty_view → Holds sys words (set (set views id v) from (onlooker v))
   looks-on empty = swaps sys words views holds id v at_id from w apart there v (onlooker v)
       (subst (λ (y : View). Swapped v y v (onlooker v)) (sym empty) (record {
         fresh = λ t. refl;
@@ -339,9 +339,9 @@ module _ (sys : System) (words : List ℕ) (views : List View) (holds : Holds sy
         idle = λ h. let a = length-append w.logs (record { number = n; recs = [] } ∷ []) in absurd (omega arith);
         home = record {
           counts = each-map (Served holds.now w.logs) (Served holds.now (w.logs ++ record { number = n; recs = [] } ∷ []))
-              (λ x e. record { lifos = e.lifos; takes = e.takes; few = e.few; lifos_are = e.lifos_are ∙ sym (no-more (is_lifo x.object)); takes_are = e.takes_are ∙ sym (no-more (is_took x.object)) }) w.serves right.home.counts;
+              (λ x e. record { lifos = e.lifos; takes = e.takes; few = e.few; lifos_are = e.lifos_are ∙ sym (no-more (is_lifo x.object)); takes_are = e.takes_are ∙ sym (no-more (is_take_of x.object)) }) w.serves right.home.counts;
           within = let a = right.home.within in let b = total-append (λ (g : SeatLog). length g.recs) w.logs (record { number = n; recs = [] } ∷ []) in omega arith;
-          others = λ a h. let o = right.home.others a h in (no-more (is_lifo a) ∙ o.0, no-more (is_took a) ∙ o.1);
+          others = λ a h. let o = right.home.others a h in (no-more (is_lifo a) ∙ o.0, no-more (is_take_of a) ∙ o.1);
           taking = right.home.taking;
         };
         seen = right.seen;
@@ -379,15 +379,15 @@ passing-each P t (x ∷ xs) e = go (t x) (passing-each P t xs e.1)
     go true h = (h.0, (e.0, h.1))
     go false h = ((e.0, h.0), h.1)
 
-passing-total : (f : Serve → ℕ) (t : Serve → Bool) (xs : List Serve) → total f (failing t xs) + total f (passing t xs) ≡ total f xs
+passing-total : (f : Serve → ℕ) (t : Serve → Bool) (xs : List Serve) → sum_over f (failing t xs) + sum_over f (passing t xs) ≡ sum_over f xs
 passing-total f t [] = refl
 passing-total f t (x ∷ xs) = go (t x) (passing-total f t xs)
   where
-    go : (b : Bool) → total f (failing t xs) + total f (passing t xs) ≡ total f xs → total f (cond b (failing t xs) (x ∷ failing t xs)) + total f (cond b (x ∷ passing t xs) (passing t xs)) ≡ total f (x ∷ xs)
+    go : (b : Bool) → sum_over f (failing t xs) + sum_over f (passing t xs) ≡ sum_over f xs → sum_over f (cond b (failing t xs) (x ∷ failing t xs)) + sum_over f (cond b (x ∷ passing t xs) (passing t xs)) ≡ sum_over f (x ∷ xs)
     go true h = omega arith
     go false h = omega arith
 
-none-made : (ps : List CellPlace) (xs : List Serve) → Each (Unused ps) xs → total (λ (x : Serve). x.lifos + x.takes) xs ≡ 0
+none-made : (ps : List CellPlace) (xs : List Serve) → Each (Unused ps) xs → sum_over (λ (x : Serve). x.lifos + x.takes) xs ≡ 0
 none-made ps [] e = refl
 none-made ps (x ∷ xs) e = let r = none-made ps xs e.1 in let a = e.0 in let l = a.lifos in let m = a.takes_made in omega arith
 
@@ -415,9 +415,9 @@ module _ (sys : System) (words : List ℕ) (views : List View) (holds : Holds sy
   counted = each-both (Served holds.now v.logs) (Unused v.takes) Counted (λ x p q. (p, q)) (passing t v.serves) (passing-each (Served holds.now v.logs) t v.serves left-keeps.home.counts).1 unused
 
   -- what goes has no record here and nothing under way
-  gone : (a : ℕ) → 0 < many (is_serve a) (passing t v.serves) → (records (is_lifo a) v.logs ≡ 0) × (records (is_took a) v.logs ≡ 0) × (many (on_queue a) v.takes ≡ 0)
+  gone : (a : ℕ) → 0 < many (is_serve a) (passing t v.serves) → (records (is_lifo a) v.logs ≡ 0) × (records (is_take_of a) v.logs ≡ 0) × (many (on_queue a) v.takes ≡ 0)
   gone a h = let f = find-serve Counted a (passing t v.serves) h counted in let c = f.2.0 in let u = f.2.1 in
-      subst (λ (z : ℕ). (records (is_lifo z) v.logs ≡ 0) × (records (is_took z) v.logs ≡ 0) × (many (on_queue z) v.takes ≡ 0)) f.1 (sym c.lifos_are ∙ u.lifos, sym c.takes_are ∙ u.takes_made, u.still)
+      subst (λ (z : ℕ). (records (is_lifo z) v.logs ≡ 0) × (records (is_take_of z) v.logs ≡ 0) × (many (on_queue z) v.takes ≡ 0)) f.1 (sym c.lifos_are ∙ u.lifos, sym c.takes_are ∙ u.takes_made, u.still)
 
   pub hands-over : Holds sys words (set (set views id (handing t v)) from (handed t v w))
   hands-over = swaps sys words views holds id v at_id from w apart there (handing t v) (handed t v w)

@@ -19,10 +19,10 @@ use Rattle.qp_model.proofs.LifeLemmas.{free-out}
 use Rattle.qp_table.proofs.Bounds.{refs-named}
 use Rattle.qp_table.proofs.Counting.{each-snoc}
 use Rattle.qp_table.proofs.Steps.{pool-of}
-use Rattle.qp_table.specs.Counting.{Each, total, many}
-use Rattle.qp_table.specs.Now.{Now, Leaves}
-use Rattle.qp_table.specs.Rule.{pool_at, block_at, queue_at, lifo_on, took_on, gives_of, is_ref, Tells, Tokens, event_in, IsKnown, Holds}
-use Rattle.qp_table.specs.After.{rec_of, ref, learned, glanced, noted, reading, read_by, read_from, HasRoom}
+use Rattle.qp_table.specs.Counting.{Each, sum_over, many}
+use Rattle.qp_table.specs.Now.{Now, LeavesWords}
+use Rattle.qp_table.specs.Rule.{pool_at, block_at, queue_at, lifo_on, took_on, gives_of, is_ref, Tells, Tokens, event_of_content, IsKnown, Holds}
+use Rattle.qp_table.specs.After.{rec_of, ref, learned, glanced, noted, reading, give_read, read_from, HasRoom}
 use Rattle.qp_table.specs.declared.view.SeatLog.{SeatLog}
 use Rattle.qp_table.specs.declared.view.PendingGive.{PendingGive}
 use Rattle.qp_table.specs.declared.view.View.{View}
@@ -63,7 +63,7 @@ unfolding item_of body_of body_at
 no_lifo-says o a f l m = refl
 
 -- a read of a life's beginning changes no block and no event
-reading-cons : (q c : ℕ) (t : Bool) (g : PendingGive) → cond {A = ℕ} (gives_of q c (read_by t g)) 1 0 ≡ cond (gives_of q c g) 1 0
+reading-cons : (q c : ℕ) (t : Bool) (g : PendingGive) → cond {A = ℕ} (gives_of q c (give_read t g)) 1 0 ≡ cond (gives_of q c g) 1 0
 reading-cons q c t g = refl
 
 reading-many : (p b q c : ℕ) (gs : List PendingGive) → many (gives_of q c) (reading p b gs) ≡ many (gives_of q c) gs
@@ -110,7 +110,7 @@ module _ (sys : System) (words : List ℕ) (views : List View) (holds : Holds sy
         made = λ pos. refs-named sys holds.lanes now holds.leaves holds.logs.count holds.logs.room p b k block there;
         given = λ pos. tracks-first b k (hist (word.Pool p) (all_items holds.lanes)) (out-is inside.0 inside.1 alone.1)
             (let e = holds.leaves.edge p b block in let a = above-at (now.edge p b) k (now.refs p b).names (holds.tokens.named p b) there in omega arith)
-            ∙ ap (λ (c : List ℕ). Some (event_in c)) (holds.leaves.content p b block);
+            ∙ ap (λ (c : List ℕ). Some (event_of_content c)) (holds.leaves.content p b block);
       }))
     where
       not-case : (x f : Bool) → f ≡ not x → f ≡ false → x ≡ true
@@ -133,16 +133,16 @@ module _ (sys : System) (words : List ℕ) (views : List View) (holds : Holds sy
 
   module _ (own : HasRoom v) where
     few : length own.own.recs ≤ 1000000
-    few = let r : total (λ (g : SeatLog). length g.recs) (own.own ∷ own.others) < 1000001 = subst (λ (ls : List SeatLog). total (λ (g : SeatLog). length g.recs) ls < 1000001) own.is own.room in omega arith
+    few = let r : sum_over (λ (g : SeatLog). length g.recs) (own.own ∷ own.others) < 1000001 = subst (λ (ls : List SeatLog). sum_over (λ (g : SeatLog). length g.recs) ls < 1000001) own.is own.room in omega arith
 
     abbrev at_lane : Lane holds.lanes own.own
     at_lane = lane sys words views holds id v at_id own.own own.others own.is few
 
-    leaves : Leaves sys (at_lane.before ++ own.own.recs ∷ at_lane.behind) now
+    leaves : LeavesWords sys (at_lane.before ++ own.own.recs ∷ at_lane.behind) now
     leaves = leaves-here sys words views holds id v at_id own.own own.others own.is few
 
     -- with a record of what the word shows
-    shows : (w : ℕ) (r : Rec) (i : Item) → item_of r ≡ i → ((a : ℕ) → lifo_on a i.of i.body ≡ false) → ((a : ℕ) → took_on a i.of i.body ≡ false) → ((y : Word) → drawn_on y (touch i) ≡ false) → w < 4488 → Leaves sys (at_lane.before ++ (own.own.recs ++ r ∷ []) ∷ at_lane.behind) now → Holds sys words (set views id (noted v w (get_or words w 0) r))
+    shows : (w : ℕ) (r : Rec) (i : Item) → item_of r ≡ i → ((a : ℕ) → lifo_on a i.of i.body ≡ false) → ((a : ℕ) → took_on a i.of i.body ≡ false) → ((y : Word) → drawn_on y (touch i) ≡ false) → w < 4488 → LeavesWords sys (at_lane.before ++ (own.own.recs ++ r ∷ []) ∷ at_lane.behind) now → Holds sys words (set views id (noted v w (get_or words w 0) r))
     shows w r i is no_lifo no_take undrawn low more = let u : View = noted v w (get_or words w 0) r in
         shown-step sys words views holds id v at_id own.own own.others own.is few w r u more (tokens-same u refl refl refl)
         (events-same sys words words views now now id v u at_id holds.events (λ y h. refl) (λ p b. refl) refl refl refl)

@@ -15,9 +15,9 @@ use Rattle.qp_model.specs.WordLaw.{is_pool, is_block, is_object}
 use Rattle.qp_model.proofs.MachineLemmas.{count-after}
 use Rattle.qp_model.proofs.LineLemmas.{line-counts}
 use Rattle.qp_model.proofs.WordLawLemmas.{free_blocks-counts, references-counts}
-use Rattle.qp_table.specs.Counting.{Each, total, many}
+use Rattle.qp_table.specs.Counting.{Each, sum_over, many}
 use Rattle.qp_table.specs.Now.{Now}
-use Rattle.qp_table.specs.Rule.{pool_at, block_at, queue_at, mark_in, is_serve, Served, Queue, Holds}
+use Rattle.qp_table.specs.Rule.{pool_at, block_at, queue_at, mark_in, is_serve, Served, QueueCells, Holds}
 use Rattle.qp_table.specs.declared.view.SeatLog.{SeatLog}
 use Rattle.qp_table.specs.declared.view.Serve.{Serve}
 use Rattle.qp_table.specs.declared.view.View.{View}
@@ -25,7 +25,7 @@ use Rattle.qp_table.proofs.Tokens.{b2n}
 use Rattle.qp_table.proofs.Bounds.{pool-ascends, refs-count, map-small}
 
 -- one of a sum that isn't 0
-some-of : {A : Type 0} (f : A → ℕ) (xs : List A) → 0 < total f xs → (i : ℕ) × (x : A) × (get_elem? xs i ≡ some x) × (0 < f x)
+some-of : {A : Type 0} (f : A → ℕ) (xs : List A) → 0 < sum_over f xs → (i : ℕ) × (x : A) × (get_elem? xs i ≡ some x) × (0 < f x)
 some-of f [] h = absurd (omega arith)
 some-of f (x ∷ xs) h = dite (ℕ_discrete (f x) 0)
     (λ z. let r = some-of f xs (omega arith) in (suc r.0, r.1, r.2, r.3))
@@ -56,7 +56,7 @@ module _ (sys : System) (words : List ℕ) (views : List View) (holds : Holds sy
     abbrev n : ℕ
     n = ring_of sys a + 1
 
-    abbrev q : Queue sys n words a s (holds.items a)
+    abbrev q : QueueCells sys n words a s (holds.items a)
     q = holds.queues.queue a object
 
     -- the queue's word
@@ -68,7 +68,7 @@ module _ (sys : System) (words : List ℕ) (views : List View) (holds : Holds sy
 
     -- the home lane made all last-in posts and takes, so there are few
     pub own-counts : s.l + s.m ≤ 1000001
-    own-counts = let t : total (λ (v : View). many (is_serve a) v.serves) views ≡ 1 = holds.queues.serves a ∙ ap b2n object in
+    own-counts = let t : sum_over (λ (v : View). many (is_serve a) v.serves) views ≡ 1 = holds.queues.serves a ∙ ap b2n object in
         let z = some-of (λ (v : View). many (is_serve a) v.serves) views (omega arith) in
         served-count a now z.1.logs z.1.serves z.3 (holds.queues.home z.0 z.1 z.2).counts
 

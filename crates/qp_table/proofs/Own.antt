@@ -9,14 +9,14 @@ use Rattle.qp_model.specs.Record.{Item, item_of}
 use Rattle.qp_model.specs.Told.{Event}
 use Rattle.qp_model.specs.History.{touch, touch_of, lane_items}
 use Rattle.qp_table.specs.TwoTables.{on_table}
-use Rattle.qp_table.specs.Counting.{Each, many, total}
-use Rattle.qp_table.specs.Rule.{is_lifo, is_took, lifo_on, took_on, records, is_serve, Served}
+use Rattle.qp_table.specs.Counting.{Each, many, sum_over}
+use Rattle.qp_table.specs.Rule.{is_lifo, is_take_of, lifo_on, took_on, records, is_serve, Served}
 use Rattle.qp_table.specs.Now.{Now}
 use Rattle.qp_table.specs.declared.view.SeatLog.{SeatLog}
 use Rattle.qp_table.specs.declared.view.Serve.{Serve}
 use Rattle.qp_table.specs.declared.view.View.{View}
 use Rattle.qp_calls.specs.LaneView.{Own, own_of, own_after}
-use Rattle.qp_table.specs.Lane.{own_of_logs, own_recs, on_table_of, tell}
+use Rattle.qp_table.specs.Lane.{own_of_logs, own_recs, on_table_of, tell_lane}
 use Rattle.qp_table.specs.Telling.{OwnTold}
 use Rattle.qp_table.proofs.Hands.{eq-turned}
 
@@ -57,8 +57,8 @@ m-step a c o (Lifo f l m e) = go (o == a)
 m-step a c o _ = omega arith
 
 own-counts : (a : ℕ) (ev : Entry → Event) (recs : List Rec) (ks : List ℕ) (c : Own) → length ks ≡ length recs
-    → ((own_after a c (tell ev recs ks)).l ≡ c.l + many (is_lifo a) recs) × ((own_after a c (tell ev recs ks)).m ≡ c.m + many (is_took a) recs)
-unfolding own_after tell
+    → ((own_after a c (tell_lane ev recs ks)).l ≡ c.l + many (is_lifo a) recs) × ((own_after a c (tell_lane ev recs ks)).m ≡ c.m + many (is_take_of a) recs)
+unfolding own_after tell_lane
 own-counts a ev [] [] c e = (omega arith, omega arith)
 own-counts a ev [] (k ∷ ks) c e = absurd (omega arith)
 own-counts a ev (r ∷ recs) [] c e = absurd (omega arith)
@@ -93,23 +93,23 @@ unfolding on_table_of own_recs lane_items
 many-own p off recs v one same =
     sym (many-map p item_of recs) ∙ (sym (many-filter p (λ i. on_table (touch i)) off (lane_items recs)) ∙ (ap (many p) same ∙ go v.logs one))
   where
-    go : (gs : List SeatLog) → length gs ≡ 1 → many p (own_of_logs gs) ≡ total (λ (g : SeatLog). many (λ r. p (item_of r)) g.recs) gs
+    go : (gs : List SeatLog) → length gs ≡ 1 → many p (own_of_logs gs) ≡ sum_over (λ (g : SeatLog). many (λ r. p (item_of r)) g.recs) gs
     go [] e = absurd (omega arith)
     go (g ∷ []) e = let z = many-map p item_of g.recs in omega arith
     go (g ∷ h ∷ gs) e = absurd (omega arith)
 
-pub served-own : (a : ℕ) (now : Now) (logs : List SeatLog) (xs : List Serve) → IsTrue (list_any (is_serve a) xs) → Each (Served now logs) xs → ((now.line a).l ≡ records (is_lifo a) logs) × ((now.line a).m ≡ records (is_took a) logs)
+pub served-own : (a : ℕ) (now : Now) (logs : List SeatLog) (xs : List Serve) → IsTrue (list_any (is_serve a) xs) → Each (Served now logs) xs → ((now.line a).l ≡ records (is_lifo a) logs) × ((now.line a).m ≡ records (is_take_of a) logs)
 served-own a now logs [] h e = absurd (cc)
 served-own a now logs (x ∷ xs) h e = go (eqb x.object a) refl h (λ k. served-own a now logs xs k e.1)
   where
-    go : (t : Bool) → eqb x.object a ≡ t → (t || list_any (is_serve a) xs) ≡ true → (list_any (is_serve a) xs ≡ true → ((now.line a).l ≡ records (is_lifo a) logs) × ((now.line a).m ≡ records (is_took a) logs))
-        → ((now.line a).l ≡ records (is_lifo a) logs) × ((now.line a).m ≡ records (is_took a) logs)
-    go true is k r = subst (λ z. ((now.line z).l ≡ records (is_lifo z) logs) × ((now.line z).m ≡ records (is_took z) logs)) (eqb-true x.object a is) (e.0.lifos ∙ e.0.lifos_are, e.0.takes ∙ e.0.takes_are)
+    go : (t : Bool) → eqb x.object a ≡ t → (t || list_any (is_serve a) xs) ≡ true → (list_any (is_serve a) xs ≡ true → ((now.line a).l ≡ records (is_lifo a) logs) × ((now.line a).m ≡ records (is_take_of a) logs))
+        → ((now.line a).l ≡ records (is_lifo a) logs) × ((now.line a).m ≡ records (is_take_of a) logs)
+    go true is k r = subst (λ z. ((now.line z).l ≡ records (is_lifo z) logs) × ((now.line z).m ≡ records (is_take_of z) logs)) (eqb-true x.object a is) (e.0.lifos ∙ e.0.lifos_are, e.0.takes ∙ e.0.takes_are)
     go false is k r = r k
 
 -- and so of its own records
 pub own-is : (a l m : ℕ) (ev : Entry → Event) (recs : List Rec) (ks : List ℕ) (v : View) → length ks ≡ length recs → length v.logs ≡ 1 → on_table_of recs ≡ own_recs v → OwnTold a l m v
-    → IsTrue (list_any (is_serve a) v.serves) → (l ≡ (own_after a (record { l = 0; m = 0 }) (tell ev recs ks)).l) × (m ≡ (own_after a (record { l = 0; m = 0 }) (tell ev recs ks)).m)
+    → IsTrue (list_any (is_serve a) v.serves) → (l ≡ (own_after a (record { l = 0; m = 0 }) (tell_lane ev recs ks)).l) × (m ≡ (own_after a (record { l = 0; m = 0 }) (tell_lane ev recs ks)).m)
 own-is a l m ev recs ks v beside one same told serves =
     let z = told serves in let z0 = z.0 in let z1 = z.1 in
     let c = own-counts a ev recs ks (record { l = 0; m = 0 }) beside in let c0 = c.0 in let c1 = c.1 in

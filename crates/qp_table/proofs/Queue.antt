@@ -6,7 +6,7 @@ use Rattle.qp_model.specs.declared.bodies.Entry.{Entry}
 use Rattle.qp_model.specs.declared.systems.System.{System}
 use Rattle.qp_model.specs.Line.{Line}
 use Rattle.qp_table.specs.Counting.{Each, many}
-use Rattle.qp_table.specs.Rule.{InLine, Codable, code, cell_value, cell_at, Run, OnlyFirst, entries_of, is_item, Queue}
+use Rattle.qp_table.specs.Rule.{InLine, Codable, code, cell_value, cell_at, Run, OnlyFirst, entries_of, is_item, QueueCells}
 use Rattle.qp_table.proofs.Counting.{each-snoc}
 use Rattle.qp_table.proofs.Lines.{restaged, entries-append, Absent, run-absent, run-distinct, run-append, run-round, cell-absent, cell-append, re-entries, re-length, re-run, re-first, re-staged, re-cell, re-else}
 
@@ -34,9 +34,9 @@ front-laid n b [] r ne = absurd (ne refl)
 front-laid n b (i ∷ is) r ne = let v : cell_value (b % n) (i ∷ is) ≡ cond (eqb i.stage 1) (code i.entry) 0 = rw (eq-eqb i.cell (b % n) r.0) refl in
     let one = stage-case (eqb i.stage 1) i.stage i refl (λ e. ne (v ∙ e)) in (i, is, refl, one, r.0, v ∙ rw one refl)
 
-module _ (sys : System) (n : ℕ) (words : List ℕ) (a : ℕ) (s : Line) (items : List InLine) (q : Queue sys n words a s items) where
+module _ (sys : System) (n : ℕ) (words : List ℕ) (a : ℕ) (s : Line) (items : List InLine) (q : QueueCells sys n words a s items) where
   -- a first-in place
-  pub queue-post : (en : Entry) (j : ℕ) → length items < n → Codable sys en → j ≡ (s.m + (n - 1) * s.l + length items) % n → Queue sys n words a (record { entries = s.entries ++ en ∷ []; f = s.f + 1; l = s.l; m = s.m }) (items ++ fresh_item en j ∷ [])
+  pub queue-post : (en : Entry) (j : ℕ) → length items < n → Codable sys en → j ≡ (s.m + (n - 1) * s.l + length items) % n → QueueCells sys n words a (record { entries = s.entries ++ en ∷ []; f = s.f + 1; l = s.l; m = s.m }) (items ++ fresh_item en j ∷ [])
   queue-post en j some_free bounds at = record {
     some_cell = q.some_cell;
     same = entries-append items (fresh_item en j ∷ []) ∙ ap (λ (es : List Entry). es ++ en ∷ []) q.same;
@@ -51,7 +51,7 @@ module _ (sys : System) (n : ℕ) (words : List ℕ) (a : ℕ) (s : Line) (items
 
   -- a last-in place: no item is under way
   pub queue-lifo : (en : Entry) (j : ℕ) → length items < n → Codable sys en → Each (λ (i : InLine). i.stage ≢ 2) items → j ≡ (s.m + (n - 1) * s.l + (n - 1)) % n → ((x : ℕ) → (x + n) % n ≡ x % n)
-      → Queue sys n words a (record { entries = en ∷ s.entries; f = s.f; l = s.l + 1; m = s.m }) (fresh_item en j ∷ items)
+      → QueueCells sys n words a (record { entries = en ∷ s.entries; f = s.f; l = s.l + 1; m = s.m }) (fresh_item en j ∷ items)
   queue-lifo en j some_free bounds still at turn = let pos = q.some_cell in
       let step : (n - 1) * (s.l + 1) ≡ (n - 1) * s.l + (n - 1) = mul-add (n - 1) s.l 1 ∙ ap (λ (z : ℕ). (n - 1) * s.l + z) (mul-one (n - 1)) in
       let base : s.m + (n - 1) * (s.l + 1) ≡ s.m + (n - 1) * s.l + (n - 1) = omega arith in
@@ -70,7 +70,7 @@ module _ (sys : System) (n : ℕ) (words : List ℕ) (a : ℕ) (s : Line) (items
       }
 
   -- the cell of a claim is laid
-  pub queue-lay : (j : ℕ) (en : Entry) → j < n → cell_at a j < length words → 0 < many (is_item 0 j en) items → Queue sys n (set words (cell_at a j) (code en)) a s (restaged 1 (is_item 0 j en) items)
+  pub queue-lay : (j : ℕ) (en : Entry) → j < n → cell_at a j < length words → 0 < many (is_item 0 j en) items → QueueCells sys n (set words (cell_at a j) (code en)) a s (restaged 1 (is_item 0 j en) items)
   queue-lay j en inside wide there = let d = run-distinct n (s.m + (n - 1) * s.l) items q.run q.short in record {
     some_cell = q.some_cell;
     same = re-entries 0 1 j en items ∙ q.same;
@@ -87,7 +87,7 @@ module _ (sys : System) (n : ℕ) (words : List ℕ) (a : ℕ) (s : Line) (items
   }
 
   -- the front entry is taken out of its cell
-  pub queue-empty : (i : InLine) (is : List InLine) → items ≡ i ∷ is → cell_at a i.cell < length words → Queue sys n (set words (cell_at a i.cell) 0) a s (record i { stage = 2 } ∷ is)
+  pub queue-empty : (i : InLine) (is : List InLine) → items ≡ i ∷ is → cell_at a i.cell < length words → QueueCells sys n (set words (cell_at a i.cell) 0) a s (record i { stage = 2 } ∷ is)
   queue-empty i is e wide = let r = subst (Run n (s.m + (n - 1) * s.l)) e q.run in let sh = q.short in let le = ap length e in record {
     some_cell = q.some_cell;
     same = sym (ap entries_of e) ∙ q.same;
@@ -104,7 +104,7 @@ module _ (sys : System) (n : ℕ) (words : List ℕ) (a : ℕ) (s : Line) (items
   }
 
   -- the entry under way is gone
-  pub queue-took : (i : InLine) (is : List InLine) → items ≡ i ∷ is → i.stage ≡ 2 → Queue sys n words a (record { entries = drop 1 s.entries; f = s.f; l = s.l; m = s.m + 1 }) is
+  pub queue-took : (i : InLine) (is : List InLine) → items ≡ i ∷ is → i.stage ≡ 2 → QueueCells sys n words a (record { entries = drop 1 s.entries; f = s.f; l = s.l; m = s.m + 1 }) is
   queue-took i is e two = let r = subst (Run n (s.m + (n - 1) * s.l)) e q.run in let sh = q.short in let le = ap length e in
       let d = run-distinct n (s.m + (n - 1) * s.l) (i ∷ is) r (omega arith) in record {
         some_cell = q.some_cell;

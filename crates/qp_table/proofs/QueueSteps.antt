@@ -13,10 +13,10 @@ use Rattle.qp_model.specs.Record.{Item, item_of, body_of, body_at}
 use Rattle.qp_model.specs.Line.{Line}
 use Rattle.qp_model.specs.Sites.{ring_of}
 use Rattle.qp_model.specs.WordLaw.{is_object}
-use Rattle.qp_table.specs.Counting.{Each, total, many, without}
-use Rattle.qp_table.specs.Now.{Now, at, with_line, Leaves}
-use Rattle.qp_table.specs.Rule.{queue_at, cell_at, mark_in, is_lifo, is_took, lifo_on, took_on, is_ref, is_entry, InLine, Codable, entries_of, OnlyFirst, is_item, is_place, on_queue, is_serve, Queue, Holds}
-use Rattle.qp_table.specs.After.{rec_of, logged, InHand, HasRoom, place, claimed, put_first, took}
+use Rattle.qp_table.specs.Counting.{Each, sum_over, many, without}
+use Rattle.qp_table.specs.Now.{Now, at, with_line, LeavesWords}
+use Rattle.qp_table.specs.Rule.{queue_at, cell_at, mark_in, is_lifo, is_take_of, lifo_on, took_on, is_ref, is_entry, InLine, Codable, entries_of, OnlyFirst, is_item, is_place, on_queue, is_serve, QueueCells, Holds}
+use Rattle.qp_table.specs.After.{rec_of, logged, InHand, HasRoom, place, claimed, put_first, view_took}
 use Rattle.qp_table.specs.declared.view.SeatLog.{SeatLog}
 use Rattle.qp_table.specs.declared.view.CellPlace.{CellPlace}
 use Rattle.qp_table.specs.declared.view.View.{View}
@@ -57,7 +57,7 @@ ends : (n l : ℕ) → 0 < n → n * l ≡ (n - 1) * l + l
 ends zero l h = absurd (omega arith)
 ends (suc n) l h = let e : suc n - 1 ≡ n = omega arith in rw (suc-mul n l, e) refl
 
-logs-more : (r : Rec) (v : View) (g : SeatLog) (gs : List SeatLog) → v.logs ≡ g ∷ gs → total (λ (g : SeatLog). length g.recs) (logged r v.logs) ≡ total (λ (g : SeatLog). length g.recs) v.logs + 1
+logs-more : (r : Rec) (v : View) (g : SeatLog) (gs : List SeatLog) → v.logs ≡ g ∷ gs → sum_over (λ (g : SeatLog). length g.recs) (logged r v.logs) ≡ sum_over (λ (g : SeatLog). length g.recs) v.logs + 1
 logs-more r v g gs e = rw e (omega (arith, length-append g.recs (r ∷ [])))
 
 -- only the first entry in line may be under way
@@ -92,7 +92,7 @@ pub without-le : {A : Type 0} (p q : A → Bool) (xs : List A) → many q (witho
 without-le p q [] = omega arith
 without-le p q (x ∷ xs) = without-cons p q (p x) x xs (without-le p q xs)
 
-no-total : {A : Type 0} (f : A → ℕ) (xs : List A) → ((i : ℕ) (x : A) → get_elem? xs i ≡ some x → f x ≡ 0) → total f xs ≡ 0
+no-total : {A : Type 0} (f : A → ℕ) (xs : List A) → ((i : ℕ) (x : A) → get_elem? xs i ≡ some x → f x ≡ 0) → sum_over f xs ≡ 0
 no-total f [] h = refl
 no-total f (x ∷ xs) h = let a = h 0 x refl in let b = no-total f xs (λ i y e. h (suc i) y e) in omega arith
 
@@ -124,7 +124,7 @@ module _ (sys : System) (words : List ℕ) (views : List View) (holds : Holds sy
   inside : (a < 33) × (ring_of sys a < 256)
   inside = holds.fitting.objects a object
 
-  abbrev q : Queue sys n words a s items
+  abbrev q : QueueCells sys n words a s items
   q = holds.queues.queue a object
 
   own-counts-here : s.l + s.m ≤ 1000001
@@ -158,12 +158,12 @@ module _ (sys : System) (words : List ℕ) (views : List View) (holds : Holds sy
 
   module _ (own : HasRoom v) where
     few : length own.own.recs ≤ 1000000
-    few = let r : total (λ (g : SeatLog). length g.recs) (own.own ∷ own.others) < 1000001 = subst (λ (ls : List SeatLog). total (λ (g : SeatLog). length g.recs) ls < 1000001) own.is own.room in omega arith
+    few = let r : sum_over (λ (g : SeatLog). length g.recs) (own.own ∷ own.others) < 1000001 = subst (λ (ls : List SeatLog). sum_over (λ (g : SeatLog). length g.recs) ls < 1000001) own.is own.room in omega arith
 
     abbrev at_lane : Lane holds.lanes own.own
     at_lane = lane sys words views holds id v at_id own.own own.others own.is few
 
-    leaves : Leaves sys (at_lane.before ++ own.own.recs ∷ at_lane.behind) now
+    leaves : LeavesWords sys (at_lane.before ++ own.own.recs ∷ at_lane.behind) now
     leaves = leaves-here sys words views holds id v at_id own.own own.others own.is few
 
     own-some : 0 < length v.logs
@@ -224,12 +224,12 @@ module _ (sys : System) (words : List ℕ) (views : List View) (holds : Holds sy
 
     -- The entry under way is freed: the queue counts one take more
     pub frees : (j : ℕ) (e : Entry) (r : Rec) → item_of r ≡ record { of = a; body = Took (w % 2097152) (w / 2097152 % 2097152) (w / 4398046511104 + 1) e } → 0 < many (is_place a j e) v.takes → 0 < many (is_serve a) v.serves
-        → Holds sys (set words (queue_at a) (w + 4398046511104)) (set views id (took v a (w + 4398046511104) r j e))
+        → Holds sys (set words (queue_at a) (w + 4398046511104)) (set views id (view_took v a (w + 4398046511104) r j e))
     frees j e r says mine serves =
         let sh = line-shows-here in let s0 = sh.0 in let s1 = sh.1 in let s2 = sh.2 in let wd = holds.shows.queues a object in let fs = first-small-here in let oc = own-counts-here in
         let up = under-way j e mine in let is : List InLine = up.0 in let one = served-once serves in
         let w' : ℕ = w + 4398046511104 in
-        let u : View = took v a (w + 4398046511104) r j e in
+        let u : View = view_took v a (w + 4398046511104) r j e in
         let front : s.entries ≡ e ∷ entries_of is = sym q.same ∙ ap entries_of up.1 in
         let t : Line = record { entries = entries_of is; f = s.f; l = s.l; m = s.m + 1 } in
         let more = logs-more r v own.own own.others own.is in let i0 = inside.0 in
@@ -240,7 +240,7 @@ module _ (sys : System) (words : List ℕ) (views : List View) (holds : Holds sy
         (events-same sys words (set words (queue_at a) (w + 4398046511104)) views now _ id v u at_id holds.events (λ y h. get_or-set_other words (queue_at a) y (w + 4398046511104) 0 (λ z. absurd (omega arith))) (λ p b. refl) refl refl refl)
         (queues-one sys words (set words (queue_at a) (w + 4398046511104)) views now holds.items id v u at_id holds.queues a object t is
         (queue-same sys n words (set words (queue_at a) (w + 4398046511104)) a t is (λ y lt. cells-stay (w + 4398046511104) a y lt)
-        (subst (λ (es : List Entry). Queue sys n words a (record { entries = es; f = s.f; l = s.l; m = s.m + 1 }) is) (ap (drop 1) front) (queue-took sys n words a s items q (item e j 2) is up.1 refl)))
+        (subst (λ (es : List Entry). QueueCells sys n words a (record { entries = es; f = s.f; l = s.l; m = s.m + 1 }) is) (ap (drop 1) front) (queue-took sys n words a s items q (item e j 2) is up.1 refl)))
         (λ b y ne lt. cells-stay (w + 4398046511104) b y lt)
         (λ y d. let x = ap (many (is_item 0 y d)) up.1 in let z = ap b2n (stage-apart 0 2 j y e d (λ z. absurd (omega arith))) in omega arith)
         (λ b y d ne. refl)
@@ -249,7 +249,7 @@ module _ (sys : System) (words : List ℕ) (views : List View) (holds : Holds sy
         (λ b. bump-many a 0 1 b v.serves)
         (serves-home now a 0 1 t v u (omega arith) refl (omega arith) one refl (λ b. without-le (is_place a j e) (on_queue b) v.takes)
         (λ b. let c = records-logged (is_lifo b) r v.logs own-some in let z = ap (λ (x : Item). b2n (lifo_on b x.of x.body)) says in let g = same-either (eqb b a) in omega arith)
-        (λ b. let c = records-logged (is_took b) r v.logs own-some in let z = ap (λ (x : Item). b2n (took_on b x.of x.body)) says in let g = ap b2n (eqb-swap a b) in omega arith)
+        (λ b. let c = records-logged (is_take_of b) r v.logs own-some in let z = ap (λ (x : Item). b2n (took_on b x.of x.body)) says in let g = ap b2n (eqb-swap a b) in omega arith)
         (omega arith) own.room (holds.queues.home id v at_id))
         (λ y z ne there o. serves-else now a t z (not-others serves y z ne there) o))
         (omega arith) (let x = high-mark (queue_at a) w (omega arith) in let y = high-mark (queue_at a) (w + 4398046511104) (omega arith) in omega arith) refl refl refl refl _
@@ -280,7 +280,7 @@ module _ (sys : System) (words : List ℕ) (views : List View) (holds : Holds sy
         (λ b. bump-many a 1 0 b v.serves)
         (serves-home now a 1 0 t v u refl (omega arith) (omega arith) one refl (λ b. omega arith)
         (λ b. let c = records-logged (is_lifo b) r v.logs own-some in let z = ap (λ (x : Item). b2n (lifo_on b x.of x.body)) says in let g = ap b2n (eqb-swap a b) in omega arith)
-        (λ b. let c = records-logged (is_took b) r v.logs own-some in let z = ap (λ (x : Item). b2n (took_on b x.of x.body)) says in let g = same-either (eqb b a) in omega arith)
+        (λ b. let c = records-logged (is_take_of b) r v.logs own-some in let z = ap (λ (x : Item). b2n (took_on b x.of x.body)) says in let g = same-either (eqb b a) in omega arith)
         (omega arith) own.room (holds.queues.home id v at_id))
         (λ y z ne there o. serves-else now a t z (not-others serves y z ne there) o))
         (omega arith) (let x = high-mark (queue_at a) w (omega arith) in let y = high-mark (queue_at a) (w + 2097152) (omega arith) in omega arith) refl refl refl refl _

@@ -10,10 +10,10 @@ use Rattle.qp_model.specs.declared.systems.System.{System}
 use Rattle.qp_model.specs.Line.{Line}
 use Rattle.qp_model.specs.Sites.{ring_of}
 use Rattle.qp_model.specs.WordLaw.{is_object}
-use Rattle.qp_table.specs.Counting.{Each, total, many, without, upto}
+use Rattle.qp_table.specs.Counting.{Each, sum_over, many, without, upto}
 use Rattle.qp_table.specs.Now.{Now, at, with_line}
-use Rattle.qp_table.specs.Rule.{cell_at, is_lifo, is_took, records, Served, is_ref, is_entry, Tokens, InLine, Items, is_item, is_place, on_queue, is_serve, Queue, Serves, Queues}
-use Rattle.qp_table.specs.After.{spent, gained, place, bump}
+use Rattle.qp_table.specs.Rule.{cell_at, is_lifo, is_take_of, records, Served, is_ref, is_entry, Tokens, InLine, Items, is_item, is_place, on_queue, is_serve, QueueCells, Serves, Queues}
+use Rattle.qp_table.specs.After.{hands_without, gained, place, bump}
 use Rattle.qp_table.specs.declared.view.SeatLog.{SeatLog}
 use Rattle.qp_table.specs.declared.view.CellPlace.{CellPlace}
 use Rattle.qp_table.specs.declared.view.Serve.{Serve}
@@ -54,7 +54,7 @@ tokens-line sys views now id v u at_id tokens a inside s moved fresh used =
 static-ref : (p b k : ℕ) (e : Entry) → 0 < p → e.pool ≡ 0 → is_ref p b k e ≡ false
 static-ref p b k e pos z = and_left (eqb e.pool p && eqb e.block b) (eqb e.name k) (and_left (eqb e.pool p) (eqb e.block b) (ne_eqb e.pool p (λ q. absurd (omega arith))))
 
-pub spent-many : (p b k : ℕ) (e : Entry) (hands : List Entry) → 0 < p → (0 < e.pool → 0 < many (is_entry e) hands) → many (is_ref p b k) (spent e hands) + b2n (is_ref p b k e) ≡ many (is_ref p b k) hands
+pub spent-many : (p b k : ℕ) (e : Entry) (hands : List Entry) → 0 < p → (0 < e.pool → 0 < many (is_entry e) hands) → many (is_ref p b k) (hands_without e hands) + b2n (is_ref p b k e) ≡ many (is_ref p b k) hands
 spent-many p b k e hands pos own = dite (ℕ_discrete e.pool 0)
     (λ z. rw (eq-eqb e.pool 0 z) (let s = ap b2n (static-ref p b k e pos z) in omega arith))
     (λ n. rw (ne_eqb e.pool 0 n) (many-without (is_entry e) (is_ref p b k) (is_ref p b k e) (λ x h. ap (is_ref p b k) (entry-is e x h)) hands (own (omega arith))))
@@ -95,7 +95,7 @@ module _ (sys : System) (words after : List ℕ) (views : List View) (now : Now)
   abbrev next : Now
   next = with_line now a s
 
-  pub queues-one : Queue sys (ring_of sys a + 1) after a s is → ((b j : ℕ) → b ≢ a → j < 256 → get_or after (cell_at b j) 0 ≡ get_or words (cell_at b j) 0)
+  pub queues-one : QueueCells sys (ring_of sys a + 1) after a s is → ((b j : ℕ) → b ≢ a → j < 256 → get_or after (cell_at b j) 0 ≡ get_or words (cell_at b j) 0)
       → ((j : ℕ) (e : Entry) → many (is_place a j e) u.claims + many (is_item 0 j e) (items a) ≡ many (is_place a j e) v.claims + many (is_item 0 j e) is)
       → ((b j : ℕ) (e : Entry) → b ≢ a → many (is_place b j e) u.claims ≡ many (is_place b j e) v.claims)
       → ((j : ℕ) (e : Entry) → many (is_place a j e) u.takes + many (is_item 2 j e) (items a) ≡ many (is_place a j e) v.takes + many (is_item 2 j e) is)
@@ -105,8 +105,8 @@ module _ (sys : System) (words after : List ℕ) (views : List View) (now : Now)
   queues-one queue stay claims claims_else takes takes_else serves mine others =
       queues-set sys words after views now next items (at a is items) id v u at_id queues
       (λ b h. dite (ℕ_discrete b a)
-      (λ e. subst (λ z. Queue sys (ring_of sys z + 1) after z (next.line z) (at a is items z)) (sym e) (subst (λ (x : Line × List InLine). Queue sys (ring_of sys a + 1) after a x.0 x.1) (λ i. (sym (at-here a s now.line) i, sym (at-here a is items) i)) queue))
-      (λ n. subst (λ (x : Line × List InLine). Queue sys (ring_of sys b + 1) after b x.0 x.1) (λ i. (sym (at-else a s now.line b n) i, sym (at-else a is items b n) i)) (queue-same sys (ring_of sys b + 1) words after b (now.line b) (items b) (λ j l. stay b j n l) (queues.queue b h))))
+      (λ e. subst (λ z. QueueCells sys (ring_of sys z + 1) after z (next.line z) (at a is items z)) (sym e) (subst (λ (x : Line × List InLine). QueueCells sys (ring_of sys a + 1) after a x.0 x.1) (λ i. (sym (at-here a s now.line) i, sym (at-here a is items) i)) queue))
+      (λ n. subst (λ (x : Line × List InLine). QueueCells sys (ring_of sys b + 1) after b x.0 x.1) (λ i. (sym (at-else a s now.line b n) i, sym (at-else a is items b n) i)) (queue-same sys (ring_of sys b + 1) words after b (now.line b) (items b) (λ j l. stay b j n l) (queues.queue b h))))
       (λ b no. let n : b ≢ a = (λ e. let z : is_object sys a ≡ false = ap (is_object sys) (sym e) ∙ no in let w : true ≡ false = sym object ∙ z in true≢false w) in let o = queues.none b no in
       (at-else a is items b n ∙ o.0, ap (λ (l : Line). l.entries) (at-else a s now.line b n) ∙ o.1))
       (λ b j e. at-each (λ b xs. many (is_place b j e) u.claims + many (is_item 0 j e) (items b) ≡ many (is_place b j e) v.claims + many (is_item 0 j e) xs) a is items (claims j e) (λ b n. ap (λ z. z + many (is_item 0 j e) (items b)) (claims_else b j e n)) b)
@@ -160,26 +160,26 @@ bump-many a l m b (x ∷ xs) = go (eqb x.object a) (bump-many a l m b xs)
     go true h = ap (λ z. cond {A = ℕ} (eqb x.object b) 1 0 + z) h
     go false h = ap (λ z. cond {A = ℕ} (eqb x.object b) 1 0 + z) h
 
-bump-total : (a l m : ℕ) (xs : List Serve) → many (is_serve a) xs ≤ 1 → total (λ (x : Serve). x.lifos + x.takes) (bump a l m xs) ≤ total (λ (x : Serve). x.lifos + x.takes) xs + (l + m)
+bump-total : (a l m : ℕ) (xs : List Serve) → many (is_serve a) xs ≤ 1 → sum_over (λ (x : Serve). x.lifos + x.takes) (bump a l m xs) ≤ sum_over (λ (x : Serve). x.lifos + x.takes) xs + (l + m)
 bump-total a l m [] h = omega arith
 bump-total a l m (x ∷ xs) h = go (eqb x.object a) (bump-total a l m xs) (bump-none xs) h
   where
-    bump-none : (ys : List Serve) → many (is_serve a) ys ≡ 0 → total (λ (x : Serve). x.lifos + x.takes) (bump a l m ys) ≡ total (λ (x : Serve). x.lifos + x.takes) ys
+    bump-none : (ys : List Serve) → many (is_serve a) ys ≡ 0 → sum_over (λ (x : Serve). x.lifos + x.takes) (bump a l m ys) ≡ sum_over (λ (x : Serve). x.lifos + x.takes) ys
     bump-none [] e = refl
     bump-none (y ∷ ys) e = step (eqb y.object a) (bump-none ys) e
       where
-        step : (t : Bool) → (many (is_serve a) ys ≡ 0 → total (λ (x : Serve). x.lifos + x.takes) (bump a l m ys) ≡ total (λ (x : Serve). x.lifos + x.takes) ys) → cond {A = ℕ} t 1 0 + many (is_serve a) ys ≡ 0
-            → total (λ (x : Serve). x.lifos + x.takes) (cond t (record y { lifos = y.lifos + l; takes = y.takes + m }) y ∷ bump a l m ys) ≡ total (λ (x : Serve). x.lifos + x.takes) (y ∷ ys)
+        step : (t : Bool) → (many (is_serve a) ys ≡ 0 → sum_over (λ (x : Serve). x.lifos + x.takes) (bump a l m ys) ≡ sum_over (λ (x : Serve). x.lifos + x.takes) ys) → cond {A = ℕ} t 1 0 + many (is_serve a) ys ≡ 0
+            → sum_over (λ (x : Serve). x.lifos + x.takes) (cond t (record y { lifos = y.lifos + l; takes = y.takes + m }) y ∷ bump a l m ys) ≡ sum_over (λ (x : Serve). x.lifos + x.takes) (y ∷ ys)
         step true r z = absurd (omega arith)
         step false r z = let q = r (omega arith) in omega arith
 
-    go : (t : Bool) → (many (is_serve a) xs ≤ 1 → total (λ (x : Serve). x.lifos + x.takes) (bump a l m xs) ≤ total (λ (x : Serve). x.lifos + x.takes) xs + (l + m))
-        → (many (is_serve a) xs ≡ 0 → total (λ (x : Serve). x.lifos + x.takes) (bump a l m xs) ≡ total (λ (x : Serve). x.lifos + x.takes) xs) → cond {A = ℕ} t 1 0 + many (is_serve a) xs ≤ 1
-        → total (λ (x : Serve). x.lifos + x.takes) (cond t (record x { lifos = x.lifos + l; takes = x.takes + m }) x ∷ bump a l m xs) ≤ total (λ (x : Serve). x.lifos + x.takes) (x ∷ xs) + (l + m)
+    go : (t : Bool) → (many (is_serve a) xs ≤ 1 → sum_over (λ (x : Serve). x.lifos + x.takes) (bump a l m xs) ≤ sum_over (λ (x : Serve). x.lifos + x.takes) xs + (l + m))
+        → (many (is_serve a) xs ≡ 0 → sum_over (λ (x : Serve). x.lifos + x.takes) (bump a l m xs) ≡ sum_over (λ (x : Serve). x.lifos + x.takes) xs) → cond {A = ℕ} t 1 0 + many (is_serve a) xs ≤ 1
+        → sum_over (λ (x : Serve). x.lifos + x.takes) (cond t (record x { lifos = x.lifos + l; takes = x.takes + m }) x ∷ bump a l m xs) ≤ sum_over (λ (x : Serve). x.lifos + x.takes) (x ∷ xs) + (l + m)
     go true r still z = let q = still (omega arith) in omega arith
     go false r still z = let q = r (omega arith) in omega arith
 
-each-total : (xs : List Serve) (P : Serve → Type 0) → ((x : Serve) → x.lifos + x.takes ≤ total (λ (x : Serve). x.lifos + x.takes) xs → P x) → Each P xs
+each-total : (xs : List Serve) (P : Serve → Type 0) → ((x : Serve) → x.lifos + x.takes ≤ sum_over (λ (x : Serve). x.lifos + x.takes) xs → P x) → Each P xs
 each-total [] P f = tt
 each-total (x ∷ xs) P f = (f x (omega arith), each-total xs P (λ y l. f y (omega arith)))
 
@@ -189,8 +189,8 @@ gain a b n = cond (eqb b a) n 0
 
 -- the lane that serves the changed queue
 pub serves-home : (now : Now) (a l m : ℕ) (s : Line) (v u : View) → s.l ≡ (now.line a).l + l → s.m ≡ (now.line a).m + m → l + m ≤ 1 → many (is_serve a) v.serves ≡ 1 → u.serves ≡ bump a l m v.serves → ((b : ℕ) → many (on_queue b) u.takes ≤ many (on_queue b) v.takes)
-    → ((b : ℕ) → records (is_lifo b) u.logs ≡ records (is_lifo b) v.logs + gain a b l) → ((b : ℕ) → records (is_took b) u.logs ≡ records (is_took b) v.logs + gain a b m)
-    → total (λ (g : SeatLog). length g.recs) v.logs + (l + m) ≤ total (λ (g : SeatLog). length g.recs) u.logs → total (λ (g : SeatLog). length g.recs) v.logs < 1000001 → Serves now v → Serves (with_line now a s) u
+    → ((b : ℕ) → records (is_lifo b) u.logs ≡ records (is_lifo b) v.logs + gain a b l) → ((b : ℕ) → records (is_take_of b) u.logs ≡ records (is_take_of b) v.logs + gain a b m)
+    → sum_over (λ (g : SeatLog). length g.recs) v.logs + (l + m) ≤ sum_over (λ (g : SeatLog). length g.recs) u.logs → sum_over (λ (g : SeatLog). length g.recs) v.logs < 1000001 → Serves now v → Serves (with_line now a s) u
 serves-home now a l m s v u ls ms one single serves takes lifo_records take_records more room o =
     let low = o.within in record {
       counts = rw serves (bumped v.serves (each-both (λ (x : Serve). x.lifos + x.takes ≤ 1000000) (Served now v.logs) (λ (x : Serve). (x.lifos + x.takes ≤ 1000000) × Served now v.logs x) (λ x p q. (p, q)) v.serves

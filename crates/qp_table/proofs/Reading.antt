@@ -24,7 +24,7 @@ use Rattle.qp_model.specs.WordLaw.{is_block}
 use Rattle.qp_model.proofs.LifeLemmas.{free-out}
 use Rattle.qp_table.specs.Counting.{Each, many}
 use Rattle.qp_table.specs.Now.{content_by, content_from}
-use Rattle.qp_table.specs.Rule.{event_word_at, is_ref, is_entry, event_in, HasEvent, IsContent, IsKnown, Holds}
+use Rattle.qp_table.specs.Rule.{event_word_at, is_ref, is_entry, event_of_content, HasEvent, IsContent, IsKnown, Holds}
 use Rattle.qp_table.specs.After.{ref}
 use Rattle.qp_table.specs.declared.view.Content.{Content}
 use Rattle.qp_table.specs.declared.view.View.{View}
@@ -82,27 +82,27 @@ module _ (sys : System) (words : List ℕ) (views : List View) (holds : Holds sy
     taken : has (holds.now.pool p).free b ≡ false
     taken = (standing sys views holds.now id v at holds.tokens p b k there).1
 
-    last-is : last_given b k None (hist (word.Pool p) (all_items holds.lanes)) ≡ Some (event_in (holds.now.content p b))
+    last-is : last_given b k None (hist (word.Pool p) (all_items holds.lanes)) ≡ Some (event_of_content (holds.now.content p b))
     last-is = tracks-first b k (hist (word.Pool p) (all_items holds.lanes)) (out-is p b block taken)
         (let e = holds.leaves.edge p b block in let a = above-at (holds.now.edge p b) k (holds.now.refs p b).names (holds.tokens.named p b) there in omega arith)
-        ∙ ap (λ (c : List ℕ). Some (event_in c)) (holds.leaves.content p b block)
+        ∙ ap (λ (c : List ℕ). Some (event_of_content c)) (holds.leaves.content p b block)
 
     -- what was read of the entry is the block's content
-    known-is : (qs : List Content) → Each (IsKnown sys holds.lanes holds.now) qs → list_any (λ (q : Content). is_entry (ref p b k) q.entry) qs ≡ true → event_known qs (ref p b k) ≡ event_in (holds.now.content p b)
+    known-is : (qs : List Content) → Each (IsKnown sys holds.lanes holds.now) qs → list_any (λ (q : Content). is_entry (ref p b k) q.entry) qs ≡ true → event_known qs (ref p b k) ≡ event_of_content (holds.now.content p b)
     known-is [] all h = absurd (cc)
     known-is (q ∷ qs) all h = go (is_entry (ref p b k) q.entry) refl h (known-is qs all.1)
       where
         go : (t : Bool) → is_entry (ref p b k) q.entry ≡ t → (t || list_any (λ (q : Content). is_entry (ref p b k) q.entry) qs) ≡ true
-            → (list_any (λ (q : Content). is_entry (ref p b k) q.entry) qs ≡ true → event_known qs (ref p b k) ≡ event_in (holds.now.content p b)) → cond {A = Event} t (event_in q.event) (event_known qs (ref p b k)) ≡ event_in (holds.now.content p b)
+            → (list_any (λ (q : Content). is_entry (ref p b k) q.entry) qs ≡ true → event_known qs (ref p b k) ≡ event_of_content (holds.now.content p b)) → cond {A = Event} t (event_of_content q.event) (event_known qs (ref p b k)) ≡ event_of_content (holds.now.content p b)
         go true is h rest =
             let t = and_parts (eqb q.entry.pool p && eqb q.entry.block b) (eqb q.entry.name k) is in let u = and_parts (eqb q.entry.pool p) (eqb q.entry.block b) t.0 in
             let ep = eqb-true q.entry.pool p u.0 in let eb = eqb-true q.entry.block b u.1 in let ek = eqb-true q.entry.name k t.1 in
             let given = all.0.given (omega arith) in
-            let same : last_given b k None (hist (word.Pool p) (all_items holds.lanes)) ≡ Some (event_in q.event) = subst (λ (z : ℕ × ℕ × ℕ). last_given z.1 z.2 None (hist (word.Pool z.0) (all_items holds.lanes)) ≡ Some (event_in q.event)) (λ i. (ep i, eb i, ek i)) given in
-            let both : Some (event_in q.event) ≡ Some (event_in (holds.now.content p b)) = sym same ∙ last-is in cc
+            let same : last_given b k None (hist (word.Pool p) (all_items holds.lanes)) ≡ Some (event_of_content q.event) = subst (λ (z : ℕ × ℕ × ℕ). last_given z.1 z.2 None (hist (word.Pool z.0) (all_items holds.lanes)) ≡ Some (event_of_content q.event)) (λ i. (ep i, eb i, ek i)) given in
+            let both : Some (event_of_content q.event) ≡ Some (event_of_content (holds.now.content p b)) = sym same ∙ last-is in cc
         go false is h rest = rest h
 
-    seen-is : IsTrue (has_content v.contents (ref p b k)) → event_seen v.contents (ref p b k) ≡ event_in (holds.now.content p b)
+    seen-is : IsTrue (has_content v.contents (ref p b k)) → event_seen v.contents (ref p b k) ≡ event_of_content (holds.now.content p b)
     unfolding event_seen
     seen-is h =
         let off : eqb p 0 ≡ false = ne_eqb p 0 (λ e. absurd (omega arith)) in
@@ -116,7 +116,7 @@ module _ (sys : System) (words : List ℕ) (views : List View) (holds : Holds sy
     word-is h j = subst (λ (e : Event). IsContent sys e.sig e.pars × (j ≤ length e.pars → get_or words (event_word_at p b j) 0 ≡ get_or (e.sig ∷ e.pars) j 0)) (sym (seen-is h))
         (go (holds.now.content p b) refl (content-some p b block taken) (holds.events.event p b block))
       where
-        go : (c : List ℕ) → holds.now.content p b ≡ c → 0 < length c → HasEvent sys c → IsContent sys (event_in c).sig (event_in c).pars × (j ≤ length (event_in c).pars → get_or words (event_word_at p b j) 0 ≡ get_or ((event_in c).sig ∷ (event_in c).pars) j 0)
+        go : (c : List ℕ) → holds.now.content p b ≡ c → 0 < length c → HasEvent sys c → IsContent sys (event_of_content c).sig (event_of_content c).pars × (j ≤ length (event_of_content c).pars → get_or words (event_word_at p b j) 0 ≡ get_or ((event_of_content c).sig ∷ (event_of_content c).pars) j 0)
         go [] is some_words event = absurd (omega arith)
         go (s ∷ ps) is some_words event = (event, λ le. reads sys words views holds id v at p b block k j mine (let l = ap length is in omega arith) ∙ ap (λ t. get_or t j 0) is)
 

@@ -3,7 +3,7 @@ use Rattle.std.proofs.Common.{◌≡◌, ℕ, ◌+◌, ◌*◌, ◌/◌, ◌%◌
 use Rattle.qp_model.specs.declared.systems.System.{System}
 use Rattle.qp_table.specs.Counting.{Each, many}
 use Rattle.qp_table.specs.Rule.{block_at, mark_in, fills_of, is_spot, is_ref, Holds}
-use Rattle.qp_table.specs.After.{rec_of, began, doubled, dropped, Steps, HasRoom}
+use Rattle.qp_table.specs.After.{rec_of, began, doubled, reference_dropped, WordSteps, HasRoom}
 use Rattle.qp_table.specs.declared.view.Glance.{Glance}
 use Rattle.qp_table.specs.declared.view.View.{View}
 use Rattle.qp_table.proofs.Counting.{each-map}
@@ -21,7 +21,7 @@ seen-below words was w k seen is e = each-map (SawFrom words was) (λ (g : Glanc
     (λ g s same. let q = subst (λ z. mark_in z g.value ≤ mark_in z (get_or words z 0)) same s.1 in omega arith) seen e
 
 module _ (sys : System) (id : ℕ) (v : View) (own : HasRoom v) (o p b : ℕ) where
-  pub drop-steps : (r : ℕ) → 0 < p → 0 < many (is_ref p b r) v.hands → Steps sys id v (block_at p b) (λ n. (n + 4294967295) % 18446744073709551616) (Dropped o p b r v)
+  pub drop-steps : (r : ℕ) → 0 < p → 0 < many (is_ref p b r) v.hands → WordSteps sys id v (block_at p b) (λ n. (n + 4294967295) % 18446744073709551616) (Dropped o p b r v)
   drop-steps r pos mine words views holds at_id small =
       let there = held-stands sys views holds.now id v at_id holds.tokens p b r pos mine in let alone = standing sys views holds.now id v at_id holds.tokens p b r there in
       let n = get_or words (block_at p b) 0 in
@@ -30,15 +30,15 @@ module _ (sys : System) (id : ℕ) (v : View) (own : HasRoom v) (o p b : ℕ) wh
       let c = dec-counts r (holds.now.refs p b).names there in
       let z = holds.fitting.pools p b alone.0 in let z1 = z.1 in let z2 = z.2 in
       let mk : mark_in (block_at p b) n ≡ n / 4294967296 = ap (λ (t : Bool). cond {A = ℕ} t (n / 4294967296) (n % 2097152 + n / 2097152 % 2097152 + n / 4398046511104)) (lt-ltb (block_at p b) 4224 (omega arith)) in (
-        dropped v (block_at p b) (n + 4294967295) (rec_of 18 o (p ∷ b ∷ (n / 4294967296) ∷ r ∷ [])) p b r,
-        subst (λ (y : ℕ). Holds sys (set words (block_at p b) y) (set views id (dropped v (block_at p b) (n + 4294967295) (rec_of 18 o (p ∷ b ∷ (n / 4294967296) ∷ r ∷ [])) p b r))) (sym m) (drops sys words views holds id v at_id own o p b alone.0 r (n + 4294967295) _ (dec-says o p b (n / 4294967296) r) mine refl),
+        reference_dropped v (block_at p b) (n + 4294967295) (rec_of 18 o (p ∷ b ∷ (n / 4294967296) ∷ r ∷ [])) p b r,
+        subst (λ (y : ℕ). Holds sys (set words (block_at p b) y) (set views id (reference_dropped v (block_at p b) (n + 4294967295) (rec_of 18 o (p ∷ b ∷ (n / 4294967296) ∷ r ∷ [])) p b r))) (sym m) (drops sys words views holds id v at_id own o p b alone.0 r (n + 4294967295) _ (dec-says o p b (n / 4294967296) r) mine refl),
         (refl, omega arith, seen-below words holds.was (block_at p b) (n / 4294967296) v.seen mk (holds.seen.each id v at_id), omega arith),
       )
 
 -- The other additions: the first reference, another, and a block that comes back
 module _ (sys : System) (id : ℕ) (v : View) (own : HasRoom v) (o p b : ℕ) where
   pub begin-steps : 0 < many (is_spot p b) v.fresh → many (fills_of p b) v.fills ≡ 0
-      → Steps sys id v (block_at p b) (λ n. (n + 4294967297) % 18446744073709551616) (λ n u. u ≡ began v (block_at p b) (n + 4294967297) (rec_of 17 o (p ∷ b ∷ (n / 4294967296) ∷ [])) p b (n / 4294967296))
+      → WordSteps sys id v (block_at p b) (λ n. (n + 4294967297) % 18446744073709551616) (λ n u. u ≡ began v (block_at p b) (n + 4294967297) (rec_of 17 o (p ∷ b ∷ (n / 4294967296) ∷ [])) p b (n / 4294967296))
   begin-steps mine written words views holds at_id small =
       let alone = fresh-alone sys views holds.now id v at_id holds.tokens p b mine in
       let n = get_or words (block_at p b) 0 in
@@ -48,7 +48,7 @@ module _ (sys : System) (id : ℕ) (v : View) (own : HasRoom v) (o p b : ℕ) wh
         refl,
       )
 
-  pub double-steps : (r : ℕ) → 0 < p → 0 < many (is_ref p b r) v.hands → Steps sys id v (block_at p b) (λ n. (n + 4294967297) % 18446744073709551616) (λ n u. u ≡ doubled v (block_at p b) (n + 4294967297) (rec_of 17 o (p ∷ b ∷ (n / 4294967296) ∷ [])) p b (n / 4294967296))
+  pub double-steps : (r : ℕ) → 0 < p → 0 < many (is_ref p b r) v.hands → WordSteps sys id v (block_at p b) (λ n. (n + 4294967297) % 18446744073709551616) (λ n u. u ≡ doubled v (block_at p b) (n + 4294967297) (rec_of 17 o (p ∷ b ∷ (n / 4294967296) ∷ [])) p b (n / 4294967296))
   double-steps r pos mine words views holds at_id small =
       let there = held-stands sys views holds.now id v at_id holds.tokens p b r pos mine in let alone = standing sys views holds.now id v at_id holds.tokens p b r there in
       let n = get_or words (block_at p b) 0 in

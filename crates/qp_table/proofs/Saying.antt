@@ -11,7 +11,7 @@ use Rattle.qp_table.specs.TwoTables.{on_table}
 use Rattle.qp_table.specs.After.{logged, HasRoom}
 use Rattle.qp_table.specs.declared.view.SeatLog.{SeatLog}
 use Rattle.qp_table.specs.declared.view.View.{View}
-use Rattle.qp_table.specs.Lane.{own_of_logs, own_recs, on_table_of, tell, told_as, event_seen, lane_number, first_number}
+use Rattle.qp_table.specs.Lane.{own_of_logs, own_recs, on_table_of, tell_lane, told_as, event_seen, lane_number, first_number}
 
 length-map : (f : Rec → Item) (xs : List Rec) → length (map f xs) ≡ length xs
 length-map f [] = refl
@@ -86,8 +86,8 @@ unfolding own_recs
 same-own v u e = ap own_of_logs e
 
 -- what is told, with a record more
-pub tell-more : (ev : Entry → Event) (recs : List Rec) (ks : List ℕ) (r : Rec) (k : ℕ) → length ks ≡ length recs → tell ev (recs ++ r ∷ []) (ks ++ k ∷ []) ≡ tell ev recs ks ++ told_as ev (item_of r) k ∷ []
-unfolding tell
+pub tell-more : (ev : Entry → Event) (recs : List Rec) (ks : List ℕ) (r : Rec) (k : ℕ) → length ks ≡ length recs → tell_lane ev (recs ++ r ∷ []) (ks ++ k ∷ []) ≡ tell_lane ev recs ks ++ told_as ev (item_of r) k ∷ []
+unfolding tell_lane
 tell-more ev [] [] r k e = refl
 tell-more ev [] (j ∷ ks) r k e = absurd (omega arith)
 tell-more ev (x ∷ recs) [] r k e = absurd (omega arith)
@@ -95,5 +95,5 @@ tell-more ev (x ∷ recs) (j ∷ ks) r k e = ap (λ z. told_as ev (item_of x) j 
 
 -- the same, by what the record says, where nothing else was read of entries
 pub told-more : (v u : View) (recs : List Rec) (ks : List ℕ) (r : Rec) (k : ℕ) (i : Item) (t : ToldItem) → u.contents ≡ v.contents → length ks ≡ length recs → item_of r ≡ i → told_as (event_seen v.contents) i k ≡ t
-    → tell (event_seen u.contents) (recs ++ r ∷ []) (ks ++ k ∷ []) ≡ tell (event_seen v.contents) recs ks ++ t ∷ []
-told-more v u recs ks r k i t contents beside is told = ap (λ qs. tell (event_seen qs) (recs ++ r ∷ []) (ks ++ k ∷ [])) contents ∙ (tell-more (event_seen v.contents) recs ks r k beside ∙ ap (λ x. tell (event_seen v.contents) recs ks ++ x ∷ []) (ap (λ x. told_as (event_seen v.contents) x k) is ∙ told))
+    → tell_lane (event_seen u.contents) (recs ++ r ∷ []) (ks ++ k ∷ []) ≡ tell_lane (event_seen v.contents) recs ks ++ t ∷ []
+told-more v u recs ks r k i t contents beside is told = ap (λ qs. tell_lane (event_seen qs) (recs ++ r ∷ []) (ks ++ k ∷ [])) contents ∙ (tell-more (event_seen v.contents) recs ks r k beside ∙ ap (λ x. tell_lane (event_seen v.contents) recs ks ++ x ∷ []) (ap (λ x. told_as (event_seen v.contents) x k) is ∙ told))

@@ -6,7 +6,7 @@ use Rattle.qp_model.specs.declared.record.Rec.{Rec}
 use Rattle.qp_model.specs.declared.systems.System.{System}
 use Rattle.qp_model.specs.Record.{Item}
 use Rattle.qp_table.specs.Counting.{Each}
-use Rattle.qp_table.specs.Now.{Now, at_two, Leaves}
+use Rattle.qp_table.specs.Now.{Now, at_two, LeavesWords}
 use Rattle.qp_table.specs.Rule.{Shows, Logs, Idle, AllIdle, Tokens, Events, Items, Queues, Seen, IsKnown, AllKnown, Holds, mark_in}
 use Rattle.qp_table.specs.After.{logged}
 use Rattle.qp_table.specs.declared.view.SeatLog.{SeatLog}
@@ -43,8 +43,8 @@ module _ (sys : System) (words : List ℕ) (views : List View) (holds : Holds sy
   more_lanes r = lane.before ++ (g.recs ++ r ∷ []) ∷ lane.behind
 
   -- what the lanes leave, with this lane in its place
-  pub leaves-here : Leaves sys (lane.before ++ g.recs ∷ lane.behind) holds.now
-  leaves-here = subst (λ l. Leaves sys l holds.now) lane.is holds.leaves
+  pub leaves-here : LeavesWords sys (lane.before ++ g.recs ∷ lane.behind) holds.now
+  leaves-here = subst (λ l. LeavesWords sys l holds.now) lane.is holds.leaves
 
   logs-more : (r : Rec) (u : View) → u.logs ≡ logged r v.logs → u.lane_numbers ≡ v.lane_numbers → Logs (more_lanes r) (set views id u)
   logs-more r u logs rest = logs-noted lane.before g.recs lane.behind views id v u g gs r (subst (λ l. Logs l views) lane.is holds.logs) at_id head (sym lane.place) lane.inside room logs rest
@@ -62,7 +62,7 @@ module _ (sys : System) (words : List ℕ) (views : List View) (holds : Holds sy
       fits-set (λ z. Each (IsKnown sys holds.lanes holds.now) z.contents) (λ z. Each (IsKnown sys (more_lanes r) next) z.contents) views id u (λ j z ne there o. keep z.contents o) (rw same (keep v.contents (holds.contents id v at_id))) holds.contents
 
   -- a step that draws a number on the word w, which then shows n
-  pub drawn-step : (w n : ℕ) (r : Rec) (next : Now) (items : Items) (u : View) → Leaves sys (more_lanes r) next → Shows sys (set words w n) next → Tokens sys (set views id u) next → Events sys (set words w n) (set views id u) next → Queues sys (set words w n) (set views id u) next items
+  pub drawn-step : (w n : ℕ) (r : Rec) (next : Now) (items : Items) (u : View) → LeavesWords sys (more_lanes r) next → Shows sys (set words w n) next → Tokens sys (set views id u) next → Events sys (set words w n) (set views id u) next → Queues sys (set words w n) (set views id u) next items
       → w < 4488 → mark_in w (get_or words w 0) < mark_in w n → u.logs ≡ logged r v.logs → u.lane_numbers ≡ v.lane_numbers → u.seen ≡ v.seen ++ record { word = w; value = n } ∷ [] → u.contents ≡ v.contents → (i : Item) → Grows sys (lane.before ++ g.recs ∷ lane.behind) (more_lanes r) holds.now next i → Holds sys (set words w n) (set views id u)
   drawn-step w n r next items u leaves shows tokens events queues low more logs rest seen contents i grows = let wd = holds.shows.wide in record {
     lanes = more_lanes r;
@@ -83,7 +83,7 @@ module _ (sys : System) (words : List ℕ) (views : List View) (holds : Holds sy
   }
 
   -- a look at the word w, with a record of what it shows
-  pub shown-step : (w : ℕ) (r : Rec) (u : View) → Leaves sys (more_lanes r) holds.now → Tokens sys (set views id u) holds.now → Events sys words (set views id u) holds.now → Queues sys words (set views id u) holds.now holds.items
+  pub shown-step : (w : ℕ) (r : Rec) (u : View) → LeavesWords sys (more_lanes r) holds.now → Tokens sys (set views id u) holds.now → Events sys words (set views id u) holds.now → Queues sys words (set views id u) holds.now holds.items
       → w < 4488 → u.logs ≡ logged r v.logs → u.lane_numbers ≡ v.lane_numbers → u.seen ≡ v.seen ++ record { word = w; value = get_or words w 0 } ∷ [] → u.contents ≡ v.contents → (i : Item) → Grows sys (lane.before ++ g.recs ∷ lane.behind) (more_lanes r) holds.now holds.now i → Holds sys words (set views id u)
   shown-step w r u leaves tokens events queues low logs rest seen contents i grows = record {
     lanes = more_lanes r;

@@ -20,10 +20,10 @@ use Rattle.qp_model.specs.Lists.{without_one, without_all, with_number, is_first
 use Rattle.qp_model.specs.Sites.{blocks_of}
 use Rattle.qp_model.specs.WordLaw.{is_pool, is_block}
 use Rattle.qp_model.proofs.LifeLemmas.{edge-within}
-use Rattle.qp_table.specs.Counting.{Each, total, many, without}
-use Rattle.qp_table.specs.Now.{Now, with_refs, Leaves}
+use Rattle.qp_table.specs.Counting.{Each, sum_over, many, without}
+use Rattle.qp_table.specs.Now.{Now, with_refs, LeavesWords}
 use Rattle.qp_table.specs.Rule.{pool_at, block_at, cell_at, fills_of, gives_of, is_spot, is_spot_at, is_ref, lives, refs_value, bits_value, IsContent, Tells, Beside, Tokens, Holds}
-use Rattle.qp_table.specs.After.{rec_of, spot, ref, logged, began, doubled, dropped, gave, put_back, HasRoom}
+use Rattle.qp_table.specs.After.{rec_of, spot, ref, logged, began, doubled, reference_dropped, gave, put_back, HasRoom}
 use Rattle.qp_table.specs.declared.view.SeatLog.{SeatLog}
 use Rattle.qp_table.specs.declared.view.PendingGive.{PendingGive}
 use Rattle.qp_table.specs.declared.view.View.{View}
@@ -116,7 +116,7 @@ module _ (sys : System) (words : List ℕ) (views : List View) (holds : Holds sy
   now = holds.now
 
   few : length own.own.recs ≤ 1000000
-  few = let r : total (λ (g : SeatLog). length g.recs) (own.own ∷ own.others) < 1000001 = subst (λ (ls : List SeatLog). total (λ (g : SeatLog). length g.recs) ls < 1000001) own.is own.room in omega arith
+  few = let r : sum_over (λ (g : SeatLog). length g.recs) (own.own ∷ own.others) < 1000001 = subst (λ (ls : List SeatLog). sum_over (λ (g : SeatLog). length g.recs) ls < 1000001) own.is own.room in omega arith
 
   abbrev at_lane : Lane holds.lanes own.own
   at_lane = lane sys words views holds id v at_id own.own own.others own.is few
@@ -141,11 +141,11 @@ module _ (sys : System) (words : List ℕ) (views : List View) (holds : Holds sy
     low : block_at p b < 4224
     low = let z = holds.fitting.pools p b block in let z1 = z.1 in let z2 = z.2 in omega arith
 
-    leaves : Leaves sys (at_lane.before ++ own.own.recs ∷ at_lane.behind) now
+    leaves : LeavesWords sys (at_lane.before ++ own.own.recs ∷ at_lane.behind) now
     leaves = leaves-here sys words views holds id v at_id own.own own.others own.is few
 
     -- a step on the block's word, after which it holds s
-    block-step : (n : ℕ) (r : Rec) (s : Refs) (u : View) → Leaves sys (at_lane.before ++ (own.own.recs ++ r ∷ []) ∷ at_lane.behind) (with_refs now p b s) → Tokens sys (set views id u) (with_refs now p b s)
+    block-step : (n : ℕ) (r : Rec) (s : Refs) (u : View) → LeavesWords sys (at_lane.before ++ (own.own.recs ++ r ∷ []) ∷ at_lane.behind) (with_refs now p b s) → Tokens sys (set views id u) (with_refs now p b s)
         → Beside now u → u.fills ≡ v.fills → n ≡ refs_value s → s.count ≡ refs.count + 1 → length s.names ≤ length refs.names + 1
         → u.logs ≡ logged r v.logs → u.lane_numbers ≡ v.lane_numbers → u.seen ≡ v.seen ++ record { word = block_at p b; value = n } ∷ [] → u.claims ≡ v.claims → u.takes ≡ v.takes → u.serves ≡ v.serves → Quiet v u → u.contents ≡ v.contents → (i : Item) → item_of r ≡ i → touch i ≡ Draws (word.Block p b) (suc refs.count)
         → Holds sys (set words (block_at p b) n) (set views id u)
@@ -201,9 +201,9 @@ module _ (sys : System) (words : List ℕ) (views : List View) (holds : Holds sy
 
     -- A reference is dropped
     pub drops : (j n : ℕ) (r : Rec) → item_of r ≡ record { of = o; body = Dec p b (x / 4294967296) j } → 0 < many (is_ref p b j) v.hands → n ≡ x + 4294967295
-        → Holds sys (set words (block_at p b) n) (set views id (dropped v (block_at p b) n r p b j))
+        → Holds sys (set words (block_at p b) n) (set views id (reference_dropped v (block_at p b) n r p b j))
     drops j n r says mine new =
-        let u : View = dropped v (block_at p b) n r p b j in
+        let u : View = reference_dropped v (block_at p b) n r p b j in
         let z = holds.fitting.pools p b block in let there = held-stands sys views now id v at_id holds.tokens p b j z.0 mine in let alone = standing sys views now id v at_id holds.tokens p b j there in
         let e = x-is in let e0 = e.0 in let e1 = e.1 in let e2 = e.2 in let k = x-count in let one = dec-length j refs.names there in let beside = holds.events.beside id v at_id in
         block-step n r (record { count = refs.count + 1; names = without_one j refs.names }) u

@@ -7,9 +7,9 @@ use lib.ListN.{get_elem?}
 use Rattle.atomic_table.proofs.Lists.{at_set}
 use Rattle.qp_model.specs.declared.record.Rec.{Rec}
 use Rattle.qp_model.specs.Record.{Item, item_of}
-use Rattle.qp_table.specs.Counting.{Each, total, many}
+use Rattle.qp_table.specs.Counting.{Each, sum_over, many}
 use Rattle.qp_table.specs.Now.{at_two}
-use Rattle.qp_table.specs.Rule.{mark_in, is_log, is_number, is_lifo, is_took, lifo_on, took_on, records, Logs, Idle, AllIdle, Was, Seen}
+use Rattle.qp_table.specs.Rule.{mark_in, is_log, is_number, is_lifo, is_take_of, lifo_on, took_on, records, Logs, Idle, AllIdle, Was, Seen}
 use Rattle.qp_table.specs.After.{logged}
 use Rattle.qp_table.specs.declared.view.SeatLog.{SeatLog}
 use Rattle.qp_table.specs.declared.view.Glance.{Glance}
@@ -42,14 +42,14 @@ module _ {A : Type 0} where
   each-mid P (y ∷ before) x z behind p e = (e.0, each-mid P before x z behind p e.1)
 
   -- two different ones of a sum
-  pub total-two : (f : A → ℕ) (xs : List A) (i j : ℕ) (v w : A) → get_elem? xs i ≡ some v → get_elem? xs j ≡ some w → i ≢ j → f v + f w ≤ total f xs
+  pub total-two : (f : A → ℕ) (xs : List A) (i j : ℕ) (v w : A) → get_elem? xs i ≡ some v → get_elem? xs j ≡ some w → i ≢ j → f v + f w ≤ sum_over f xs
   total-two f [] i j v w a b ne = absurd (some-ne-none v (sym a))
   total-two f (x ∷ xs) zero zero v w a b ne = absurd (ne refl)
   total-two f (x ∷ xs) zero (suc j) v w a b ne = let s : f x ≡ f v = ap f (some-injective x v a) in let t = total-at f xs j w b in omega arith
   total-two f (x ∷ xs) (suc i) zero v w a b ne = let s : f x ≡ f w = ap f (some-injective x w b) in let t = total-at f xs i v a in omega arith
   total-two f (x ∷ xs) (suc i) (suc j) v w a b ne = let t = total-two f xs i j v w a b (λ e. ne (ap suc e)) in omega arith
 
-pub same-total : (f : View → ℕ) (views : List View) (id : ℕ) (v u : View) → get_elem? views id ≡ some v → f u ≡ f v → total f (set views id u) ≡ total f views
+pub same-total : (f : View → ℕ) (views : List View) (id : ℕ) (v u : View) → get_elem? views id ≡ some v → f u ≡ f v → sum_over f (set views id u) ≡ sum_over f views
 same-total f views id v u at e = let t = total-set f views id v u at in omega arith
 
 -- all views fit still, where one is changed to one that fits
@@ -92,7 +92,7 @@ module _ (before : List (List Rec)) (lane : List Rec) (behind : List (List Rec))
       let top = total-at (λ (z : View). many (is_log (length before)) z.logs) views id v at in
       let mine : some g.recs ≡ some lane = sym (subst (λ (ls : List SeatLog). Each (λ (g : SeatLog). get_elem? (before ++ lane ∷ behind) g.number ≡ some g.recs) ls) head (old.own id v at)).0 ∙ (ap (get_elem? (before ++ lane ∷ behind)) number ∙ mid-here before lane behind) in
       let is_lane : g.recs ≡ lane = some-injective g.recs lane mine in
-      let rests : (k : ℕ) → total (λ (z : View). many (is_number k) z.lane_numbers) (set views id u) ≡ total (λ (z : View). many (is_number k) z.lane_numbers) views = (λ k. same-total (λ (z : View). many (is_number k) z.lane_numbers) views id v u at (ap (many (is_number k)) rest)) in record {
+      let rests : (k : ℕ) → sum_over (λ (z : View). many (is_number k) z.lane_numbers) (set views id u) ≡ sum_over (λ (z : View). many (is_number k) z.lane_numbers) views = (λ k. same-total (λ (z : View). many (is_number k) z.lane_numbers) views id v u at (ap (many (is_number k)) rest)) in record {
         count = mid-length before lane (lane ++ r ∷ []) behind ∙ old.count;
         own = fits-set (Own (before ++ lane ∷ behind)) (Own (before ++ (lane ++ r ∷ []) ∷ behind)) views id u
             (λ j w ne there o. still-there (lane ++ r ∷ []) w.logs (none-logged (length before) w.logs (let t = total-two (λ (z : View). many (is_log (length before)) z.logs) views id j v w at there (λ e. ne (sym e)) in omega arith)) o)
@@ -102,8 +102,8 @@ module _ (before : List (List Rec)) (lane : List Rec) (behind : List (List Rec))
             ))
             old.own;
         once = λ k l. let o = old.once k l in let s = same-total (λ (z : View). many (is_log k) z.logs) views id v u at (ap (many (is_log k)) logs ∙ logged-many k r v.logs) in rw (s, rests k) o;
-        later = λ k l far. let far' : 0 < total (λ (z : View). many (is_number k) z.lane_numbers) views = rw (sym (rests k)) far in
-            mid-else before lane (lane ++ r ∷ []) behind k (λ e. let q : 0 < total (λ (z : View). many (is_number (length before)) z.lane_numbers) views = subst (λ (n : ℕ). 0 < total (λ (z : View). many (is_number n) z.lane_numbers) views) e far' in absurd (omega arith)) ∙ old.later k l far';
+        later = λ k l far. let far' : 0 < sum_over (λ (z : View). many (is_number k) z.lane_numbers) views = rw (sym (rests k)) far in
+            mid-else before lane (lane ++ r ∷ []) behind k (λ e. let q : 0 < sum_over (λ (z : View). many (is_number (length before)) z.lane_numbers) views = subst (λ (n : ℕ). 0 < sum_over (λ (z : View). many (is_number n) z.lane_numbers) views) e far' in absurd (omega arith)) ∙ old.later k l far';
         rights = same-total (λ (z : View). length z.logs + length z.lane_numbers) views id v u at (λ i. (ap length logs ∙ logged-length r v.logs) i + length (rest i)) ∙ old.rights;
         room = each-mid (λ (l : List Rec). length l ≤ 1000001) before lane (lane ++ r ∷ []) behind (let e = length-append lane (r ∷ []) in omega arith) old.room;
       }
@@ -111,7 +111,7 @@ module _ (before : List (List Rec)) (lane : List Rec) (behind : List (List Rec))
 -- a step with no record
 pub logs-kept : (lanes : List (List Rec)) (views : List View) (id : ℕ) (v u : View) → Logs lanes views → get_elem? views id ≡ some v → u.logs ≡ v.logs → u.lane_numbers ≡ v.lane_numbers → Logs lanes (set views id u)
 logs-kept lanes views id v u old at logs rest =
-    let rests : (k : ℕ) → total (λ (z : View). many (is_number k) z.lane_numbers) (set views id u) ≡ total (λ (z : View). many (is_number k) z.lane_numbers) views = (λ k. same-total (λ (z : View). many (is_number k) z.lane_numbers) views id v u at (ap (many (is_number k)) rest)) in record {
+    let rests : (k : ℕ) → sum_over (λ (z : View). many (is_number k) z.lane_numbers) (set views id u) ≡ sum_over (λ (z : View). many (is_number k) z.lane_numbers) views = (λ k. same-total (λ (z : View). many (is_number k) z.lane_numbers) views id v u at (ap (many (is_number k)) rest)) in record {
       count = old.count;
       own = fits-set (λ z. Each (λ (g : SeatLog). get_elem? lanes g.number ≡ some g.recs) z.logs) (λ z. Each (λ (g : SeatLog). get_elem? lanes g.number ≡ some g.recs) z.logs) views id u (λ j w ne there o. o) (rw logs (old.own id v at)) old.own;
       once = λ k l. let o = old.once k l in let s = same-total (λ (z : View). many (is_log k) z.logs) views id v u at (ap (many (is_log k)) logs) in rw (s, rests k) o;
@@ -123,10 +123,10 @@ logs-kept lanes views id v u old at logs rest =
 -- The last-in posts and takes among a view's records stay, and its records grow
 pub record Quiet (v u : View) : Type 0 where
   pub lifos : (a : ℕ) → records (is_lifo a) u.logs ≡ records (is_lifo a) v.logs
-  pub takes : (a : ℕ) → records (is_took a) u.logs ≡ records (is_took a) v.logs
-  pub longer : total (λ (g : SeatLog). length g.recs) v.logs ≤ total (λ (g : SeatLog). length g.recs) u.logs
+  pub takes : (a : ℕ) → records (is_take_of a) u.logs ≡ records (is_take_of a) v.logs
+  pub longer : sum_over (λ (g : SeatLog). length g.recs) v.logs ≤ sum_over (λ (g : SeatLog). length g.recs) u.logs
 
-logs-longer : (r : Rec) (gs : List SeatLog) → total (λ (g : SeatLog). length g.recs) gs ≤ total (λ (g : SeatLog). length g.recs) (logged r gs)
+logs-longer : (r : Rec) (gs : List SeatLog) → sum_over (λ (g : SeatLog). length g.recs) gs ≤ sum_over (λ (g : SeatLog). length g.recs) (logged r gs)
 logs-longer r [] = omega arith
 logs-longer r (g ∷ gs) = omega (arith, length-append g.recs (r ∷ []))
 
@@ -140,13 +140,13 @@ records-quiet t r [] off = refl
 records-quiet t r (g ∷ gs) off = let m = many-snoc t g.recs r in let z = ap (λ (b : Bool). cond {A = ℕ} b 1 0) off in omega arith
 
 pub quiet-same : (v u : View) → u.logs ≡ v.logs → Quiet v u
-quiet-same v u e = record { lifos = λ a. ap (records (is_lifo a)) e; takes = λ a. ap (records (is_took a)) e; longer = rw e (omega arith) }
+quiet-same v u e = record { lifos = λ a. ap (records (is_lifo a)) e; takes = λ a. ap (records (is_take_of a)) e; longer = rw e (omega arith) }
 
 -- a record that is neither
 pub quiet-noted : (r : Rec) (i : Item) (v u : View) → item_of r ≡ i → ((a : ℕ) → lifo_on a i.of i.body ≡ false) → ((a : ℕ) → took_on a i.of i.body ≡ false) → u.logs ≡ logged r v.logs → Quiet v u
 quiet-noted r i v u is no_lifo no_take e = record {
   lifos = λ a. ap (records (is_lifo a)) e ∙ records-quiet (is_lifo a) r v.logs (ap (λ (x : Item). lifo_on a x.of x.body) is ∙ no_lifo a);
-  takes = λ a. ap (records (is_took a)) e ∙ records-quiet (is_took a) r v.logs (ap (λ (x : Item). took_on a x.of x.body) is ∙ no_take a);
+  takes = λ a. ap (records (is_take_of a)) e ∙ records-quiet (is_take_of a) r v.logs (ap (λ (x : Item). took_on a x.of x.body) is ∙ no_take a);
   longer = rw e (logs-longer r v.logs);
 }
 

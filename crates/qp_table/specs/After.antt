@@ -6,8 +6,8 @@ use Rattle.qp_model.specs.declared.record.Rec.{Rec}
 use Rattle.qp_model.specs.declared.bodies.Entry.{Entry}
 use Rattle.qp_model.specs.declared.systems.System.{System}
 use Rattle.qp_model.specs.Parts.{is_static}
-use Rattle.qp_table.specs.Counting.{total, many, without}
-use Rattle.qp_table.specs.Rule.{queue_at, Holds, is_spot, is_ref, is_entry, is_place, is_value, gives_of}
+use Rattle.qp_table.specs.Counting.{sum_over, many, without}
+use Rattle.qp_table.specs.Rule.{queue_at, Holds, is_spot, is_ref, is_entry, is_place, fills_with, gives_of}
 use Rattle.qp_table.specs.declared.view.SeatLog.{SeatLog}
 use Rattle.qp_table.specs.declared.view.Fill.{Fill}
 use Rattle.qp_table.specs.declared.view.PendingGive.{PendingGive}
@@ -48,8 +48,8 @@ abbrev pub doubled : View → ℕ → ℕ → Rec → ℕ → ℕ → ℕ → Vi
 doubled v w n r p b k = record (noted v w n r) { hands = v.hands ++ ref p b k ∷ [] }
 
 -- the reference k is gone; where the word n counts no other, the block is used, after so many operations
-abbrev pub dropped : View → ℕ → ℕ → Rec → ℕ → ℕ → ℕ → View
-dropped v w n r p b k = record (noted v w n r) { hands = without (is_ref p b k) v.hands; used = cond (eqb (n % 4294967296) 0) (v.used ++ spot p b (n / 4294967296) ∷ []) v.used }
+abbrev pub reference_dropped : View → ℕ → ℕ → Rec → ℕ → ℕ → ℕ → View
+reference_dropped v w n r p b k = record (noted v w n r) { hands = without (is_ref p b k) v.hands; used = cond (eqb (n % 4294967296) 0) (v.used ++ spot p b (n / 4294967296) ∷ []) v.used }
 
 -- the event words to be written, from place j on
 abbrev pub fills_for : ℕ → ℕ → ℕ → List ℕ → List Fill
@@ -60,19 +60,19 @@ fills_for p b j (n ∷ ns) = record { pool = p; block = b; place = j; value = n 
 abbrev pub begun_give : ℕ → ℕ → List ℕ → PendingGive
 begun_give p b event = record { pool = p; block = b; event = event; read = false }
 
-abbrev pub read_by : Bool → PendingGive → PendingGive
-read_by t g = record g { read = cond t true g.read }
+abbrev pub give_read : Bool → PendingGive → PendingGive
+give_read t g = record g { read = cond t true g.read }
 
 abbrev pub reading : ℕ → ℕ → List PendingGive → List PendingGive
 reading p b [] = []
-reading p b (g ∷ gs) = read_by (gives_of p b g) g ∷ reading p b gs
+reading p b (g ∷ gs) = give_read (gives_of p b g) g ∷ reading p b gs
 
 -- block b is given out for an event, after so many operations of its own
 abbrev pub gave : View → ℕ → ℕ → Rec → ℕ → ℕ → ℕ → List ℕ → View
 gave v w n r p b from event = record (noted v w n r) { fresh = v.fresh ++ spot p b from ∷ []; gives = v.gives ++ begun_give p b event ∷ []; fills = v.fills ++ fills_for p b 0 event }
 
 abbrev pub filled : View → ℕ → ℕ → ℕ → ℕ → View
-filled v p b j n = record v { fills = without (is_value p b j n) v.fills }
+filled v p b j n = record v { fills = without (fills_with p b j n) v.fills }
 
 abbrev pub put_back : View → ℕ → ℕ → Rec → ℕ → ℕ → View
 put_back v w n r p b = record (noted v w n r) { used = without (is_spot p b) v.used }
@@ -86,8 +86,8 @@ abbrev pub learned : View → Entry → List ℕ → View
 learned v e event = record v { contents = v.contents ++ record { entry = e; event = event } ∷ [] }
 
 -- Whatever the words and views are when the word w becomes f of what it was, the seat has a new view that keeps the rule, and `tells` holds of the number found and of the new view
-abbrev pub Steps : System → ℕ → View → ℕ → (ℕ → ℕ) → (ℕ → View → Type 0) → Type 0
-Steps sys id v w f tells = (words : List ℕ) (views : List View) → Holds sys words views → get_elem? views id ≡ some v → slice_index words w < 18446744073709551616
+abbrev pub WordSteps : System → ℕ → View → ℕ → (ℕ → ℕ) → (ℕ → View → Type 0) → Type 0
+WordSteps sys id v w f tells = (words : List ℕ) (views : List View) → Holds sys words views → get_elem? views id ≡ some v → slice_index words w < 18446744073709551616
     → (u : View) × Holds sys (slice_set words w (f (slice_index words w))) (slice_set views id u) × tells (slice_index words w) u
 
 -- whatever state meets the rule, and whichever of its views it is
@@ -103,7 +103,7 @@ pub record HasRoom (v : View) : Type 0 where
   pub own : SeatLog
   pub others : List SeatLog
   pub is : v.logs ≡ own ∷ others
-  pub room : total (λ (g : SeatLog). length g.recs) v.logs < 1000001
+  pub room : sum_over (λ (g : SeatLog). length g.recs) v.logs < 1000001
 
 -- The entry is static, or its reference is in hand
 pub record InHand (sys : System) (e : Entry) (v : View) : Type 0 where
@@ -111,8 +111,8 @@ pub record InHand (sys : System) (e : Entry) (v : View) : Type 0 where
   pub pooled : 0 < e.pool → 0 < many (is_entry e) v.hands
 
 -- the hands without an entry, and with one: a static one has no reference
-abbrev pub spent : Entry → List Entry → List Entry
-spent e hands = cond (eqb e.pool 0) hands (without (is_entry e) hands)
+abbrev pub hands_without : Entry → List Entry → List Entry
+hands_without e hands = cond (eqb e.pool 0) hands (without (is_entry e) hands)
 
 abbrev pub gained : Entry → List Entry → List Entry
 gained e hands = cond (eqb e.pool 0) hands (hands ++ e ∷ [])
@@ -127,10 +127,10 @@ bump a l m [] = []
 bump a l m (x ∷ xs) = cond (eqb x.object a) (record x { lifos = x.lifos + l; takes = x.takes + m }) x ∷ bump a l m xs
 
 abbrev pub claimed : View → ℕ → ℕ → Rec → ℕ → Entry → ℕ → View
-claimed v a n r j e k = record (noted v (queue_at a) n r) { hands = spent e v.hands; claims = v.claims ++ place a j e k ∷ [] }
+claimed v a n r j e k = record (noted v (queue_at a) n r) { hands = hands_without e v.hands; claims = v.claims ++ place a j e k ∷ [] }
 
 abbrev pub put_first : View → ℕ → ℕ → Rec → ℕ → Entry → ℕ → View
-put_first v a n r j e k = record (noted v (queue_at a) n r) { hands = spent e v.hands; claims = v.claims ++ place a j e k ∷ []; serves = bump a 1 0 v.serves }
+put_first v a n r j e k = record (noted v (queue_at a) n r) { hands = hands_without e v.hands; claims = v.claims ++ place a j e k ∷ []; serves = bump a 1 0 v.serves }
 
 abbrev pub laid : View → ℕ → ℕ → Entry → View
 laid v a j e = record v { claims = without (is_place a j e) v.claims }
@@ -138,8 +138,8 @@ laid v a j e = record v { claims = without (is_place a j e) v.claims }
 abbrev pub emptied : View → ℕ → ℕ → Entry → View
 emptied v a j e = record v { takes = v.takes ++ place a j e 0 ∷ [] }
 
-abbrev pub took : View → ℕ → ℕ → Rec → ℕ → Entry → View
-took v a n r j e = record (noted v (queue_at a) n r) { takes = without (is_place a j e) v.takes; hands = gained e v.hands; serves = bump a 0 1 v.serves }
+abbrev pub view_took : View → ℕ → ℕ → Rec → ℕ → Entry → View
+view_took v a n r j e = record (noted v (queue_at a) n r) { takes = without (is_place a j e) v.takes; hands = gained e v.hands; serves = bump a 0 1 v.serves }
 
 -- those that pass the test
 abbrev pub passing : (Serve → Bool) → List Serve → List Serve
@@ -150,12 +150,12 @@ abbrev pub failing : (Serve → Bool) → List Serve → List Serve
 failing t [] = []
 failing t (x ∷ xs) = cond (t x) (failing t xs) (x ∷ failing t xs)
 
-abbrev pub nothing : View
-nothing = record { logs = []; lane_numbers = []; fresh = []; used = []; hands = []; gives = []; fills = []; claims = []; takes = []; serves = []; contents = []; seen = [] }
+abbrev pub empty_view : View
+empty_view = record { logs = []; lane_numbers = []; fresh = []; used = []; hands = []; gives = []; fills = []; claims = []; takes = []; serves = []; contents = []; seen = [] }
 
 -- a seat that has seen what another has, and nothing else
 abbrev pub onlooker : View → View
-onlooker v = record nothing { seen = v.seen }
+onlooker v = record empty_view { seen = v.seen }
 
 -- lane number n is handed out, with an empty log
 abbrev pub granting : ℕ → View → View
@@ -190,4 +190,4 @@ views_joined v w = record {
 
 -- the view that the table begins with: it has lane 0, serves these objects and has all other lanes to hand out
 abbrev pub newcomer : List ℕ → List Serve → View
-newcomer numbers xs = record nothing { logs = record { number = 0; recs = [] } ∷ []; lane_numbers = numbers; serves = xs }
+newcomer numbers xs = record empty_view { logs = record { number = 0; recs = [] } ∷ []; lane_numbers = numbers; serves = xs }

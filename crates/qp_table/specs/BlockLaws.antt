@@ -7,7 +7,7 @@ use Rattle.qp_model.specs.Lists.{is_first}
 use Rattle.qp_model.specs.WordLaw.{is_block}
 use Rattle.qp_table.specs.Counting.{many}
 use Rattle.qp_table.specs.Rule.{pool_at, block_at, event_word_at, is_spot, is_ref, fills_of, IsContent}
-use Rattle.qp_table.specs.After.{FromAnyState, HoldsWith, HasRoom, began, doubled, dropped, gave, filled, put_back}
+use Rattle.qp_table.specs.After.{FromAnyState, HoldsWith, HasRoom, began, doubled, reference_dropped, gave, filled, put_back}
 
 -- the lowest free block is given out for an event of the system; its words are still to be written
 abbrev pub GivesKeepTheRule : Type 0
@@ -39,7 +39,7 @@ ReferencesKeepTheRule = FromAnyState
 abbrev pub DropsKeepTheRule : Type 0
 DropsKeepTheRule = FromAnyState
     (λ sys words views holds id v. (o p b k : ℕ) (r : Rec) → HasRoom v → IsTrue (is_block sys p b) → item_of r ≡ record { of = o; body = Dec p b (slice_index words (block_at p b) / 4294967296) k } → 0 < many (is_ref p b k) v.hands
-    → HoldsWith sys words (block_at p b) (slice_index words (block_at p b) + 4294967295) views id (dropped v (block_at p b) (slice_index words (block_at p b) + 4294967295) r p b k))
+    → HoldsWith sys words (block_at p b) (slice_index words (block_at p b) + 4294967295) views id (reference_dropped v (block_at p b) (slice_index words (block_at p b) + 4294967295) r p b k))
 
 -- a used block comes back
 abbrev pub BacksKeepTheRule : Type 0

@@ -13,7 +13,7 @@ use Rattle.qp_model.specs.Told.{Known, Nothing, OfEvent, Free, Left, Former, Mem
 use Rattle.qp_model.specs.History.{touch, lane_items}
 use Rattle.qp_table.specs.TwoTables.{on_table}
 use Rattle.qp_table.specs.Counting.{many}
-use Rattle.qp_table.specs.Rule.{is_entry, is_ref, is_spot, is_serve, event_in}
+use Rattle.qp_table.specs.Rule.{is_entry, is_ref, is_spot, is_serve, event_of_content}
 use Rattle.qp_table.specs.declared.view.Content.{Content}
 use Rattle.qp_table.specs.declared.view.Glance.{Glance}
 use Rattle.qp_table.specs.declared.view.SeatLog.{SeatLog}
@@ -37,7 +37,7 @@ on_table_of recs = filter (λ i. on_table (touch i)) (lane_items recs)
 -- the event of an entry, where it was read; a static one has its signal and no parameters
 abbrev pub event_read : List Content → Entry → Event
 event_read [] e = record { sig = 0; pars = [] }
-event_read (q ∷ qs) e = cond {A = Event} (is_entry e q.entry) (event_in q.event) (event_read qs e)
+event_read (q ∷ qs) e = cond {A = Event} (is_entry e q.entry) (event_of_content q.event) (event_read qs e)
 
 unfoldable pub event_seen : List Content → Entry → Event
 event_seen qs e = cond {A = Event} (eqb e.pool 0) (record { sig = e.block; pars = [] }) (event_read qs e)
@@ -61,10 +61,10 @@ known_with event _ k = Nothing
 abbrev pub told_as : (Entry → Event) → Item → ℕ → ToldItem
 told_as event i k = record { of = i.of; told = record { body = i.body; known = known_with event i.body k } }
 
-unfoldable pub tell : (Entry → Event) → List Rec → List ℕ → List ToldItem
-tell event [] ks = []
-tell event (r ∷ rs) [] = []
-tell event (r ∷ rs) (k ∷ ks) = told_as event (item_of r) k ∷ tell event rs ks
+unfoldable pub tell_lane : (Entry → Event) → List Rec → List ℕ → List ToldItem
+tell_lane event [] ks = []
+tell_lane event (r ∷ rs) [] = []
+tell_lane event (r ∷ rs) (k ∷ ks) = told_as event (item_of r) k ∷ tell_lane event rs ks
 
 -- the marks of all words: those of signals and timers are the side table's
 abbrev pub lane_mark : System → List Glance → (Word → ℕ) → Word → ℕ
@@ -74,7 +74,7 @@ lane_mark sys seen side w = mark_seen sys seen w
 
 -- what a lane is besides its records and its view: the name of its table, the system, its number, the object for which it adds
 -- records, the codes that it handed in, the answers to its questions (0 where no code was found), and its marks of signals and timers
-pub record Standing : Type 0 where
+pub record LaneContext : Type 0 where
   pub world : List ℕ
   pub sys : System
   pub number : ℕ
@@ -84,7 +84,7 @@ pub record Standing : Type 0 where
   pub side : Word → ℕ
 
 -- The lane with these records told, and this view
-unfoldable pub lane_of : Standing → List ToldItem → ℕ → View → LaneView
+unfoldable pub lane_of : LaneContext → List ToldItem → ℕ → View → LaneView
 lane_of at told spare v = record {
   world = at.world;
   sys = at.sys;
@@ -111,10 +111,10 @@ lane_of at told spare v = record {
 abbrev pub tokens : Token → List Token → ℕ
 tokens t hands = many (same_token t) hands
 
-abbrev pub tokens_in : View → Token → ℕ
-tokens_in v (Held p b r) = many (is_ref p b r) v.hands
-tokens_in v (Loose p b false) = many (is_spot p b) v.fresh
-tokens_in v (Loose p b true) = many (is_spot p b) v.used
+abbrev pub tokens_of_view : View → Token → ℕ
+tokens_of_view v (Held p b r) = many (is_ref p b r) v.hands
+tokens_of_view v (Loose p b false) = many (is_spot p b) v.fresh
+tokens_of_view v (Loose p b true) = many (is_spot p b) v.used
 
 -- the number of a lane
 abbrev pub first_number : List SeatLog → ℕ

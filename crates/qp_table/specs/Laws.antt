@@ -9,11 +9,11 @@ use Rattle.qp_model.specs.Record.{item_of}
 use Rattle.qp_model.specs.WordLaw.{Words, is_pool, is_block, is_object}
 use Rattle.qp_table.specs.Counting.{Each, many}
 use Rattle.qp_table.specs.Rule.{pool_at, block_at, queue_at, cell_at, Fitting, Shows, Idle, is_number, is_ref, is_serve, Holds}
-use Rattle.qp_table.specs.After.{FromAnyState, HasRoom, ref, glanced, noted, read_from, learned, nothing, onlooker, granting, granted, passing, handing, handed, views_joined, newcomer}
+use Rattle.qp_table.specs.After.{FromAnyState, HasRoom, ref, glanced, noted, read_from, learned, empty_view, onlooker, granting, granted, passing, handing, handed, views_joined, newcomer}
 use Rattle.qp_table.specs.declared.view.Serve.{Serve}
 use Rattle.qp_table.specs.declared.view.View.{View}
 use Rattle.qp_table.specs.QueueLaws.{f_in, l_in, m_in, queue_word, cells_of}
-use Rattle.qp_table.specs.Whole.{IsWhole, Unused, first_now, later_lanes}
+use Rattle.qp_table.specs.Whole.{IsWholeView, Unused, first_now, later_lanes}
 
 -- any view may look at a numbered word
 abbrev pub LooksKeepTheRule : Type 0
@@ -68,7 +68,7 @@ HoldersLearnTheEvent = FromAnyState (λ sys words views holds id v. (p b k : ℕ
 
 -- a view with nothing may be added
 abbrev pub NewViewsKeepTheRule : Type 0
-NewViewsKeepTheRule = (sys : System) (words : List ℕ) (views : List View) → Holds sys words views → Holds sys words (views ++ nothing ∷ [])
+NewViewsKeepTheRule = (sys : System) (words : List ℕ) (views : List View) → Holds sys words views → Holds sys words (views ++ empty_view ∷ [])
 
 -- two views
 abbrev pub FromTwoViews : ((sys : System) (words : List ℕ) (views : List View) → Holds sys words views → ℕ → View → ℕ → View → Type 0) → Type 0
@@ -76,7 +76,7 @@ FromTwoViews P = FromAnyState (λ sys words views holds id v. (other : ℕ) (w :
 
 -- one that has nothing sees what the other has seen
 abbrev pub OnlookersKeepTheRule : Type 0
-OnlookersKeepTheRule = FromTwoViews (λ sys words views holds id v other w. w ≡ nothing → Holds sys words (slice_set (slice_set views id v) other (onlooker v)))
+OnlookersKeepTheRule = FromTwoViews (λ sys words views holds id v other w. w ≡ empty_view → Holds sys words (slice_set (slice_set views id v) other (onlooker v)))
 
 -- a lane number that was never handed out goes to the other
 abbrev pub GrantsKeepTheRule : Type 0
@@ -90,7 +90,7 @@ HandOversKeepTheRule = FromTwoViews
 
 -- all goes to one of them
 abbrev pub JoinsKeepTheRule : Type 0
-JoinsKeepTheRule = FromTwoViews (λ sys words views holds id v other w. Holds sys words (slice_set (slice_set views id (views_joined v w)) other nothing))
+JoinsKeepTheRule = FromTwoViews (λ sys words views holds id v other w. Holds sys words (slice_set (slice_set views id (views_joined v w)) other empty_view))
 
 -- the first words, and a view that has lane 0 and all objects, meet the rule
 abbrev pub StartMeetsTheRule : Type 0
@@ -103,4 +103,4 @@ RecordsAreLawful = (sys : System) (words : List ℕ) (views : List View) (holds 
 
 -- the view with all lanes knows the whole
 abbrev pub WholeIsKnown : Type 0
-WholeIsKnown = FromAnyState (λ sys words views holds id v. length v.logs + length v.lane_numbers ≡ 49 → IsWhole sys v)
+WholeIsKnown = FromAnyState (λ sys words views holds id v. length v.logs + length v.lane_numbers ≡ 49 → IsWholeView sys v)

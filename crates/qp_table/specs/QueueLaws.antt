@@ -9,7 +9,7 @@ use Rattle.qp_model.specs.Sites.{ring_of}
 use Rattle.qp_model.specs.WordLaw.{is_object}
 use Rattle.qp_table.specs.Counting.{many}
 use Rattle.qp_table.specs.Rule.{queue_at, cell_at, mark_in, code, Codable, is_place, on_queue, is_serve}
-use Rattle.qp_table.specs.After.{FromAnyState, HoldsWith, HasRoom, InHand, claimed, laid, emptied, took, put_first}
+use Rattle.qp_table.specs.After.{FromAnyState, HoldsWith, HasRoom, InHand, claimed, laid, emptied, view_took, put_first}
 
 -- the counts that a queue's word shows
 abbrev pub f_in : ℕ → ℕ
@@ -57,7 +57,7 @@ abbrev pub FreesKeepTheRule : Type 0
 FreesKeepTheRule = FromAnyState
     (λ sys words views holds id v. (a j : ℕ) (e : Entry) (r : Rec) → HasRoom v → IsTrue (is_object sys a) → 0 < many (is_place a j e) v.takes → 0 < many (is_serve a) v.serves
     → item_of r ≡ record { of = a; body = Took (f_in (queue_word words a)) (l_in (queue_word words a)) (m_in (queue_word words a) + 1) e }
-    → HoldsWith sys words (queue_at a) (queue_word words a + 4398046511104) views id (took v a (queue_word words a + 4398046511104) r j e))
+    → HoldsWith sys words (queue_at a) (queue_word words a + 4398046511104) views id (view_took v a (queue_word words a + 4398046511104) r j e))
 
 -- the home lane claims the cell before the front, where an entry is free and no take of it is under way
 abbrev pub LastInClaimsKeepTheRule : Type 0

@@ -17,8 +17,8 @@ use Rattle.qp_model.specs.declared.bodies.Body.{Body}
 use Rattle.qp_model.specs.declared.bodies.Body.TheVariants.{Took, Lifo}
 use Rattle.std.specs.Option.{option_map_or}
 use Rattle.std.specs.Prelude.{slice_get}
-use Rattle.qp_table.specs.Counting.{Each, total, many, upto}
-use Rattle.qp_table.specs.Now.{Now, Leaves}
+use Rattle.qp_table.specs.Counting.{Each, sum_over, many, upto}
+use Rattle.qp_table.specs.Now.{Now, LeavesWords}
 use Rattle.std.specs.Prelude.{take, Some, None}
 use Rattle.qp_model.specs.declared.words.Word.TheVariants as word
 use Rattle.qp_model.specs.History.{hist, all_items}
@@ -102,9 +102,9 @@ is_number n k = eqb k n
 pub record Logs (lanes : List (List Rec)) (views : List View) : Type 0 where
   pub count : length lanes ≡ 49
   pub own : (id : ℕ) (v : View) → get_elem? views id ≡ some v → Each (λ (g : SeatLog). get_elem? lanes g.number ≡ some g.recs) v.logs
-  pub once : (n : ℕ) → n < 49 → total (λ (v : View). many (is_log n) v.logs) views + total (λ (v : View). many (is_number n) v.lane_numbers) views ≡ 1
-  pub later : (n : ℕ) → n < 49 → 0 < total (λ (v : View). many (is_number n) v.lane_numbers) views → get_elem? lanes n ≡ some []
-  pub rights : total (λ (v : View). length v.logs + length v.lane_numbers) views ≡ 49
+  pub once : (n : ℕ) → n < 49 → sum_over (λ (v : View). many (is_log n) v.logs) views + sum_over (λ (v : View). many (is_number n) v.lane_numbers) views ≡ 1
+  pub later : (n : ℕ) → n < 49 → 0 < sum_over (λ (v : View). many (is_number n) v.lane_numbers) views → get_elem? lanes n ≡ some []
+  pub rights : sum_over (λ (v : View). length v.logs + length v.lane_numbers) views ≡ 49
   pub room : Each (λ (lane : List Rec). length lane ≤ 1000001) lanes
 
 -- a view with no lane and no right to any has nothing
@@ -139,10 +139,10 @@ lives [] = 0
 lives (r ∷ rs) = 1
 
 abbrev pub spots : (View → List Spot) → List View → ℕ → ℕ → ℕ
-spots part views p b = total (λ v. many (is_spot p b) (part v)) views
+spots part views p b = sum_over (λ v. many (is_spot p b) (part v)) views
 
 abbrev pub spots_at : (View → List Spot) → List View → ℕ → ℕ → ℕ → ℕ
-spots_at part views p b n = total (λ v. many (is_spot_at p b n) (part v)) views
+spots_at part views p b n = sum_over (λ v. many (is_spot_at p b n) (part v)) views
 
 -- how often the reference stands in the queues
 abbrev pub in_lines : Now → ℕ → ℕ → ℕ → ℕ
@@ -151,7 +151,7 @@ in_lines now p b k = upto 33 (λ a. many (is_ref p b k) (now.line a).entries)
 -- each block is in one place, and each reference too
 pub record Tokens (sys : System) (views : List View) (now : Now) : Type 0 where
   pub place : (p b : ℕ) → free_bit now p b + spots (λ v. v.fresh) views p b + spots (λ v. v.used) views p b + lives (now.refs p b).names ≡ cond (is_block sys p b) 1 0
-  pub hand : (p b k : ℕ) → 0 < p → total (λ (v : View). many (is_ref p b k) v.hands) views + in_lines now p b k ≡ many (λ r. eqb r k) (now.refs p b).names
+  pub hand : (p b k : ℕ) → 0 < p → sum_over (λ (v : View). many (is_ref p b k) v.hands) views + in_lines now p b k ≡ many (λ r. eqb r k) (now.refs p b).names
   -- a fresh block has had no operation in its life, a used one has; each token says how many operations its block had
   pub begun : (p b n : ℕ) → 0 < spots_at (λ v. v.fresh) views p b n → (now.edge p b ≡ n) × ((now.refs p b).count ≡ n)
   pub worn : (p b n : ℕ) → 0 < spots_at (λ v. v.used) views p b n → (now.edge p b < n) × ((now.refs p b).count ≡ n)
@@ -164,8 +164,8 @@ is_fill p b j x = (eqb x.pool p && eqb x.block b) && eqb x.place j
 abbrev pub fills_of : ℕ → ℕ → Fill → Bool
 fills_of p b x = eqb x.pool p && eqb x.block b
 
-abbrev pub is_value : ℕ → ℕ → ℕ → ℕ → Fill → Bool
-is_value p b j n x = is_fill p b j x && eqb x.value n
+abbrev pub fills_with : ℕ → ℕ → ℕ → ℕ → Fill → Bool
+fills_with p b j n x = is_fill p b j x && eqb x.value n
 
 abbrev pub gives_of : ℕ → ℕ → PendingGive → Bool
 gives_of p b g = eqb g.pool p && eqb g.block b
@@ -194,8 +194,8 @@ pub record Beside (now : Now) (v : View) : Type 0 where
 -- the event words of a block are its content, but for those still to be written, which the view has that has the block fresh
 pub record Events (sys : System) (words : List ℕ) (views : List View) (now : Now) : Type 0 where
   pub few : (p b : ℕ) → IsTrue (is_block sys p b) → length (now.content p b) ≤ 9
-  pub word : (p b j : ℕ) → IsTrue (is_block sys p b) → j < length (now.content p b) → total (λ (v : View). many (is_fill p b j) v.fills) views ≡ 0 → slice_index words (event_word_at p b j) ≡ slice_index (now.content p b) j
-  pub right : (p b j n : ℕ) → n ≢ slice_index (now.content p b) j → total (λ (v : View). many (is_value p b j n) v.fills) views ≡ 0
+  pub word : (p b j : ℕ) → IsTrue (is_block sys p b) → j < length (now.content p b) → sum_over (λ (v : View). many (is_fill p b j) v.fills) views ≡ 0 → slice_index words (event_word_at p b j) ≡ slice_index (now.content p b) j
+  pub right : (p b j n : ℕ) → n ≢ slice_index (now.content p b) j → sum_over (λ (v : View). many (fills_with p b j n) v.fills) views ≡ 0
   pub beside : (id : ℕ) (v : View) → get_elem? views id ≡ some v → Beside now v
   pub event : (p b : ℕ) → IsTrue (is_block sys p b) → HasEvent sys (now.content p b)
 
@@ -252,7 +252,7 @@ abbrev pub Items : Type 0
 Items = ℕ → List InLine
 
 -- one queue of n cells: its line, and its cells
-pub record Queue (sys : System) (n : ℕ) (words : List ℕ) (a : ℕ) (s : Line) (items : List InLine) : Type 0 where
+pub record QueueCells (sys : System) (n : ℕ) (words : List ℕ) (a : ℕ) (s : Line) (items : List InLine) : Type 0 where
   pub some_cell : (0 < n) × (n ≤ 256)
   pub same : entries_of items ≡ s.entries
   pub run : Run n (s.m + (n - 1) * s.l) items
@@ -275,12 +275,12 @@ took_on a o _ = false
 abbrev pub is_lifo : ℕ → Rec → Bool
 is_lifo a r = lifo_on a (item_of r).of (item_of r).body
 
-abbrev pub is_took : ℕ → Rec → Bool
-is_took a r = took_on a (item_of r).of (item_of r).body
+abbrev pub is_take_of : ℕ → Rec → Bool
+is_take_of a r = took_on a (item_of r).of (item_of r).body
 
 -- how many of these records the logs have
 abbrev pub records : (Rec → Bool) → List SeatLog → ℕ
-records t logs = total (λ (g : SeatLog). many t g.recs) logs
+records t logs = sum_over (λ (g : SeatLog). many t g.recs) logs
 
 -- the last-in posts and takes of a queue are those of the lane that serves it
 pub record Served (now : Now) (logs : List SeatLog) (x : Serve) : Type 0 where
@@ -288,21 +288,21 @@ pub record Served (now : Now) (logs : List SeatLog) (x : Serve) : Type 0 where
   pub takes : (now.line x.object).m ≡ x.takes
   pub few : x.lifos + x.takes ≤ 1000001
   pub lifos_are : x.lifos ≡ records (is_lifo x.object) logs
-  pub takes_are : x.takes ≡ records (is_took x.object) logs
+  pub takes_are : x.takes ≡ records (is_take_of x.object) logs
 
 -- what a view serves, and that it has no last-in post and no take of another queue
 pub record Serves (now : Now) (v : View) : Type 0 where
   pub counts : Each (Served now v.logs) v.serves
-  pub within : total (λ (x : Serve). x.lifos + x.takes) v.serves ≤ total (λ (g : SeatLog). length g.recs) v.logs
-  pub others : (a : ℕ) → many (is_serve a) v.serves ≡ 0 → (records (is_lifo a) v.logs ≡ 0) × (records (is_took a) v.logs ≡ 0)
+  pub within : sum_over (λ (x : Serve). x.lifos + x.takes) v.serves ≤ sum_over (λ (g : SeatLog). length g.recs) v.logs
+  pub others : (a : ℕ) → many (is_serve a) v.serves ≡ 0 → (records (is_lifo a) v.logs ≡ 0) × (records (is_take_of a) v.logs ≡ 0)
   pub taking : (a : ℕ) → many (on_queue a) v.takes ≤ many (is_serve a) v.serves
 
 pub record Queues (sys : System) (words : List ℕ) (views : List View) (now : Now) (items : Items) : Type 0 where
-  pub queue : (a : ℕ) → IsTrue (is_object sys a) → Queue sys (ring_of sys a + 1) words a (now.line a) (items a)
+  pub queue : (a : ℕ) → IsTrue (is_object sys a) → QueueCells sys (ring_of sys a + 1) words a (now.line a) (items a)
   pub none : (a : ℕ) → is_object sys a ≡ false → (items a ≡ []) × ((now.line a).entries ≡ [])
-  pub claims : (a j : ℕ) (e : Entry) → total (λ (v : View). many (is_place a j e) v.claims) views ≡ many (is_item 0 j e) (items a)
-  pub takes : (a j : ℕ) (e : Entry) → total (λ (v : View). many (is_place a j e) v.takes) views ≡ many (is_item 2 j e) (items a)
-  pub serves : (a : ℕ) → total (λ (v : View). many (is_serve a) v.serves) views ≡ cond (is_object sys a) 1 0
+  pub claims : (a j : ℕ) (e : Entry) → sum_over (λ (v : View). many (is_place a j e) v.claims) views ≡ many (is_item 0 j e) (items a)
+  pub takes : (a j : ℕ) (e : Entry) → sum_over (λ (v : View). many (is_place a j e) v.takes) views ≡ many (is_item 2 j e) (items a)
+  pub serves : (a : ℕ) → sum_over (λ (v : View). many (is_serve a) v.serves) views ≡ cond (is_object sys a) 1 0
   pub home : (id : ℕ) (v : View) → get_elem? views id ≡ some v → Serves now v
 
 -- What was seen of a word lies behind it or is it, and is one value for one number of operations
@@ -321,16 +321,16 @@ pub record Past (sys : System) (lanes : List (List Rec)) (was : Was) : Type 0 wh
   pub line : (a k : ℕ) → IsTrue (is_object sys a) → k < length (hist (word.Queue a) (all_items lanes)) → was (queue_at a) k ≡ line_value (after (line (ring_of sys a)) (take k (hist (word.Queue a) (all_items lanes))))
 
 -- a content as an event
-abbrev pub event_in : List ℕ → Event
-event_in [] = record { sig = 0; pars = [] }
-event_in (sig ∷ pars) = record { sig = sig; pars = pars }
+abbrev pub event_of_content : List ℕ → Event
+event_of_content [] = record { sig = 0; pars = [] }
+event_of_content (sig ∷ pars) = record { sig = sig; pars = pars }
 
 -- What was read of an entry is its event: that of the life in which its reference was made
 pub record IsKnown (sys : System) (lanes : List (List Rec)) (now : Now) (q : Content) : Type 0 where
   pub static : q.entry.pool ≡ 0 → q.event ≡ q.entry.block ∷ []
   pub block : 0 < q.entry.pool → IsTrue (is_block sys q.entry.pool q.entry.block)
   pub made : 0 < q.entry.pool → q.entry.name < (now.refs q.entry.pool q.entry.block).count
-  pub given : 0 < q.entry.pool → last_given q.entry.block q.entry.name None (hist (word.Pool q.entry.pool) (all_items lanes)) ≡ Some (event_in q.event)
+  pub given : 0 < q.entry.pool → last_given q.entry.block q.entry.name None (hist (word.Pool q.entry.pool) (all_items lanes)) ≡ Some (event_of_content q.event)
 
 abbrev pub AllKnown : System → List (List Rec) → Now → List View → Type 0
 AllKnown sys lanes now views = (id : ℕ) (v : View) → get_elem? views id ≡ some v → Each (IsKnown sys lanes now) v.contents
@@ -341,7 +341,7 @@ pub record Holds (sys : System) (words : List ℕ) (views : List View) : Type 0 
   pub items : Items
   pub was : Was
   pub fitting : Fitting sys
-  pub leaves : Leaves sys lanes now
+  pub leaves : LeavesWords sys lanes now
   pub shows : Shows sys words now
   pub logs : Logs lanes views
   pub idle : AllIdle views

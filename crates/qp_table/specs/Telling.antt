@@ -7,7 +7,7 @@ use Rattle.qp_model.specs.declared.words.Word.TheVariants as word
 use Rattle.qp_model.specs.History.{same_word, mark_of, touch_of}
 use Rattle.qp_model.specs.Told.{ToldItem}
 use Rattle.qp_table.specs.Counting.{Each}
-use Rattle.qp_table.specs.Rule.{mark_in, is_serve, is_lifo, is_took, records}
+use Rattle.qp_table.specs.Rule.{mark_in, is_serve, is_lifo, is_take_of, records}
 use Rattle.qp_table.specs.declared.view.Glance.{Glance}
 use Rattle.qp_table.specs.declared.view.View.{View}
 use Rattle.qp_calls.specs.LaneView.{LaneView, Shown, shown_from}
@@ -23,7 +23,7 @@ pub record Saw (sys : System) (w : Word) (v u : View) (x : ℕ) : Type 0 where
 
 -- the last-in posts and takes of a queue that the lane serves are those of its records
 abbrev pub OwnTold : ℕ → ℕ → ℕ → View → Type 0
-OwnTold a l m v = IsTrue (list_any (is_serve a) v.serves) → (l ≡ records (is_lifo a) v.logs) × (m ≡ records (is_took a) v.logs)
+OwnTold a l m v = IsTrue (list_any (is_serve a) v.serves) → (l ≡ records (is_lifo a) v.logs) × (m ≡ records (is_take_of a) v.logs)
 
 -- the mark of w becomes k and no other changes; no mark falls, and what was shown at a mark that stays is shown still
 pub record Rises (w : Word) (k : ℕ) (old new : Word → ℕ) (was now : Word → Shown) : Type 0 where

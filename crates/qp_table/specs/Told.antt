@@ -11,7 +11,7 @@ use Rattle.qp_model.specs.declared.words.Word.TheVariants as word
 use Rattle.qp_model.specs.Sites.{ring_of}
 use Rattle.qp_table.specs.Counting.{many}
 use Rattle.qp_table.specs.Rule.{pool_at, block_at, queue_at, mark_in, is_spot, Codable, code, HasEvent, IsContent}
-use Rattle.qp_table.specs.After.{rec_of, ref, glanced, noted, began, gave, doubled, dropped, put_back, read_from, filled, learned, claimed, put_first, laid, emptied, took}
+use Rattle.qp_table.specs.After.{rec_of, ref, glanced, noted, began, gave, doubled, reference_dropped, put_back, read_from, filled, learned, claimed, put_first, laid, emptied, view_took}
 use Rattle.qp_table.specs.declared.view.View.{View}
 use Rattle.qp_table.specs.QueueLaws.{f_in, l_in, m_in, cells_of}
 use Rattle.qp_table.specs.Words.{value_seen, Ahead}
@@ -36,7 +36,7 @@ IsGivenEvent sys event = HasEvent sys event × (0 < length event)
 -- a reference is dropped: the word counted one, and no block of this place is used here
 abbrev pub DropTold : System → ℕ → ℕ → ℕ → ℕ → View → ℕ → View → Type 0
 DropTold sys o p b k v n u =
-    (u ≡ dropped v (block_at p b) (n + 4294967295) (rec_of 18 o (p ∷ b ∷ (n / 4294967296) ∷ k ∷ [])) p b k)
+    (u ≡ reference_dropped v (block_at p b) (n + 4294967295) (rec_of 18 o (p ∷ b ∷ (n / 4294967296) ∷ k ∷ [])) p b k)
     × WordTold sys (word.Block p b) v u n (n + 4294967295) × (0 < n % 4294967296) × (many (is_spot p b) v.used ≡ 0)
 
 -- the first reference: the word counted none, and the lane learns the event
@@ -131,7 +131,7 @@ SwapTold sys a j v n u = (n ≡ 0 → u ≡ v) × (n ≢ 0 → (e : Entry) × Co
 
 -- the entry of a take is freed, and a pooled one's event learned
 abbrev pub freed : ℕ → ℕ → Entry → View → ℕ → View
-freed a j e v n = took v a (n + 4398046511104) (rec_of 5 a ((n % 2097152) ∷ (n / 2097152 % 2097152) ∷ (n / 4398046511104 + 1) ∷ e.pool ∷ e.block ∷ e.name ∷ [])) j e
+freed a j e v n = view_took v a (n + 4398046511104) (rec_of 5 a ((n % 2097152) ∷ (n / 2097152 % 2097152) ∷ (n / 4398046511104 + 1) ∷ e.pool ∷ e.block ∷ e.name ∷ [])) j e
 
 abbrev pub FreeTold : System → ℕ → ℕ → Entry → View → ℕ → View → Type 0
 FreeTold sys a j e v n u =

@@ -12,7 +12,7 @@ use Rattle.qp_table.specs.After.{FromAnyState}
 use Rattle.qp_table.specs.declared.view.View.{View}
 use Rattle.qp_calls.specs.LaneView.{LaneView, Shown, Gains, Looks, own_after, is_known}
 use Rattle.qp_table.specs.Words.{place_of, is_here, first_value, shown_seen, as_shown, Ahead}
-use Rattle.qp_table.specs.Lane.{Standing, lane_of, lane_mark, event_seen, own_recs, on_table_of, tell}
+use Rattle.qp_table.specs.Lane.{LaneContext, lane_of, lane_mark, event_seen, own_recs, on_table_of, tell_lane}
 use Rattle.qp_table.specs.Telling.{Saw, OwnTold, Rises, Touches, TouchesTwo, is_on_table, AreOfOne, Meets}
 
 -- a word that the system has is found as no view has seen it later, and with as many operations as one has seen it, as it was seen
@@ -44,30 +44,30 @@ pub record ViewKeeps (before : LaneView) (v u : View) : Type 0 where
 
 -- a record more, which touches the word whose mark rose
 abbrev pub RecordsGain : Type 0
-RecordsGain = (at : Standing) (side : Word → ℕ) (told : List ToldItem) (spare more : ℕ) (v u : View) (w : Word) (k : ℕ) (t : ToldItem)
+RecordsGain = (at : LaneContext) (side : Word → ℕ) (told : List ToldItem) (spare more : ℕ) (v u : View) (w : Word) (k : ℕ) (t : ToldItem)
     → Rises w k (lane_mark at.sys v.seen at.side) (lane_mark at.sys u.seen side) (shown_seen at.sys v.seen) (shown_seen at.sys u.seen) → Touches w k t → ViewKeeps (lane_of at told spare v) v u
     → Gains (t ∷ []) (lane_of at told spare v) (lane_of (record at { side = side }) (told ++ t ∷ []) more u)
 
 -- and one of a block that is given out, which touches two
 abbrev pub GivesGain : Type 0
-GivesGain = (at : Standing) (told : List ToldItem) (spare more : ℕ) (v z u : View) (w b : Word) (k j : ℕ) (t : ToldItem)
+GivesGain = (at : LaneContext) (told : List ToldItem) (spare more : ℕ) (v z u : View) (w b : Word) (k j : ℕ) (t : ToldItem)
     → Rises w k (lane_mark at.sys v.seen at.side) (lane_mark at.sys z.seen at.side) (shown_seen at.sys v.seen) (shown_seen at.sys z.seen)
     → Rises b j (lane_mark at.sys z.seen at.side) (lane_mark at.sys u.seen at.side) (shown_seen at.sys z.seen) (shown_seen at.sys u.seen) → TouchesTwo w k b j t → ViewKeeps (lane_of at told spare v) v u
     → Gains (t ∷ []) (lane_of at told spare v) (lane_of at (told ++ t ∷ []) more u)
 
 -- a look without a record
 abbrev pub LooksShow : Type 0
-LooksShow = (at : Standing) (side : Word → ℕ) (told : List ToldItem) (spare : ℕ) (v u : View) (w : Word) (k : ℕ) (x : Shown)
+LooksShow = (at : LaneContext) (side : Word → ℕ) (told : List ToldItem) (spare : ℕ) (v u : View) (w : Word) (k : ℕ) (x : Shown)
     → Rises w k (lane_mark at.sys v.seen at.side) (lane_mark at.sys u.seen side) (shown_seen at.sys v.seen) (shown_seen at.sys u.seen) → shown_seen at.sys u.seen w ≡ x → ViewKeeps (lane_of at told spare v) v u
     → Looks w k x (lane_of at told spare v) (lane_of (record at { side = side }) told spare u)
 
 -- a view that has seen what another has, where all that was seen is what words were
 abbrev pub MeetsSeeBoth : Type 0
-MeetsSeeBoth = (at other : Standing) (told theirs : List ToldItem) (spare more : ℕ) (v u : View) (was : Was) → other.sys ≡ at.sys → AreOfOne was (v.seen ++ u.seen)
+MeetsSeeBoth = (at other : LaneContext) (told theirs : List ToldItem) (spare more : ℕ) (v u : View) (was : Was) → other.sys ≡ at.sys → AreOfOne was (v.seen ++ u.seen)
     → ((w : Word) → IsTrue (is_here at.sys w) → first_value at.sys w ≡ was (place_of w) (mark_in (place_of w) (first_value at.sys w)))
     → Meets (lane_of at told spare v) (lane_of other theirs more u) (lane_of at told spare (record v { seen = v.seen ++ u.seen }))
 
 -- the last-in posts and takes of a queue that the lane serves are those among its records
 abbrev pub OwnCountsAreTold : Type 0
 OwnCountsAreTold = (a l m : ℕ) (event : Entry → Event) (recs : List Rec) (numbers : List ℕ) (v : View) → length numbers ≡ length recs → length v.logs ≡ 1 → on_table_of recs ≡ own_recs v → OwnTold a l m v → IsTrue (list_any (is_serve a) v.serves)
-    → (l ≡ (own_after a (record { l = 0; m = 0 }) (tell event recs numbers)).l) × (m ≡ (own_after a (record { l = 0; m = 0 }) (tell event recs numbers)).m)
+    → (l ≡ (own_after a (record { l = 0; m = 0 }) (tell_lane event recs numbers)).l) × (m ≡ (own_after a (record { l = 0; m = 0 }) (tell_lane event recs numbers)).m)

@@ -14,7 +14,7 @@ use Rattle.qp_model.specs.References.{references}
 use Rattle.qp_model.specs.Line.{line}
 use Rattle.qp_model.specs.Sites.{ring_of, blocks_of}
 use Rattle.qp_table.specs.Counting.{Each, many}
-use Rattle.qp_table.specs.Now.{Now, Leaves}
+use Rattle.qp_table.specs.Now.{Now, LeavesWords}
 use Rattle.qp_table.specs.Rule.{is_log, is_number, is_spot, is_ref, free_bit, lives, in_lines, on_queue, mark_in, pool_at, block_at, queue_at, pool_value, refs_value, line_value, Was, IsKnown, Shows, HasEvent}
 use Rattle.qp_model.specs.Lists.{count_up}
 use Rattle.qp_table.specs.declared.view.SeatLog.{SeatLog}
@@ -22,11 +22,11 @@ use Rattle.qp_table.specs.declared.view.CellPlace.{CellPlace}
 use Rattle.qp_table.specs.declared.view.Serve.{Serve}
 use Rattle.qp_table.specs.declared.view.Glance.{Glance}
 use Rattle.qp_table.specs.declared.view.View.{View}
-use Rattle.qp_table.specs.After.{rec_of, dropped, glanced}
+use Rattle.qp_table.specs.After.{rec_of, reference_dropped, glanced}
 
 -- a glance lies behind what the word shows, or is it
-abbrev pub IsBehind : List ℕ → Glance → Type 0
-IsBehind words g = (mark_in g.word g.value ≤ mark_in g.word (slice_index words g.word)) × (mark_in g.word g.value ≡ mark_in g.word (slice_index words g.word) → g.value ≡ slice_index words g.word)
+abbrev pub GlanceIsBehind : List ℕ → Glance → Type 0
+GlanceIsBehind words g = (mark_in g.word g.value ≤ mark_in g.word (slice_index words g.word)) × (mark_in g.word g.value ≡ mark_in g.word (slice_index words g.word) → g.value ≡ slice_index words g.word)
 
 -- what words were after each of their operations but the last is what these records give
 pub record PastOf (sys : System) (items : List Item) (was : Was) : Type 0 where
@@ -36,7 +36,7 @@ pub record PastOf (sys : System) (items : List Item) (was : Was) : Type 0 where
 
 -- The lanes are those of the rule: each log of the view is the lane of its number, each lane number is a log's or was never
 -- handed out, and the lanes of the latter have no records. The logs may stand in any order.
-pub record IsWhole (sys : System) (v : View) : Type 0 where
+pub record IsWholeView (sys : System) (v : View) : Type 0 where
   pub now : Now
   pub words : List ℕ
   pub was : Was
@@ -45,9 +45,9 @@ pub record IsWhole (sys : System) (v : View) : Type 0 where
   pub own : Each (λ (g : SeatLog). get_elem? lanes g.number ≡ some g.recs) v.logs
   pub once : (n : ℕ) → n < 49 → many (is_log n) v.logs + many (is_number n) v.lane_numbers ≡ 1
   pub rest : (n : ℕ) → n < 49 → 0 < many (is_number n) v.lane_numbers → get_elem? lanes n ≡ some []
-  pub leaves : Leaves sys lanes now
+  pub leaves : LeavesWords sys lanes now
   pub shows : Shows sys words now
-  pub glances : Each (IsBehind words) v.seen
+  pub glances : Each (GlanceIsBehind words) v.seen
   pub seen : Each (λ (g : Glance). g.value ≡ was g.word (mark_in g.word g.value)) v.seen
   pub past : PastOf sys (all_items lanes) was
   pub contents : Each (IsKnown sys lanes now) v.contents
@@ -61,11 +61,11 @@ SeenBelow w k seen = Each (λ (g : Glance). g.word ≡ w → mark_in w g.value �
 
 -- What a drop tells: the view after it, that a reference was there, and that the lane has seen no later operation
 abbrev pub Dropped : ℕ → ℕ → ℕ → ℕ → View → ℕ → View → Type 0
-Dropped o p b r v n u = (u ≡ dropped v (block_at p b) (n + 4294967295) (rec_of 18 o (p ∷ b ∷ (n / 4294967296) ∷ r ∷ [])) p b r) × (0 < n % 4294967296) × SeenBelow (block_at p b) (n / 4294967296) v.seen × (block_at p b < 4224)
+Dropped o p b r v n u = (u ≡ reference_dropped v (block_at p b) (n + 4294967295) (rec_of 18 o (p ∷ b ∷ (n / 4294967296) ∷ r ∷ [])) p b r) × (0 < n % 4294967296) × SeenBelow (block_at p b) (n / 4294967296) v.seen × (block_at p b < 4224)
 
 -- What a look of the view with all lanes tells
 abbrev pub TellsAll : System → View → ℕ → View → Type 0
-TellsAll sys v n u = (u ≡ glanced v 0 n) × IsWhole sys v
+TellsAll sys v n u = (u ≡ glanced v 0 n) × IsWholeView sys v
 
 -- the first states of all words
 abbrev pub first_now : System → Now

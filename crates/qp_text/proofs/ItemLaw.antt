@@ -11,7 +11,7 @@ use Rattle.qp_model.specs.Vocabulary.{word_text, has_count}
 use Rattle.qp_model.specs.Output.{JournalItem, item, last_id}
 use Rattle.qp_model.specs.OutputText.{after_spaces, number_texts, say_texts, line_text}
 use Rattle.qp_text.specs.Numbers.{number_at, number_of_decimal, numbers_at, signed_of}
-use Rattle.qp_text.specs.LineItem.{item_of_numbers, has_signs, id_of, item_of_line, numbered}
+use Rattle.qp_text.specs.LineItem.{item_of_numbers, has_signs, id_of, item_of_line, item_numbered}
 use Rattle.qp_text.specs.TextLaw.{has_64_bits}
 use Rattle.qp_text.proofs.OptionLemmas.{and_then-some}
 use Rattle.qp_text.proofs.NumberLaw.{number_of-is, signed_of-is}
@@ -112,7 +112,7 @@ counted-is form line word texts id i (Some nums) whole known read is = go (has_c
       }
 
 numbered-is : (form : ℕ) (line word : List ℕ) (texts : List (List ℕ)) (i : JournalItem) (id : Option ℕ)
-    → line ≡ word ++ after_spaces texts → id_of form word ≡ id → numbered form texts id ≡ Ok i → IsLine form line i
+    → line ≡ word ++ after_spaces texts → id_of form word ≡ id → item_numbered form texts id ≡ Ok i → IsLine form line i
 numbered-is form line word texts i None whole known is = absurd cc
 numbered-is form line word texts i (Some id) whole known is =
     counted-is form line word texts id i (numbers_at (has_signs form id) 0 texts) whole (id_from-is (last_id form) 1 id word known) refl is

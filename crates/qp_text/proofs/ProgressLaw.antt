@@ -10,7 +10,7 @@ use Rattle.qp_model.specs.declared.record.Rec.{Rec}
 use Rattle.qp_model.specs.Vocabulary.{has_count}
 use Rattle.qp_model.specs.Output.{JournalItem, item, record_item, items_of_lanes, last_id, is_record_in_range, is_lane_in_range, is_end_status}
 use Rattle.qp_text.specs.declared.progress.Reading.{Reading}
-use Rattle.qp_text.specs.Progress.{all_lanes, at_start, begin, open_lane, close, add_record, go_on, take_item}
+use Rattle.qp_text.specs.Progress.{all_lanes, nothing_read, begin_reading, open_lane, close, add_record, go_on, take_item}
 use Rattle.qp_text.specs.TextLaw.{has_64_bits, lane_has_64_bits, record_has_64_bits}
 use Rattle.qp_text.proofs.TakenLaw.{Ranged, Takes, begin-is, lanes-more, records-more, taken, all-front}
 use Rattle.qp_model.proofs.ListLemmas.{all-push}
@@ -157,11 +157,11 @@ module _ (p q : Reading) (i : JournalItem) (begun : p.begun ≡ true) (ranged : 
 
 -- a reading has begun, or nothing has been read
 abbrev pub Good : Reading → Type 0
-Good p = ((p.begun ≡ true) × Ranged p) ⊎ (p ≡ at_start)
+Good p = ((p.begun ≡ true) × Ranged p) ⊎ (p ≡ nothing_read)
 
-take_first : (form : ℕ) (q : Reading) (i : JournalItem) → (form ≡ 1) ⊎ (form ≡ 2) → take_item form at_start i ≡ Ok q → Takes at_start q form i
+take_first : (form : ℕ) (q : Reading) (i : JournalItem) → (form ≡ 1) ⊎ (form ≡ 2) → take_item form nothing_read i ≡ Ok q → Takes nothing_read q form i
 take_first form q i known is = go (i.id == QP) refl is where
-  go : (is_qp : Bool) → (i.id == QP) ≡ is_qp → cond {A = Result Reading ℕ} is_qp (begin at_start form i.nums) (Err 4) ≡ Ok q → Takes at_start q form i
+  go : (is_qp : Bool) → (i.id == QP) ≡ is_qp → cond {A = Result Reading ℕ} is_qp (begin_reading nothing_read form i.nums) (Err 4) ≡ Ok q → Takes nothing_read q form i
   go false qp is = absurd cc
   go true qp is =
       let this : item QP i.nums ≡ i = ap (λ id. item id i.nums) (sym (eqb-true i.id QP qp)) in
@@ -177,5 +177,5 @@ pub take_item-is : (form : ℕ) (p q : Reading) (i : JournalItem) → Good p →
     → 1 ≤ i.id → i.id ≤ last_id form → has_count i.id i.nums ≡ true → has_64_bits i.nums ≡ true → take_item form p i ≡ Ok q → Takes p q form i
 take_item-is form p q i (inl good) same known first past count bits is =
     let form_is = same good.0 in
-    rw (← form_is) (go_on-is p q i good.0 good.1 first (rw form_is past) count bits (cond-taken p.begun (go_on p i) (cond {A = Result Reading ℕ} (i.id == QP) (begin p form i.nums) (Err 4)) (Ok q) good.0 is))
+    rw (← form_is) (go_on-is p q i good.0 good.1 first (rw form_is past) count bits (cond-taken p.begun (go_on p i) (cond {A = Result Reading ℕ} (i.id == QP) (begin_reading p form i.nums) (Err 4)) (Ok q) good.0 is))
 take_item-is form p q i (inr start) same known first past count bits is = rw start (take_first form q i known (rw start at is))

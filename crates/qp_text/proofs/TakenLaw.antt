@@ -7,7 +7,7 @@ use Rattle.qp_model.specs.Kinds.{QP, LANE, END_LINE}
 use Rattle.qp_model.specs.declared.record.Rec.{Rec}
 use Rattle.qp_model.specs.Output.{JournalItem, item, record_item, items_of_lane, items_of_lanes, last_kernel, is_lane_in_range, is_end_status}
 use Rattle.qp_text.specs.declared.progress.Reading.{Reading}
-use Rattle.qp_text.specs.Progress.{all_lanes, at_start, begin}
+use Rattle.qp_text.specs.Progress.{all_lanes, nothing_read, begin_reading}
 use Rattle.qp_text.specs.TextLaw.{records_have_64_bits}
 
 -- the items of the last line, if it was read
@@ -70,18 +70,18 @@ pub record Takes (p q : Reading) (form : ℕ) (i : JournalItem) : Type 0 where
   pub items : taken q ≡ taken p ++ i ∷ []
 
 -- the first line
-pub begin-is : (form : ℕ) (nums : List ℕ) (q : Reading) → (form ≡ 1) ⊎ (form ≡ 2) → begin at_start form nums ≡ Ok q → Takes at_start q form (item QP nums)
+pub begin-is : (form : ℕ) (nums : List ℕ) (q : Reading) → (form ≡ 1) ⊎ (form ≡ 2) → begin_reading nothing_read form nums ≡ Ok q → Takes nothing_read q form (item QP nums)
 begin-is form (stated ∷ kernel ∷ budget ∷ []) q known is =
     go ((stated == form) && nat_le kernel (last_kernel form) && nat_le 1 budget && nat_le budget 1000000) refl is where
       go : (fits : Bool) → ((stated == form) && nat_le kernel (last_kernel form) && nat_le 1 budget && nat_le budget 1000000) ≡ fits
-          → cond {A = Result Reading ℕ} fits (Ok (record at_start { begun = true; form = form; kernel = kernel; budget = budget })) (Err 6) ≡ Ok q
-          → Takes at_start q form (item QP (stated ∷ kernel ∷ budget ∷ []))
+          → cond {A = Result Reading ℕ} fits (Ok (record nothing_read { begun = true; form = form; kernel = kernel; budget = budget })) (Err 6) ≡ Ok q
+          → Takes nothing_read q form (item QP (stated ∷ kernel ∷ budget ∷ []))
       go false fits is = absurd cc
       go true fits is =
           let three = and_parts ((stated == form) && nat_le kernel (last_kernel form) && nat_le 1 budget) (nat_le budget 1000000) fits in
           let two = and_parts ((stated == form) && nat_le kernel (last_kernel form)) (nat_le 1 budget) three.0 in
           let one = and_parts (stated == form) (nat_le kernel (last_kernel form)) two.0 in
-          let this : record at_start { begun = true; form = form; kernel = kernel; budget = budget } ≡ q = cc in
+          let this : record nothing_read { begun = true; form = form; kernel = kernel; budget = budget } ≡ q = cc in
           rw (← this) record {
             begun = refl;
             form_is = refl;

@@ -19,7 +19,7 @@ use Rattle.qp_text.specs.declared.found.TextFault.{TextFault}
 use Rattle.qp_text.specs.declared.progress.Reading.{Reading}
 use Rattle.qp_text.specs.Parts.{split}
 use Rattle.qp_text.specs.LineItem.{form_of_parts, item_of_line}
-use Rattle.qp_text.specs.Progress.{all_lanes, at_start, journal_of}
+use Rattle.qp_text.specs.Progress.{all_lanes, nothing_read, journal_of}
 use Rattle.qp_text.specs.ReadText.{after_line, finish, form_at, last_part, read_parts, read_text, take_line, take_read}
 use Rattle.qp_text.specs.TextLaw.{records_have_64_bits}
 use Rattle.qp_text.proofs.ItemLaw.{IsLine, item_of_line-is}
@@ -170,7 +170,7 @@ read_text-is v j bytes is =
     let parts = split-cons 10 bytes in
     let read = rw parts.2 at is in
     let whole : joined 10 (parts.0 ∷ parts.1) ≡ bytes = sym (ap (joined 10) parts.2) ∙ joined-split 10 bytes in
-    rw (← whole) (read_parts-is 1 v at_start j parts.0 parts.1 (inr refl) read)
+    rw (← whole) (read_parts-is 1 v nothing_read j parts.0 parts.1 (inr refl) read)
 
 -- what a reader answers
 pub Reads-is : (result : Result Found TextFault) (bytes : List ℕ) → ReadsJournal result (read_text bytes)

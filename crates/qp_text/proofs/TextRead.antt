@@ -18,7 +18,7 @@ use Rattle.qp_text.specs.declared.found.TextFault.{TextFault}
 use Rattle.qp_text.specs.Found.{ReadsJournal}
 use Rattle.qp_text.specs.Parts.{split}
 use Rattle.qp_text.specs.LineItem.{form_of_line, form_of_parts, item_of_line}
-use Rattle.qp_text.specs.Progress.{at_start, go_on, take_item}
+use Rattle.qp_text.specs.Progress.{nothing_read, go_on, take_item}
 use Rattle.qp_text.specs.ReadText.{read_parts, read_text, take_line, take_read}
 use Rattle.qp_text.specs.TextLaw.{ReadingIsExact, ReadsTexts, TextsAreOneToOne, has_64_bits, lane_has_64_bits, record_has_64_bits, records_have_64_bits}
 use Rattle.qp_text.proofs.LineText.{IsItem, bare_line, line-free, line-parts, line-read}
@@ -216,7 +216,7 @@ form-known form j has = go (form == 2) (form == 1) refl refl has where
 
 -- over the first line
 reads-first : (form kernel budget : ℕ) → (form ≡ 1) ⊎ (form ≡ 2) → nat_le kernel (last_kernel form) ≡ true → nat_le 1 budget ≡ true → nat_le budget 1000000 ≡ true
-    → ReadsOn at_start (under form kernel budget [] None) (line_text form (first_item form kernel budget))
+    → ReadsOn nothing_read (under form kernel budget [] None) (line_text form (first_item form kernel budget))
 reads-first form kernel budget known fits low high =
     let i = first_item form kernel budget in
     let line = bare_line form i in
@@ -227,14 +227,14 @@ reads-first form kernel budget known fits low high =
       count = refl;
       fits = rw (bits-small form form_small, bits-small kernel (omega (arith, kernel-small form kernel fits)), bits-small budget (leb-true budget 1000000 high)) refl;
     } in
-    let goes : take_item form at_start i ≡ Ok (under form kernel budget [] None) = rw (eq-eqb form form refl, fits, low, high) refl in
-    reads-line at_start (under form kernel budget [] None) line (line-free form i is)
-    (ap (λ v. take_read v at_start (item_of_line v line)) (form-stated form kernel budget known is)
-    ∙ ap (take_read form at_start) (line-read form i is) ∙ goes)
+    let goes : take_item form nothing_read i ≡ Ok (under form kernel budget [] None) = rw (eq-eqb form form refl, fits, low, high) refl in
+    reads-line nothing_read (under form kernel budget [] None) line (line-free form i is)
+    (ap (λ v. take_read v nothing_read (item_of_line v line)) (form-stated form kernel budget known is)
+    ∙ ap (take_read form nothing_read) (line-read form i is) ∙ goes)
 
 -- over the whole text
 reads-all : (form : ℕ) (j : Journal) → has_form form j ≡ true → is_in_range form j ≡ true → records_have_64_bits j.lanes ≡ true
-    → ReadsOn at_start (ended form j.kernel j.budget j.lanes j.end) (text form j)
+    → ReadsOn nothing_read (ended form j.kernel j.budget j.lanes j.end) (text form j)
 reads-all form j has fits bits =
     let six = and_parts (nat_le j.kernel (last_kernel form) && nat_le 1 j.budget && nat_le j.budget 1000000 && is_end_status j.end && nat_le (length j.lanes) 49)
     (list_all (is_lane_in_range form) j.lanes) fits in
@@ -243,7 +243,7 @@ reads-all form j has fits bits =
     let three = and_parts (nat_le j.kernel (last_kernel form) && nat_le 1 j.budget) (nat_le j.budget 1000000) four.0 in
     let two = and_parts (nat_le j.kernel (last_kernel form)) (nat_le 1 j.budget) three.0 in
     let few : 0 + length j.lanes ≤ 49 = omega (arith, leb-true (length j.lanes) 49 five.1) in
-    reads-then at_start (under form j.kernel j.budget [] None) (ended form j.kernel j.budget j.lanes j.end)
+    reads-then nothing_read (under form j.kernel j.budget [] None) (ended form j.kernel j.budget j.lanes j.end)
     (line_text form (head_item form j)) (lines_text form (items_of_lanes 0 j.lanes ++ end_item j ∷ []))
     (reads-first form j.kernel j.budget (form-known form j has) two.0 two.1 three.1)
     (reads-lanes form j.kernel j.budget j.end four.1 [] None 0 j.lanes refl few six.1 bits)
@@ -253,7 +253,7 @@ pub read_text-back : (form : ℕ) (j : Journal) → has_form form j ≡ true →
     → read_text (text form j) ≡ Ok (form, j)
 read_text-back form j has fits bits =
     let all = reads-all form j has fits bits 1 [] in
-    ap (λ bytes. read_parts 1 at_start (split 10 bytes)) (sym (append-nil (text form j))) ∙ all.1
+    ap (λ bytes. read_parts 1 nothing_read (split 10 bytes)) (sym (append-nil (text form j))) ∙ all.1
 
 -- texts of journals are read exactly
 pub reading_is_exact : ReadingIsExact

@@ -26,5 +26,5 @@ abbrev pub OUT_OF_RANGE : ℕ
 OUT_OF_RANGE = 6
 
 -- all codes, in their order
-abbrev pub codes : List ℕ
-codes = WORD ∷ NUMBER ∷ COUNT ∷ PLACE ∷ NO_END ∷ OUT_OF_RANGE ∷ []
+abbrev pub text_codes : List ℕ
+text_codes = WORD ∷ NUMBER ∷ COUNT ∷ PLACE ∷ NO_END ∷ OUT_OF_RANGE ∷ []

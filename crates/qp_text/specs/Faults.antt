@@ -10,10 +10,10 @@ LineAnswers (Err Memory) wanted = ⊤
 LineAnswers (Err (Code code)) wanted = wanted ≡ Err code
 
 -- a value that a call changes became the one that is wanted
-abbrev pub Becomes : {U T : Type 0} → Result U LineFault → T → Result T ℕ → Type 0
-Becomes (Ok _) new wanted = wanted ≡ Ok new
-Becomes (Err Memory) new wanted = ⊤
-Becomes (Err (Code code)) new wanted = wanted ≡ Err code
+abbrev pub LineBecomes : {U T : Type 0} → Result U LineFault → T → Result T ℕ → Type 0
+LineBecomes (Ok _) new wanted = wanted ≡ Ok new
+LineBecomes (Err Memory) new wanted = ⊤
+LineBecomes (Err (Code code)) new wanted = wanted ≡ Err code
 
 -- a value, or this code where there is none
 abbrev pub or_code : {T : Type 0} → ℕ → Option T → Result T ℕ

@@ -27,14 +27,14 @@ item_of_numbers id None = Err NUMBER
 item_of_numbers id (Some nums) = if has_count id nums then Ok (item id nums) else Err COUNT
 
 -- with the word of this id
-abbrev pub numbered : ℕ → List (List ℕ) → Option ℕ → Result JournalItem ℕ
-numbered form texts None = Err WORD
-numbered form texts (Some id) = item_of_numbers id (numbers_at (has_signs form id) 0 texts)
+abbrev pub item_numbered : ℕ → List (List ℕ) → Option ℕ → Result JournalItem ℕ
+item_numbered form texts None = Err WORD
+item_numbered form texts (Some id) = item_of_numbers id (numbers_at (has_signs form id) 0 texts)
 
 -- by the parts of a line
 abbrev pub item_of_parts : ℕ → List (List ℕ) → Result JournalItem ℕ
 item_of_parts form [] = Err WORD
-item_of_parts form (word ∷ texts) = numbered form texts (id_of form word)
+item_of_parts form (word ∷ texts) = item_numbered form texts (id_of form word)
 
 -- the item of a line in a form
 abbrev pub item_of_line : ℕ → List ℕ → Result JournalItem ℕ

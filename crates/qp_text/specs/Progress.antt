@@ -9,8 +9,8 @@ use Rattle.qp_text.specs.Codes.{COUNT, PLACE, OUT_OF_RANGE}
 use Rattle.qp_text.specs.declared.progress.Reading.{Reading}
 
 -- nothing has been read
-abbrev pub at_start : Reading
-at_start = record { begun = false; form = 0; kernel = 0; budget = 0; lanes = []; lane = None; end = None }
+abbrev pub nothing_read : Reading
+nothing_read = record { begun = false; form = 0; kernel = 0; budget = 0; lanes = []; lane = None; end = None }
 
 -- all lanes, with the one that is being read
 abbrev pub all_lanes : Reading → List (List Rec)
@@ -21,12 +21,12 @@ abbrev pub closed : Reading → Result Reading ℕ
 closed p = Ok (record p { lanes = all_lanes p; lane = None })
 
 -- a first line in this form
-abbrev pub begin : Reading → ℕ → List ℕ → Result Reading ℕ
-begin p form (stated ∷ kernel ∷ budget ∷ []) =
+abbrev pub begin_reading : Reading → ℕ → List ℕ → Result Reading ℕ
+begin_reading p form (stated ∷ kernel ∷ budget ∷ []) =
     if (stated == form) && nat_le kernel (last_kernel form) && nat_le 1 budget && nat_le budget 1000000
     then Ok (record p { begun = true; form = form; kernel = kernel; budget = budget })
     else Err OUT_OF_RANGE
-begin p form _ = Err COUNT
+begin_reading p form _ = Err COUNT
 
 -- the head of a lane, whose number must be the next
 abbrev pub open_lane : Reading → List ℕ → Result Reading ℕ
@@ -60,7 +60,7 @@ go_on p i =
 
 -- one more item, in this form
 abbrev pub take_item : ℕ → Reading → JournalItem → Result Reading ℕ
-take_item form p i = if p.begun then go_on p i else (if i.id == QP then begin p form i.nums else Err PLACE)
+take_item form p i = if p.begun then go_on p i else (if i.id == QP then begin_reading p form i.nums else Err PLACE)
 
 -- the journal that was read
 abbrev pub journal_of : Reading → ℕ → Journal

@@ -6,7 +6,7 @@ use Rattle.qp_text.specs.Codes.{WORD, NO_END}
 use Rattle.qp_text.specs.Parts.{split}
 use Rattle.qp_text.specs.LineItem.{item_of_line, form_of_line}
 use Rattle.qp_text.specs.declared.progress.Reading.{Reading}
-use Rattle.qp_text.specs.Progress.{at_start, take_item, journal_of}
+use Rattle.qp_text.specs.Progress.{nothing_read, take_item, journal_of}
 
 -- the first line states the form of all
 abbrev pub form_at : Reading → List ℕ → ℕ
@@ -43,4 +43,4 @@ read_parts number p (line ∷ part ∷ parts) = after_line number (take_line p l
 
 -- the reading of a text
 abbrev pub read_text : List ℕ → Result (ℕ × Journal) (ℕ × ℕ)
-read_text bytes = read_parts 1 at_start (split 10 bytes)
+read_text bytes = read_parts 1 nothing_read (split 10 bytes)

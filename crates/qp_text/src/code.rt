@@ -1,7 +1,7 @@
 //! The codes of a line of a journal's text.
 
 ghost use Rattle.std.specs.Prelude.{◌≡◌, [], ◌∷◌};
-ghost use Rattle.qp_text.specs.Codes.{codes};
+ghost use Rattle.qp_text.specs.Codes.{text_codes};
 
 /// The first token isn't a word of the table, or the line has no newline.
 pub const WORD: u8 = 1;
@@ -18,5 +18,5 @@ pub const RANGE: u8 = 6;
 
 /// The constants of this module are the codes of `specs/Codes`.
 pub fn constants_are_the_table()
-    ensures { WORD ∷ NUMBER ∷ COUNT ∷ PLACE ∷ NO_END ∷ RANGE ∷ [] ≡ codes }
+    ensures { WORD ∷ NUMBER ∷ COUNT ∷ PLACE ∷ NO_END ∷ RANGE ∷ [] ≡ text_codes }
 {}

@@ -2,8 +2,8 @@
 
 ghost use Rattle.std.specs.Prelude.{◌≡◌, ◌≤◌, length};
 ghost use Rattle.qp_model.specs.Output.{item};
-ghost use Rattle.qp_text.specs.Faults.{Becomes};
-ghost use Rattle.qp_text.specs.Progress.{add_record, at_start, begin, close, closed, open_lane, take_item};
+ghost use Rattle.qp_text.specs.Faults.{LineBecomes};
+ghost use Rattle.qp_text.specs.Progress.{add_record, nothing_read, begin_reading, close, closed, open_lane, take_item};
 ghost use Rattle.qp_text.specs.ReadText.{take_line};
 
 use crate::code;
@@ -29,7 +29,7 @@ pub struct Reading {
 impl Reading {
     /// Nothing has been read.
     pub fn new(alloc: Global) -> Reading
-        ensures { result ≡ at_start }
+        ensures { result ≡ nothing_read }
     {
         Reading {
             begun: false,
@@ -46,7 +46,7 @@ impl Reading {
 
     /// Takes one more line.
     pub(crate) fn take_line(&mut self, alloc: Global, line: &[u8]) -> Result<(), LineFault>
-        ensures { Becomes result self.new (take_line self.old line.now) }
+        ensures { LineBecomes result self.new (take_line self.old line.now) }
     {
         let form = if self.begun { self.form } else { form_of(line) };
         let item = read_line(alloc, form, line)?;
@@ -63,7 +63,7 @@ impl Reading {
         nums: &[u64],
     ) -> Result<(), LineFault>
         requires { length nums.now ≤ 14 }
-        ensures { Becomes result self.new (take_item form self.old (item id nums.now)) }
+        ensures { LineBecomes result self.new (take_item form self.old (item id nums.now)) }
     {
         match id {
             _ if self.begun && self.end.is_some() => Err(LineFault::Code(code::PLACE)),
@@ -78,7 +78,7 @@ impl Reading {
 
     /// Takes the first line.
     fn begin(&mut self, form: u8, nums: &[u64]) -> Result<(), LineFault>
-        ensures { Becomes result self.new (begin self.old form nums.now) }
+        ensures { LineBecomes result self.new (begin_reading self.old form nums.now) }
     {
         let [stated, kernel, budget] = nums else {
             return Err(LineFault::Code(code::COUNT));
@@ -96,7 +96,7 @@ impl Reading {
 
     /// Takes the head of a lane.
     fn open_lane(&mut self, alloc: Global, nums: &[u64]) -> Result<(), LineFault>
-        ensures { Becomes result self.new (open_lane self.old nums.now) }
+        ensures { LineBecomes result self.new (open_lane self.old nums.now) }
     {
         let [number] = nums else {
             return Err(LineFault::Code(code::COUNT));
@@ -116,7 +116,7 @@ impl Reading {
 
     /// Takes the last line.
     fn close(&mut self, nums: &[u64]) -> Result<(), LineFault>
-        ensures { Becomes result self.new (close self.old nums.now) }
+        ensures { LineBecomes result self.new (close self.old nums.now) }
     {
         let [status] = nums else {
             return Err(LineFault::Code(code::COUNT));
@@ -131,7 +131,7 @@ impl Reading {
 
     /// Puts the lane that is being read, if there is one, behind those that are done.
     fn close_lane(&mut self) -> Result<(), LineFault>
-        ensures { Becomes result self.new (closed self.old) }
+        ensures { LineBecomes result self.new (closed self.old) }
     {
         if let Some(lane) = self.lane.take() {
             if self.lanes.items.push(lane).is_err() {
@@ -144,7 +144,7 @@ impl Reading {
     /// Takes a record.
     fn add_record(&mut self, id: u8, nums: &[u64]) -> Result<(), LineFault>
         requires { length nums.now ≤ 14 }
-        ensures { Becomes result self.new (add_record self.old id nums.now self.old.lane) }
+        ensures { LineBecomes result self.new (add_record self.old id nums.now self.old.lane) }
     {
         let Some(mut lane) = self.lane.take() else {
             return Err(LineFault::Code(code::PLACE));

@@ -26,9 +26,9 @@ use Rattle.qp_check_calls.specs.CallStateNext.{put_next, queue_next, set_next, n
 use Rattle.qp_check_ends.specs.TickState.{Reaching, Fired, Vain, tick_next}
 use Rattle.qp_check_ends.specs.SettleState.{Before, Seeing, settle_next}
 use Rattle.qp_check_ends.specs.Underway.{Underway, Calling, Ticking, Settling, underway_next, underway_done, underway_asserted, underway_tried}
-use Rattle.qp_check_course.specs.Note.{Note, tells, note_of, entry_and_event_taken, raised_from, dropped_by, comes_back}
+use Rattle.qp_check_course.specs.Note.{Note, tells, note_in, entry_and_event_taken, raised_from, dropped_by, comes_back}
 use Rattle.qp_check_course.specs.Goes.{moment_of}
-use Rattle.qp_check_course.specs.Machine.{State, Between, Telling, Raising, InCall, Releasing, Returning, Asserted, tell_next, is_end, expects_point}
+use Rattle.qp_check_course.specs.Machine.{State, Between, Telling, Raising, InCall, Releasing, Returning, Asserted, tell_next, is_course_end, expects_point}
 use Rattle.qp_unique.proofs.KernelLemmas.{Slot, Starts, Runs, Releases, IsLook, IsSeen, IsTook, IsSpent, IsRest, Went, IsDone, GoesOn, no-threads, slot-of}
 use Rattle.qp_unique.proofs.StackLemmas.{NotOf, PlaceAway, Away, away-looked}
 use Rattle.qp_model.proofs.KernelLaneLemmas.{granted}
@@ -170,12 +170,12 @@ module _ (sys : System) (o : ℕ) (now : Option Entry) (kept : List Entry) (f l 
 
 -- a state that goes on by a release: it is no end, expects no point, and takes no entry
 pub record MustRelease (sys : System) (a : Actor) (s : State) : Type 0 where
-  pub unended : is_end s ≡ false
+  pub unended : is_course_end s ≡ false
   pub unpointed : expects_point s ≡ false
   pub untaken : (f l m : ℕ) (e : Entry) (k : Known) → tell_next sys a s (record { body = body.Took f l m e; known = k }) ≡ None
 
 note-role : (b : Body) (n : Note) (k : Known) → tells n b k ≡ true → role_of b ≡ Drops → ⊥
-unfolding tells note_of role_of
+unfolding tells note_in role_of
 note-role (body.Dec p b d r) n told_specs.Nothing h role = cc
 note-role (body.Back p m b to) n told_specs.Nothing h role = cc
 note-role b n k h role = cc

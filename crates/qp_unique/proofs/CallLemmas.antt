@@ -24,7 +24,7 @@ use Rattle.qp_model.proofs.RecordLemmas.{same_entry-is}
 use Rattle.qp_check_calls.specs.CallState.{Behind, Ends, Goal, ToQueue, ToFront, ToDeferred, ToSet, CallStage, Begins, Refers, Puts, Raises, Restores, Drops, Returns, Flushes, Whole}
 use Rattle.qp_check_calls.specs.CallStateNext.{is_of, refer_next, queue_next, front_next, set_next, put_next, raise_next, restore_next, drop_next, return_next, flush_next, block_next, new_next, event_next, now_next, defer_next, recall_next, subscribe_next, unsubscribe_next, arm_next, rearm_next, disarm_next, begin_next, stage_next}
 use Rattle.qp_check_calls.proofs.StageLemmas.{only-passed}
-use Rattle.qp_unique.specs.Held.{Held, IsCounted, MayComeNext, comes_next, known_then}
+use Rattle.qp_unique.specs.Held.{WordsHeld, IsCounted, MayComeNext, comes_next, known_then}
 use Rattle.qp_unique.specs.NextInCall.{first_of_list, post_told, lifo_told, put_told, refer_told, drop_told, return_told, block_told, new_told, again_told, now_told, defer_told, recall_told, subscribe_told, unsubscribe_told, arm_told, rearm_told, disarm_told, begin_told, flush_told, stage_told}
 use Rattle.qp_unique.specs.Laws.{CallGoesOnAlone}
 use Rattle.qp_check_calls.proofs.NewLemmas.{same_list-is, is_of-is}
@@ -33,7 +33,7 @@ use Rattle.qp_check_calls.proofs.NewLemmas.{same_list-is, is_of-is}
 abbrev tells : Body → Known → Told
 tells body known = record { body = body; known = known }
 
-module _ (sys : System) (h : Held) where
+module _ (sys : System) (h : WordsHeld) where
   -- a post granted has the counts after it
   pub post-granted : (o a f l m : ℕ) (e : Entry) (margin : Option ℕ) → comes_next sys h o (item.Post a f l m e) ≡ true
       → nat_lt (unwrap_or margin 0) (room_before (ring_of sys a) f l m) ≡ true
@@ -452,7 +452,7 @@ pub call_goes_on_alone : CallGoesOnAlone
 call_goes_on_alone sys h o now kept s next t counted comes is = stage-alone sys h o now kept s t.body t.known next counted is comes.may comes.known
 
 -- an entry's reference that is dropped, and a block that comes back
-pub dropped-alone : (sys : System) (h : Held) (o : ℕ) (e : Entry) (d left : ℕ) → MayComeNext sys h o (dropped e.pool e.block d e.name left)
+pub dropped-alone : (sys : System) (h : WordsHeld) (o : ℕ) (e : Entry) (d left : ℕ) → MayComeNext sys h o (dropped e.pool e.block d e.name left)
     → drop_told h e ≡ dropped e.pool e.block d e.name left
 unfolding comes_next known_then
 dropped-alone sys h o e d left comes =
@@ -461,7 +461,7 @@ dropped-alone sys h o e d left comes =
     let known : Left left ≡ Left (length (without_one e.name (h.blocks e.pool e.block).names)) = comes.known in
     rw (known, sym number) refl
 
-pub returned-alone : (sys : System) (h : Held) (o p b d n : ℕ) → MayComeNext sys h o (plain (item.Back p n b (d + 1))) → return_told h p b d ≡ plain (item.Back p n b (d + 1))
+pub returned-alone : (sys : System) (h : WordsHeld) (o p b d n : ℕ) → MayComeNext sys h o (plain (item.Back p n b (d + 1))) → return_told h p b d ≡ plain (item.Back p n b (d + 1))
 unfolding comes_next
 returned-alone sys h o p b d n comes =
     let test : comes_next sys h o (item.Back p n b (d + 1)) ≡ true = comes.may in

@@ -29,7 +29,7 @@ use Rattle.qp_model.specs.WordLaw.{Keeps, Words, is_pool, is_block}
 use Rattle.qp_model.proofs.MachineLemmas.{Counts, after-append}
 use Rattle.qp_model.proofs.WordLawLemmas.{free_blocks-counts, subscribers-counts, time_event-counts}
 use Rattle.qp_unique.specs.Held.{comes_next, known_then}
-use Rattle.qp_unique.specs.Fronts.{log_of, held_after, names_its, has_word}
+use Rattle.qp_unique.specs.Fronts.{draws_of_word, held_after, names_its, is_word_of}
 use Rattle.qp_unique.proofs.PoolLemmas.{back-below, given-below}
 use Rattle.qp_unique.proofs.FrontLemmas.{is-next, hist-next, drawn-below, may-next, says-next, count-next, take-front, take-next}
 use Rattle.qp_model.proofs.PromiseLemmas.{pool_has}
@@ -48,33 +48,33 @@ module _ (sys : System) (lanes : List (List Rec)) (words : Words sys lanes) (ord
 
   -- an operation of the word is allowed
   draws : {S : Type 0} (m : Machine S) (w : Word) (mark o : ℕ) (b : Body) → Keeps S m w lanes → At o b → touch_of o b ≡ Draws w mark
-      → m.may (after m (log_of w xs)) (said o b) ≡ true
+      → m.may (after m (draws_of_word w xs)) (said o b) ≡ true
   draws m w mark o b keeps at is =
       may-next (all_items lanes) order inside ordered w keeps.numbers m keeps.allowed xs (said o b) ys at
       (subst (λ t. drawn_on w t ≡ true) (sym is) (same_word-refl w))
 
   -- what shows it says what it holds
   shows : {S : Type 0} (m : Machine S) (w : Word) (mark o : ℕ) (b : Body) → Keeps S m w lanes → At o b → touch_of o b ≡ Shows w mark
-      → (mark ≡ total w xs) × (total w xs ≤ total w (all_items lanes)) × (m.says (after m (log_of w xs)) b ≡ true)
+      → (mark ≡ total w xs) × (total w xs ≤ total w (all_items lanes)) × (m.says (after m (draws_of_word w xs)) b ≡ true)
   shows m w mark o b keeps at is = says-next (all_items lanes) order inside ordered w keeps.numbers m keeps.allowed keeps.shown xs (said o b) ys mark at is
 
   -- with the count of its operations
   counts : {S : Type 0} (m : Machine S) (w : Word) (mark o : ℕ) (b : Body) → Counts S m → Keeps S m w lanes → At o b → touch_of o b ≡ Shows w mark
-      → (mark == m.count (after m (log_of w xs))) ≡ true
+      → (mark == m.count (after m (draws_of_word w xs))) ≡ true
   counts m w mark o b rises keeps at is =
       let one = shows m w mark o b keeps at is in
-      let two : m.count (after m (log_of w xs)) ≡ total w xs =
+      let two : m.count (after m (draws_of_word w xs)) ≡ total w xs =
       count-next (all_items lanes) order inside ordered w keeps.numbers m keeps.allowed rises xs (said o b ∷ ys) at one.1 in
       let three : mark ≡ total w xs = one.0 in
       grind (arith, nat_tests)
 
   both-counts : {S : Type 0} (m : Machine S) (w : Word) (mark o : ℕ) (b : Body) → Counts S m → Keeps S m w lanes → At o b → touch_of o b ≡ Shows w mark
-      → ((mark == m.count (after m (log_of w xs))) && m.says (after m (log_of w xs)) b) ≡ true
+      → ((mark == m.count (after m (draws_of_word w xs))) && m.says (after m (draws_of_word w xs)) b) ≡ true
   both-counts m w mark o b rises keeps at is = and_from _ _ (counts m w mark o b rises keeps at is) (shows m w mark o b keeps at is).2
 
   -- the lives of a block
   lived : (p c : ℕ) (o : ℕ) (b : Body) (mark : ℕ) → is_block sys p c ≡ true → At o b → touch_of o b ≡ Draws (word.Pool p) mark
-      → (life_of c).may (after (life_of c) (log_of (word.Pool p) xs)) (said o b) ≡ true
+      → (life_of c).may (after (life_of c) (draws_of_word (word.Pool p) xs)) (said o b) ≡ true
   lived p c o b mark block at is =
       may-next (all_items lanes) order inside ordered (word.Pool p) (words.pools p (pool_has sys p c block)).numbers (life_of c) (words.lives p c block).alternate
       xs (said o b) ys at (subst (λ t. drawn_on (word.Pool p) t ≡ true) (sym is) (same_word-refl (word.Pool p)))
@@ -94,7 +94,7 @@ module _ (sys : System) (lanes : List (List Rec)) (words : Words sys lanes) (ord
       let keeps = words.pools p pool in
       let rest = hist-next (all_items lanes) order inside ordered (word.Pool p) keeps.numbers xs (said o (New p n b from sig pars)) ys at (same_word-refl (word.Pool p)) in
       let lt : b < blocks_of sys p =
-      given-below (blocks_of sys p) o p n b from sig pars rest.0 (log_of (word.Pool p) xs) (subst (λ zs. is_allowed (free_blocks (blocks_of sys p)) zs ≡ true) rest.1 keeps.allowed) in
+      given-below (blocks_of sys p) o p n b from sig pars rest.0 (draws_of_word (word.Pool p) xs) (subst (λ zs. is_allowed (free_blocks (blocks_of sys p)) zs ≡ true) rest.1 keeps.allowed) in
       let below : nat_lt b (blocks_of sys p) ≡ true = grind (arith, nat_tests) in
       and_from _ _ pool below
 
@@ -102,13 +102,13 @@ module _ (sys : System) (lanes : List (List Rec)) (words : Words sys lanes) (ord
   unfolding is_block
   back p n b to o pool at =
       let may = draws (free_blocks (blocks_of sys p)) (word.Pool p) (suc n) o (Back p n b to) (words.pools p pool) at refl in
-      let lt : b < blocks_of sys p = back-below (blocks_of sys p) (after (free_blocks (blocks_of sys p)) (log_of (word.Pool p) xs)) p n b to may in
+      let lt : b < blocks_of sys p = back-below (blocks_of sys p) (after (free_blocks (blocks_of sys p)) (draws_of_word (word.Pool p) xs)) p n b to may in
       let below : nat_lt b (blocks_of sys p) ≡ true = grind (arith, nat_tests) in
       and_from _ _ pool below
 
   module _ (events : Entry → Option Event) (c : ℕ) where
     pub comes-front : (o : ℕ) (b : Body) → At o b → names_its sys o b ≡ true → comes_next sys (held_after sys events c xs) o b ≡ true
-    unfolding names_its has_word comes_next held_after
+    unfolding names_its is_word_of comes_next held_after
     comes-front o (Took f l m e) at h = draws (line (ring_of sys o)) (word.Queue o) (f + l + m) o (Took f l m e) (words.queues o h) at refl
     comes-front o (Nil f l m) at h = (shows (line (ring_of sys o)) (word.Queue o) (f + l + m) o (Nil f l m) (words.queues o h) at refl).2
     comes-front o (Seen p f l m) at h = (shows (line (ring_of sys p)) (word.Queue p) (f + l + m) o (Seen p f l m) (words.queues p h) at refl).2
@@ -145,7 +145,7 @@ module _ (sys : System) (lanes : List (List Rec)) (words : Words sys lanes) (ord
     -- what is known beside it; the event of an entry taken is as told
     pub known-front : (o : ℕ) (b : Body) → At o b → names_its sys o b ≡ true → ((f l m : ℕ) (e : Entry) → b ≡ Took f l m e → event_of_entry (record { sys = sys; items = all_items lanes }) e ≡ events e)
         → known_of (record { sys = sys; items = all_items lanes }) o c b ≡ known_then (held_after sys events c xs) o b
-    unfolding names_its has_word known_of known_then held_after free_before references_after set_at
+    unfolding names_its is_word_of known_of known_then held_after free_before references_after set_at
     known-front o (Took f l m e) at h event = ap event_known (event f l m e refl)
     known-front o (New p n b from sig pars) at h event =
         let pool = words.pools p h in
@@ -160,7 +160,7 @@ module _ (sys : System) (lanes : List (List Rec)) (words : Words sys lanes) (ord
         let next = take-next (all_items lanes) order inside ordered (word.Block p b) block.numbers xs (said o (Dec p b d k)) ys at (same_word-refl (word.Block p b)) in
         let size : d + 1 ≡ suc (total (word.Block p b) xs) = omega (arith, number) in
         ap (λ (zs : List Item). Left (length (after references zs).names)) (ap (λ k. take k (hist (word.Block p b) (all_items lanes))) size ∙ next)
-        ∙ ap (λ (s : Refs). Left (length s.names)) (after-append references (log_of (word.Block p b) xs) (said o (Dec p b d k)))
+        ∙ ap (λ (s : Refs). Left (length s.names)) (after-append references (draws_of_word (word.Block p b) xs) (said o (Dec p b d k)))
     known-front o (Lock ceiling) at h event = refl
     known-front o (Same sig n) at h event =
         let set = words.signals sig h in

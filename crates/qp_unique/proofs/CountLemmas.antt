@@ -9,7 +9,7 @@ use Rattle.qp_model.specs.declared.bodies.Body.TheVariants as body
 use Rattle.qp_model.specs.Kinds.{BEGIN, NEW, ASSERT, LOOK, REST}
 use Rattle.qp_model.specs.declared.record.Rec.{Rec}
 use Rattle.qp_model.specs.Output.{is_record_in_range, is_lane_in_range, last_id}
-use Rattle.qp_model.specs.Record.{Item, entry, never, plain_body, one, two, three, four, five, six, seven, given, asserted, forms, body_at, body_of, item_of}
+use Rattle.qp_model.specs.Record.{Item, entry, never, plain_body, one, two, three, four, five, six, seven, new_form, asserted, forms, body_at, body_of, item_of}
 use Rattle.qp_model.specs.Vocabulary.{counts, has_count}
 
 -- what a record may say; `rests` tells whether that is a `rest` too
@@ -94,7 +94,7 @@ module _ (rests : Bool) where
   uncounted k form none o nums h = absurd (let no = none nums in cc)
 
   -- a new event: five numbers and at most eight parameters
-  given-counted : IsCounted 15 given
+  given-counted : IsCounted 15 new_form
   unfolding IsCounted
   given-counted o (p ∷ n ∷ b ∷ from ∷ sig ∷ pars) h =
       let few : length pars ≤ 8 = grind (arith, nat_tests, h) in

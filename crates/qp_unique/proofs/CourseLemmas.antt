@@ -13,18 +13,18 @@ use Rattle.qp_model.specs.Pieces.{Tell, Point}
 use Rattle.qp_model.specs.Acts.{Actor}
 use Rattle.qp_model.proofs.RecordLemmas.{same_entry-is}
 use Rattle.qp_check_calls.specs.CallStateNext.{call_state_next, stage_next}
-use Rattle.qp_check_course.specs.Note.{body_of, entry_and_event_taken, dropped_by, raised_from}
+use Rattle.qp_check_course.specs.Note.{body_of_note, entry_and_event_taken, dropped_by, raised_from}
 use Rattle.qp_check_course.specs.Goes.{moment_of}
-use Rattle.qp_check_course.specs.Machine.{State, Between, Telling, Raising, AtPoint, InCall, AtPost, Releasing, Returning, Asserted, next, tell_next, point_next}
+use Rattle.qp_check_course.specs.Machine.{State, Between, Telling, Raising, AtPoint, InCall, AtPost, Releasing, Returning, Asserted, state_next, tell_next, point_next}
 use Rattle.qp_check_course.proofs.NoteLemmas.{tells-is, raised-is, taken-is, dropped-is, back-is}
-use Rattle.qp_unique.specs.Held.{Held, IsCounted, MayComeNext, comes_next, known_then}
+use Rattle.qp_unique.specs.Held.{WordsHeld, IsCounted, MayComeNext, comes_next, known_then}
 use Rattle.qp_unique.specs.NextInCourse.{took_told, piece_told, PieceComes}
 use Rattle.qp_unique.specs.Laws.{CourseGoesOnAlone}
 use Rattle.qp_unique.proofs.CallLemmas.{call_goes_on_alone, dropped-alone, returned-alone}
 use Rattle.qp_model.proofs.KernelLaneLemmas.{granted}
 use Rattle.qp_model.proofs.ListLemmas.{mapped}
 
-module _ (sys : System) (h : Held) (a : Actor) (counted : IsCounted h) where
+module _ (sys : System) (h : WordsHeld) (a : Actor) (counted : IsCounted h) where
   -- the front entry is taken
   took-alone : (f l m : ℕ) (e : Entry) (ev : Event) → MayComeNext sys h a.o (told_took f l m e ev) → took_told h (h.lines a.o) (h.lines a.o).entries ≡ Some (told_took f l m e ev)
   unfolding comes_next known_then
@@ -56,7 +56,7 @@ module _ (sys : System) (h : Held) (a : Actor) (counted : IsCounted h) where
       ap (option_map Tell) same ∙ ap (λ y. Some (Tell y)) (sym whole)
   tell-alone (Telling way n ends ts leaf c) later t comes is =
       let at = tells-is n t.body t.known (granted _ _ _ is).0 in
-      let whole : t ≡ plain (body_of n) = at in
+      let whole : t ≡ plain (body_of_note n) = at in
       ap (λ y. Some (Tell y)) (sym whole)
   tell-alone (Raising way ceiling ts leaf c) later t comes is =
       let x = mapped _ (raised_from ceiling t.body t.known) later is in
@@ -91,6 +91,6 @@ module _ (sys : System) (h : Held) (a : Actor) (counted : IsCounted h) where
   point-alone s later is = absurd (cc)
 
 pub course_goes_on_alone : CourseGoesOnAlone
-unfolding next PieceComes
+unfolding state_next PieceComes
 course_goes_on_alone sys h a s later (Tell t) counted comes is = tell-alone sys h a counted s later t comes is
 course_goes_on_alone sys h a s later Point counted comes is = point-alone sys h a counted s later is

@@ -15,7 +15,7 @@ use Rattle.qp_model.proofs.ListLemmas.{all_below_at}
 use Rattle.qp_model.proofs.HistoryLemmas.{length-hist, same_word-refl, in_order-at}
 use Rattle.qp_model.proofs.KnowingLemmas.{same_word-is}
 use Rattle.qp_model.proofs.MachineLemmas.{Counts, is_allowed-at, is_allowed-front, count-after}
-use Rattle.qp_unique.specs.Fronts.{log_of}
+use Rattle.qp_unique.specs.Fronts.{draws_of_word}
 
 -- a list by its last element
 pub from-behind : {A : Type 0} (P : List A → Type 0) → P [] → ((xs : List A) (x : A) → P xs → P (xs ++ x ∷ [])) → (xs : List A) → P xs
@@ -131,15 +131,15 @@ module _ (all order : List Item) (inside : (P : Item → Type 0) → AllByRecurs
         (all_below_at (total w all) (λ n. length (filter (λ j. drawn_as w n (touch j)) all) == 1) (and_parts _ _ numbers).1 (total w xs) (drawn-below xs i ys is h))
 
     -- up to a place of the order the history is what was drawn before it
-    pub numbered-front : (xs ys : List Item) → order ≡ xs ++ ys → numbered w all (total w xs) ≡ log_of w xs
-    unfolding numbered total log_of
-    numbered-front = from-behind (λ xs. (ys : List Item) → order ≡ xs ++ ys → numbered w all (total w xs) ≡ log_of w xs) none more
+    pub numbered-front : (xs ys : List Item) → order ≡ xs ++ ys → numbered w all (total w xs) ≡ draws_of_word w xs
+    unfolding numbered total draws_of_word
+    numbered-front = from-behind (λ xs. (ys : List Item) → order ≡ xs ++ ys → numbered w all (total w xs) ≡ draws_of_word w xs) none more
       where
-        none : (ys : List Item) → order ≡ ys → numbered w all (total w []) ≡ log_of w []
+        none : (ys : List Item) → order ≡ ys → numbered w all (total w []) ≡ draws_of_word w []
         none ys is = refl
 
-        more : (xs : List Item) (i : Item) → ((ys : List Item) → order ≡ xs ++ ys → numbered w all (total w xs) ≡ log_of w xs)
-            → (ys : List Item) → order ≡ (xs ++ i ∷ []) ++ ys → numbered w all (total w (xs ++ i ∷ [])) ≡ log_of w (xs ++ i ∷ [])
+        more : (xs : List Item) (i : Item) → ((ys : List Item) → order ≡ xs ++ ys → numbered w all (total w xs) ≡ draws_of_word w xs)
+            → (ys : List Item) → order ≡ (xs ++ i ∷ []) ++ ys → numbered w all (total w (xs ++ i ∷ [])) ≡ draws_of_word w (xs ++ i ∷ [])
         more xs i before ys is = by (drawn_on w (touch i)) refl
           where
             at : order ≡ xs ++ i ∷ ys
@@ -160,42 +160,42 @@ module _ (all order : List Item) (inside : (P : Item → Type 0) → AllByRecurs
                 rw whole (before (i ∷ ys) at)
 
     -- the history from there on
-    pub hist-front : (xs ys : List Item) → order ≡ xs ++ ys → total w xs ≤ total w all → (more : List Item) × (hist w all ≡ log_of w xs ++ more)
+    pub hist-front : (xs ys : List Item) → order ≡ xs ++ ys → total w xs ≤ total w all → (more : List Item) × (hist w all ≡ draws_of_word w xs ++ more)
     unfolding hist
     hist-front xs ys is h =
         let at = numbered-more w all (total w xs) (total w all) h in (at.0, at.1 ∙ ap (λ zs. zs ++ at.0) (numbered-front xs ys is))
 
-    pub hist-next : (xs : List Item) (i : Item) (ys : List Item) → order ≡ xs ++ i ∷ ys → drawn_on w (touch i) ≡ true → (more : List Item) × (hist w all ≡ log_of w xs ++ i ∷ more)
+    pub hist-next : (xs : List Item) (i : Item) (ys : List Item) → order ≡ xs ++ i ∷ ys → drawn_on w (touch i) ≡ true → (more : List Item) × (hist w all ≡ draws_of_word w xs ++ i ∷ more)
     unfolding hist numbered
     hist-next xs i ys is h =
         let at = numbered-more w all (suc (total w xs)) (total w all) (drawn-below xs i ys is h) in
-        let front : numbered w all (total w xs) ++ filter (λ j. drawn_as w (total w xs) (touch j)) all ≡ log_of w xs ++ i ∷ [] =
+        let front : numbered w all (total w xs) ++ filter (λ j. drawn_as w (total w xs) (touch j)) all ≡ draws_of_word w xs ++ i ∷ [] =
         rw (drawn-alone xs i ys is h) (ap (λ zs. zs ++ i ∷ []) (numbered-front xs (i ∷ ys) is)) in
-        (at.0, at.1 ∙ ap (λ zs. zs ++ at.0) front ∙ append_assoc (log_of w xs) (i ∷ []) at.0)
+        (at.0, at.1 ∙ ap (λ zs. zs ++ at.0) front ∙ append_assoc (draws_of_word w xs) (i ∷ []) at.0)
 
-    log-length : (xs : List Item) → length (log_of w xs) ≡ total w xs
-    unfolding log_of total
+    log-length : (xs : List Item) → length (draws_of_word w xs) ≡ total w xs
+    unfolding draws_of_word total
     log-length xs = refl
 
     -- the first operations, as many as stand before the place
-    pub take-front : (xs ys : List Item) → order ≡ xs ++ ys → total w xs ≤ total w all → take (total w xs) (hist w all) ≡ log_of w xs
+    pub take-front : (xs ys : List Item) → order ≡ xs ++ ys → total w xs ≤ total w all → take (total w xs) (hist w all) ≡ draws_of_word w xs
     take-front xs ys is h =
         let at = hist-front xs ys is h in
-        ap (take (total w xs)) at.1 ∙ subst (λ n. take n (log_of w xs ++ at.0) ≡ log_of w xs) (log-length xs) (take-append_seam (log_of w xs) at.0)
+        ap (take (total w xs)) at.1 ∙ subst (λ n. take n (draws_of_word w xs ++ at.0) ≡ draws_of_word w xs) (log-length xs) (take-append_seam (draws_of_word w xs) at.0)
 
     pub take-next : (xs : List Item) (i : Item) (ys : List Item) → order ≡ xs ++ i ∷ ys → drawn_on w (touch i) ≡ true
-        → take (suc (total w xs)) (hist w all) ≡ log_of w xs ++ i ∷ []
+        → take (suc (total w xs)) (hist w all) ≡ draws_of_word w xs ++ i ∷ []
     take-next xs i ys is h =
         let at = hist-next xs i ys is h in
-        let front : hist w all ≡ (log_of w xs ++ i ∷ []) ++ at.0 = at.1 ∙ sym (append_assoc (log_of w xs) (i ∷ []) at.0) in
-        let size : length (log_of w xs ++ i ∷ []) ≡ suc (total w xs) = omega (arith, length-append (log_of w xs) (i ∷ []), log-length xs) in
-        ap (take (suc (total w xs))) front ∙ subst (λ n. take n ((log_of w xs ++ i ∷ []) ++ at.0) ≡ log_of w xs ++ i ∷ []) size (take-append_seam (log_of w xs ++ i ∷ []) at.0)
+        let front : hist w all ≡ (draws_of_word w xs ++ i ∷ []) ++ at.0 = at.1 ∙ sym (append_assoc (draws_of_word w xs) (i ∷ []) at.0) in
+        let size : length (draws_of_word w xs ++ i ∷ []) ≡ suc (total w xs) = omega (arith, length-append (draws_of_word w xs) (i ∷ []), log-length xs) in
+        ap (take (suc (total w xs))) front ∙ subst (λ n. take n ((draws_of_word w xs ++ i ∷ []) ++ at.0) ≡ draws_of_word w xs ++ i ∷ []) size (take-append_seam (draws_of_word w xs ++ i ∷ []) at.0)
 
     -- a record that draws a number may, after what was drawn before it
     module _ {S : Type 0} (m : Machine S) (allowed : is_allowed m (hist w all) ≡ true) where
-      pub may-next : (xs : List Item) (i : Item) (ys : List Item) → order ≡ xs ++ i ∷ ys → drawn_on w (touch i) ≡ true → m.may (after m (log_of w xs)) i ≡ true
+      pub may-next : (xs : List Item) (i : Item) (ys : List Item) → order ≡ xs ++ i ∷ ys → drawn_on w (touch i) ≡ true → m.may (after m (draws_of_word w xs)) i ≡ true
       may-next xs i ys is h =
-          let at = hist-next xs i ys is h in is_allowed-at m (log_of w xs) at.0 i (subst (λ zs. is_allowed m zs ≡ true) at.1 allowed)
+          let at = hist-next xs i ys is h in is_allowed-at m (draws_of_word w xs) at.0 i (subst (λ zs. is_allowed m zs ≡ true) at.1 allowed)
 
       module _ (shown : is_shown m w all ≡ true) where
         shown-both : (xs : List Item) (i : Item) (ys : List Item) (mark : ℕ) → order ≡ xs ++ i ∷ ys → touch i ≡ Shows w mark
@@ -215,15 +215,15 @@ module _ (all order : List Item) (inside : (P : Item → Type 0) → AllByRecurs
 
         -- a record that shows the word says what it holds there
         pub says-next : (xs : List Item) (i : Item) (ys : List Item) (mark : ℕ) → order ≡ xs ++ i ∷ ys → touch i ≡ Shows w mark
-            → (mark ≡ total w xs) × (total w xs ≤ total w all) × (m.says (after m (log_of w xs)) i.body ≡ true)
+            → (mark ≡ total w xs) × (total w xs ≤ total w all) × (m.says (after m (draws_of_word w xs)) i.body ≡ true)
         says-next xs i ys mark is h =
             let at = shown-both xs i ys mark is h in
             let few : total w xs ≤ total w all = omega (arith, at.0, at.1) in
-            let front : take mark (hist w all) ≡ log_of w xs = ap (λ n. take n (hist w all)) at.0 ∙ take-front xs (i ∷ ys) is few in
+            let front : take mark (hist w all) ≡ draws_of_word w xs = ap (λ n. take n (hist w all)) at.0 ∙ take-front xs (i ∷ ys) is few in
             (at.0, few, subst (λ zs. m.says (after m zs) i.body ≡ true) front at.2)
 
       -- the state's count is that of the records before
-      pub count-next : Counts S m → (xs ys : List Item) → order ≡ xs ++ ys → total w xs ≤ total w all → m.count (after m (log_of w xs)) ≡ total w xs
+      pub count-next : Counts S m → (xs ys : List Item) → order ≡ xs ++ ys → total w xs ≤ total w all → m.count (after m (draws_of_word w xs)) ≡ total w xs
       count-next counts xs ys is h =
           let at = hist-front xs ys is h in
-          count-after m counts (log_of w xs) (is_allowed-front m (log_of w xs) at.0 (subst (λ zs. is_allowed m zs ≡ true) at.1 allowed)) ∙ log-length xs
+          count-after m counts (draws_of_word w xs) (is_allowed-front m (draws_of_word w xs) at.0 (subst (λ zs. is_allowed m zs ≡ true) at.1 allowed)) ∙ log-length xs

@@ -22,7 +22,7 @@ use Rattle.qp_model.specs.KernelLane.{role_of, Setting, Reading, lane_next, lane
 use Rattle.qp_model.specs.Points.{pieces_at, pieces_in}
 use Rattle.qp_model.specs.OneOrder.{Placed, with_stimuli, parts_of_look, look_of}
 use Rattle.qp_model.proofs.KernelRowLemmas.{lane_on-then, pieces_in-then}
-use Rattle.qp_check_course.specs.Machine.{State, start_state, run, next as piece_next, tell_next}
+use Rattle.qp_check_course.specs.Machine.{State, start_state, state_after, state_next as piece_next, tell_next}
 use Rattle.qp_model_order.specs.RunOrder.{placed}
 use Rattle.qp_unique.specs.Held.{MayComeNext}
 use Rattle.qp_unique.specs.NextInCourse.{piece_told, PieceComes}
@@ -45,23 +45,23 @@ none-at p (z ∷ xs) x ys h = none-at p xs x ys (by (p z) h)
     by false h = h
 
 -- a course in two parts
-pub run-split : (sys : System) (a : Actor) (s end : State) (ps qs : List Piece) → run sys a s (ps ++ qs) ≡ Some end
-    → (mid : State) × (run sys a s ps ≡ Some mid) × (run sys a mid qs ≡ Some end)
-unfolding run
+pub run-split : (sys : System) (a : Actor) (s end : State) (ps qs : List Piece) → state_after sys a s (ps ++ qs) ≡ Some end
+    → (mid : State) × (state_after sys a s ps ≡ Some mid) × (state_after sys a mid qs ≡ Some end)
+unfolding state_after
 run-split sys a s end [] qs h = (s, refl, h)
 run-split sys a s end (p ∷ ps) qs h = by (piece_next sys a s p) h (λ later more. run-split sys a later end ps qs more)
   where
-    by : (o : Option State) → option_and_then (λ later. run sys a later (ps ++ qs)) o ≡ Some end
-        → ((later : State) → run sys a later (ps ++ qs) ≡ Some end → (mid : State) × (run sys a later ps ≡ Some mid) × (run sys a mid qs ≡ Some end))
-        → (mid : State) × (option_and_then (λ later. run sys a later ps) o ≡ Some mid) × (run sys a mid qs ≡ Some end)
+    by : (o : Option State) → option_and_then (λ later. state_after sys a later (ps ++ qs)) o ≡ Some end
+        → ((later : State) → state_after sys a later (ps ++ qs) ≡ Some end → (mid : State) × (state_after sys a later ps ≡ Some mid) × (state_after sys a mid qs ≡ Some end))
+        → (mid : State) × (option_and_then (λ later. state_after sys a later ps) o ≡ Some mid) × (state_after sys a mid qs ≡ Some end)
     by None h more = absurd (cc)
     by (Some later) h more = more later h
 
-pub run-first : (sys : System) (a : Actor) (s end : State) (p : Piece) (qs : List Piece) → run sys a s (p ∷ qs) ≡ Some end → (later : State) × (piece_next sys a s p ≡ Some later)
-unfolding run
+pub run-first : (sys : System) (a : Actor) (s end : State) (p : Piece) (qs : List Piece) → state_after sys a s (p ∷ qs) ≡ Some end → (later : State) × (piece_next sys a s p ≡ Some later)
+unfolding state_after
 run-first sys a s end p qs h = by (piece_next sys a s p) refl h
   where
-    by : (o : Option State) → piece_next sys a s p ≡ o → option_and_then (λ later. run sys a later qs) o ≡ Some end → (later : State) × (piece_next sys a s p ≡ Some later)
+    by : (o : Option State) → piece_next sys a s p ≡ o → option_and_then (λ later. state_after sys a later qs) o ≡ Some end → (later : State) × (piece_next sys a s p ≡ Some later)
     by None e h = absurd (cc)
     by (Some later) e h = (later, e)
 
@@ -124,12 +124,12 @@ module _ (sys : System) (charts : (p : ℕ) (d : ObjectDef) → object_at sys p 
 
     -- an object's course up to this record, and from it on
     pub course-here : (p : ℕ) (d : ObjectDef) (is : object_at sys p ≡ Some d)
-        → (mid end : State) × (run sys (actor d (charts p d is)) (start_state (actor d (charts p d is)) (first_config d)) (pieces_in a.w rule p (unread sys) front) ≡ Some mid)
-        × (run sys (actor d (charts p d is)) mid (pieces_at a.w p k i ++ pieces_in a.w rule p step.0 la) ≡ Some end)
+        → (mid end : State) × (state_after sys (actor d (charts p d is)) (start_state (actor d (charts p d is)) (first_config d)) (pieces_in a.w rule p (unread sys) front) ≡ Some mid)
+        × (state_after sys (actor d (charts p d is)) mid (pieces_at a.w p k i ++ pieces_in a.w rule p step.0 la) ≡ Some end)
         × (MayEnd (ends_at_point (pieces_in a.w rule p (unread sys) front ++ (pieces_at a.w p k i ++ pieces_in a.w rule p step.0 la))) end ⊎ EndsOwn p a.lane0)
     course-here p d is =
         let whole = a.course p d is in
-        let moved = subst (λ ps. run sys (actor d (charts p d is)) (start_state (actor d (charts p d is)) (first_config d)) ps ≡ Some whole.0) (pieces-here p) whole.1 in
+        let moved = subst (λ ps. state_after sys (actor d (charts p d is)) (start_state (actor d (charts p d is)) (first_config d)) ps ≡ Some whole.0) (pieces-here p) whole.1 in
         let split = run-split sys (actor d (charts p d is)) (start_state (actor d (charts p d is)) (first_config d)) whole.0 (pieces_in a.w rule p (unread sys) front) _ moved in
         (split.0, whole.0, split.1, split.2, subst (λ ps. MayEnd (ends_at_point ps) whole.0 ⊎ EndsOwn p a.lane0) (pieces-here p) whole.2)
 
@@ -152,14 +152,14 @@ module _ (sys : System) (charts : (p : ℕ) (d : ObjectDef) → object_at sys p 
 
     -- it is the piece that comes next in the object's course
     pub told-next : (p : ℕ) (d : ObjectDef) (is : object_at sys p ≡ Some d) → d.priority ≡ p → i.of ≡ p → is_turn_mark i.body ≡ false
-        → (mid : State) × (run sys (actor d (charts p d is)) (start_state (actor d (charts p d is)) (first_config d)) (pieces_in a.w rule p (unread sys) front) ≡ Some mid)
+        → (mid : State) × (state_after sys (actor d (charts p d is)) (start_state (actor d (charts p d is)) (first_config d)) (pieces_in a.w rule p (unread sys) front) ≡ Some mid)
         × (piece_told sys (held_to sys k.ceiling xs) (actor d (charts p d is)) mid ≡ Some (Tell (told a.w p k.ceiling i.body)))
         × ((later : State) × (tell_next sys (actor d (charts p d is)) mid (told a.w p k.ceiling i.body) ≡ Some later))
     unfolding PieceComes piece_next
     told-next p d is owner of unmarked =
         let at = course-here p d is in
-        let first : run sys (actor d (charts p d is)) at.0 (Tell (told a.w p k.ceiling i.body) ∷ pieces_in a.w rule p step.0 la) ≡ Some at.1 =
-        subst (λ ps. run sys (actor d (charts p d is)) at.0 (ps ++ pieces_in a.w rule p step.0 la) ≡ Some at.1) (tells-at p of unmarked) at.3 in
+        let first : state_after sys (actor d (charts p d is)) at.0 (Tell (told a.w p k.ceiling i.body) ∷ pieces_in a.w rule p step.0 la) ≡ Some at.1 =
+        subst (λ ps. state_after sys (actor d (charts p d is)) at.0 (ps ++ pieces_in a.w rule p step.0 la) ≡ Some at.1) (tells-at p of unmarked) at.3 in
         let later = run-first sys (actor d (charts p d is)) at.0 at.1 (Tell (told a.w p k.ceiling i.body)) _ first in
         let comes : MayComeNext sys (held_to sys k.ceiling xs) d.priority (told a.w p k.ceiling i.body) =
         subst (λ o. MayComeNext sys (held_to sys k.ceiling xs) o (told a.w p k.ceiling i.body)) (sym owner)

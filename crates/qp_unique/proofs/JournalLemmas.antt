@@ -26,7 +26,7 @@ use Rattle.qp_model.specs.OneOrder.{Placed, OneThread, IsOneOrder, with_stimuli,
 use Rattle.qp_model.specs.Lawful.{Lawful, KernelHolds, OrderHolds, SourceLanes, reading_holds, source_lanes, lanes_before, one_thread}
 use Rattle.qp_model_order.specs.RunOrder.{placed, items_ordered}
 use Rattle.qp_model_order.specs.Placing.{look_item}
-use Rattle.qp_unique.specs.Tidy.{run_order, unspilt}
+use Rattle.qp_unique.specs.Tidy.{unspilt_order, unspilt}
 use Rattle.qp_unique.proofs.LookLemmas.{lane_turn, turn_if, turns-none}
 use Rattle.qp_unique.proofs.Sides.{HasKernel, no-port}
 use Rattle.qp_model.proofs.HistoryLemmas.{in_order-front}
@@ -415,8 +415,8 @@ module _ (sys : System) (stimuli : List (List Stim)) (j : Journal) (t : Threaded
       subst (AllByRecursion (λ l. AllByRecursion P l)) (sym t.sources_are) (each-lane P t.others (every-parts P (lane_items t.first) (all_items t.others) (subst (AllByRecursion P) all-split h)).1)
 
   -- each record of the order is one of the lanes
-  pub inside : (P : Item → Type 0) → AllByRecursion P (all_items j.lanes) → AllByRecursion P (items_ordered (run_order sys j))
-  unfolding run_order
+  pub inside : (P : Item → Type 0) → AllByRecursion P (all_items j.lanes) → AllByRecursion P (items_ordered (unspilt_order sys j))
+  unfolding unspilt_order
   inside P h = order-all P true (kept_sources sys j) (kept_zero j) (kept-each P (lane_items (lane_at j 0)) (raw-zero P h)) (lanes-kept P (source_lanes sys j) (raw-sources P h))
 
   -- the law book's order, and what of it isn't in this one
@@ -426,8 +426,8 @@ module _ (sys : System) (stimuli : List (List Stim)) (j : Journal) (t : Threaded
   abbrev last_spill : List Placed
   last_spill = filter (λ (z : Placed). is_spill z.item.body) law_order
 
-  order-is : law_order ≡ run_order sys j ++ last_spill
-  unfolding order run_order one_thread
+  order-is : law_order ≡ unspilt_order sys j ++ last_spill
+  unfolding order unspilt_order one_thread
   order-is =
       ends-kept law_order t.ordered.ends
       ∙ ap (λ us. us ++ last_spill)
@@ -439,13 +439,13 @@ module _ (sys : System) (stimuli : List (List Stim)) (j : Journal) (t : Threaded
       by true = refl
       by false = spills-kept 1 (source_lanes sys j)
 
-  pub in-order : in_order [] (items_ordered (run_order sys j)) ≡ true
+  pub in-order : in_order [] (items_ordered (unspilt_order sys j)) ≡ true
   unfolding one_thread
   in-order =
-      in_order-front [] (items_ordered (run_order sys j)) (items_ordered last_spill)
-      (subst (λ xs. in_order [] xs ≡ true) (ap items_ordered order-is ∙ map-append (λ (z : Placed). z.item) (run_order sys j) last_spill) t.ordered.numbers)
+      in_order-front [] (items_ordered (unspilt_order sys j)) (items_ordered last_spill)
+      (subst (λ xs. in_order [] xs ≡ true) (ap items_ordered order-is ∙ map-append (λ (z : Placed). z.item) (unspilt_order sys j) last_spill) t.ordered.numbers)
 
-  pub ends-run : (xs : List Placed) (x : Placed) (ys : List Placed) → run_order sys j ≡ xs ++ x ∷ ys → list_any (λ (z : Placed). is_end z.item.body) xs ≡ false
+  pub ends-run : (xs : List Placed) (x : Placed) (ys : List Placed) → unspilt_order sys j ≡ xs ++ x ∷ ys → list_any (λ (z : Placed). is_end z.item.body) xs ≡ false
   unfolding one_thread
   ends-run xs x ys is =
       let here : law_order ≡ xs ++ x ∷ (ys ++ last_spill) = order-is ∙ ap (λ us. us ++ last_spill) is ∙ append_assoc xs (x ∷ ys) last_spill in
@@ -453,7 +453,7 @@ module _ (sys : System) (stimuli : List (List Stim)) (j : Journal) (t : Threaded
       sym (any-placed xs) ∙ ends-before (items_ordered xs) x.item (items_ordered (ys ++ last_spill)) (subst (λ zs. ends_last zs ≡ true) split t.ordered.ends)
 
   -- a look has the stimulus that acts in it, or none; then a lane ended with a `spill`, and no look follows
-  pub turn-at : (xs : List Placed) (n floor : ℕ) (ys : List Placed) → run_order sys j ≡ xs ++ placed 0 (look_item n floor) ∷ ys
+  pub turn-at : (xs : List Placed) (n floor : ℕ) (ys : List Placed) → unspilt_order sys j ≡ xs ++ placed 0 (look_item n floor) ∷ ys
       → (is_turn (acts_next sys stimuli xs (floor == 0)) (turns_at 1 n (kept_sources sys j)) ≡ true)
       ⊎ ((has_spilt sys j ≡ true) × (no_look ys ≡ true) × (turns_at 1 n (kept_sources sys j) ≡ []))
   unfolding one_thread look_right

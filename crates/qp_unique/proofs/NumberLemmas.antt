@@ -6,7 +6,7 @@ use Rattle.qp_model.specs.declared.record.Rec.{Rec}
 use Rattle.qp_model.specs.declared.bodies.Body.{Body}
 use Rattle.qp_model.specs.declared.bodies.Body.TheVariants as body
 use Rattle.qp_model.specs.KindSorts.{is_malformed}
-use Rattle.qp_model.specs.Record.{entry, never, plain_body, one, two, three, four, five, six, seven, given, asserted, forms, read_by, body_at, body_of}
+use Rattle.qp_model.specs.Record.{entry, never, plain_body, one, two, three, four, five, six, seven, new_form, asserted, forms, read_by, body_at, body_of}
 
 -- the numbers of the records that say this
 abbrev pub nums_in : Body → List ℕ
@@ -135,7 +135,7 @@ seven-gives x h (a ∷ b ∷ c ∷ d ∷ e ∷ f ∷ []) = tt
 seven-gives x h (a ∷ b ∷ c ∷ d ∷ e ∷ f ∷ g ∷ []) = h a b c d e f g
 seven-gives x h (a ∷ b ∷ c ∷ d ∷ e ∷ f ∷ g ∷ y ∷ ys) = tt
 
-given-gives : Gives given
+given-gives : Gives new_form
 given-gives [] = tt
 given-gives (a ∷ []) = tt
 given-gives (a ∷ b ∷ []) = tt

@@ -32,11 +32,11 @@ use Rattle.qp_plain_sound.specs.Sound.{hands_in}
 use Rattle.qp_plain_sound.proofs.Standing.{block-pool}
 use Rattle.qp_replay.specs.Numbers.{is_on, has_word as has_its_word}
 use Rattle.qp_replay.proofs.NamedRecords.{named-records}
-use Rattle.qp_replay.specs.RerunLaws.{GoesOn, made}
+use Rattle.qp_replay.specs.RerunLaws.{RerunGoesOn, made}
 use Rattle.qp_replay.proofs.Histories.{hist-line, on_word}
 use Rattle.qp_replay.proofs.OneThread.{one-thread}
-use Rattle.qp_unique.specs.Fronts.{has_word, names_its, touches_its}
-use Rattle.qp_unique.specs.Tidy.{run_order, unspilt, IsTidy, LacksStimulus}
+use Rattle.qp_unique.specs.Fronts.{is_word_of, names_its, touches_its}
+use Rattle.qp_unique.specs.Tidy.{unspilt_order, unspilt, IsTidy, LacksStimulus}
 use Rattle.qp_unique.proofs.EqualLemmas.{part-elsewhere, zero-is}
 use Rattle.qp_unique.proofs.JournalLemmas.{Threaded, threaded, kept_sources, kept_zero, lane-each, lane0-is, in-order}
 use Rattle.qp_unique.proofs.SideParts.{lane-stood}
@@ -94,8 +94,8 @@ beyond (l ∷ ls) zero few = absurd (omega (arith, few))
 beyond (l ∷ ls) (suc m) few = beyond ls m (omega (arith, few))
 
 -- The two tests of a record's word are the same.
-same-word_test : (sys : System) (w : Word) → has_its_word sys w ≡ has_word sys w
-unfolding has_word
+same-word_test : (sys : System) (w : Word) → has_its_word sys w ≡ is_word_of sys w
+unfolding is_word_of
 same-word_test sys (word.Pool p) = refl
 same-word_test sys _ = refl
 
@@ -207,7 +207,7 @@ module _ (sys : System) (stimuli : List (List Stim)) (j : Journal) (sound : IsSo
   last = all_placed 0 (spills (lane_items (lane_at j 0))) ++ spills_from 1 (source_lanes sys j)
 
   abbrev all : List Placed
-  all = run_order sys j ++ last
+  all = unspilt_order sys j ++ last
 
   last-each : AllByRecursion (λ i. is_spill i.body ≡ true) (items_ordered last)
   last-each =
@@ -217,8 +217,8 @@ module _ (sys : System) (stimuli : List (List Stim)) (j : Journal) (sound : IsSo
 
   numbers : in_order [] (items_ordered all) ≡ true
   numbers =
-      subst (λ us. in_order [] us ≡ true) (sym (map-append (λ (z : Placed). z.item) (run_order sys j) last))
-      (order-spills [] (items_ordered (run_order sys j)) (items_ordered last) (in-order sys stimuli j t) last-each)
+      subst (λ us. in_order [] us ≡ true) (sym (map-append (λ (z : Placed). z.item) (unspilt_order sys j) last))
+      (order-spills [] (items_ordered (unspilt_order sys j)) (items_ordered last) (in-order sys stimuli j t) last-each)
 
   in-last : (a : ℕ) → (a ≡ 0 → ⊥) → lane_in last a ≡ lane_in (spills_from 1 (source_lanes sys j)) a
   in-last a some =
@@ -237,26 +237,26 @@ module _ (sys : System) (stimuli : List (List Stim)) (j : Journal) (sound : IsSo
       let kept : kept_sources sys j ≡ map (λ lane. unspilt lane) front ++ unspilt raw ∷ map (λ lane. unspilt lane) back =
       ap (map (λ lane. unspilt lane)) are ∙ map-append (λ lane. unspilt lane) front (raw ∷ back) in
       let kept_size : length (map (λ lane. unspilt lane) front) ≡ m = length-map front (λ lane. unspilt lane) ∙ size in
-      let first : lane_in (run_order sys j) (1 + m) ≡ unspilt raw =
-      ap (λ n. lane_in (run_order sys j) (1 + n)) (sym kept_size)
+      let first : lane_in (unspilt_order sys j) (1 + m) ≡ unspilt raw =
+      ap (λ n. lane_in (unspilt_order sys j) (1 + n)) (sym kept_size)
       ∙ sym (lane-stood sys stimuli j its.lawful single t (map (λ lane. unspilt lane) front) (unspilt raw) (map (λ lane. unspilt lane) back) kept) in
       let second : lane_in last (1 + m) ≡ spills raw =
       in-last (1 + m) (λ e. omega (arith, e)) ∙ ap (λ n. lane_in (spills_from 1 (source_lanes sys j)) (1 + n)) (sym size)
       ∙ ap (λ ls. lane_in (spills_from 1 ls) (1 + length front)) are ∙ spills-at 1 front raw back in
-      lane_in-append (run_order sys j) last (1 + m) ∙ (λ n. first n ++ second n)
+      lane_in-append (unspilt_order sys j) last (1 + m) ∙ (λ n. first n ++ second n)
       ∙ cut-parts j.end raw (lane-each (λ l. spills_cut j.end l ≡ true) front raw back (source_lanes sys j) are t.sources_cut)
 
   zero-lane : lane_in all 0 ≡ lane_items (lane_at j 0)
-  unfolding run_order
+  unfolding unspilt_order
   zero-lane =
       let zero_raw = lane_items (lane_at j 0) in
       let second : lane_in last 0 ≡ spills zero_raw =
       lane_in-append (all_placed 0 (spills zero_raw)) (spills_from 1 (source_lanes sys j)) 0
       ∙ (λ n. lane_in-own 0 (spills zero_raw) n ++ spills-below 1 (source_lanes sys j) 0 (omega arith) n) ∙ append-nil (spills zero_raw) in
-      lane_in-append (run_order sys j) last 0 ∙ (λ n. zero-is true (kept_sources sys j) (kept_zero j) n ++ second n) ∙ cut-parts j.end zero_raw t.zero_cut
+      lane_in-append (unspilt_order sys j) last 0 ∙ (λ n. zero-is true (kept_sources sys j) (kept_zero j) n ++ second n) ∙ cut-parts j.end zero_raw t.zero_cut
 
   lanes-are : (a : ℕ) → lane_in all a ≡ lane_items (get_or j.lanes a [])
-  unfolding run_order
+  unfolding unspilt_order
   lanes-are zero = zero-lane ∙ lane0-is sys stimuli j t ∙ ap (λ ls. lane_items (get_or ls 0 [])) (sym t.lanes)
   lanes-are (suc m) = by (nat_lt m (length t.others)) refl ∙ ap (λ ls. lane_items (get_or ls (suc m) [])) (sym t.lanes)
     where
@@ -267,7 +267,7 @@ module _ (sys : System) (stimuli : List (List Stim)) (j : Journal) (sound : IsSo
           let size : length (source_lanes sys j) ≡ length t.others = ap length t.sources_are ∙ length-map t.others (λ lane. lane_items lane) in
           let kept : length (kept_sources sys j) ≡ length (source_lanes sys j) = length-map (source_lanes sys j) (λ lane. unspilt lane) in
           let none : lane_in last (suc m) ≡ [] = in-last (suc m) (λ e. omega (arith, e)) ∙ spills-beyond 1 (source_lanes sys j) (suc m) (omega (arith, few, size)) in
-          lane_in-append (run_order sys j) last (suc m)
+          lane_in-append (unspilt_order sys j) last (suc m)
           ∙ (λ n. order-beyond true (kept_sources sys j) (kept_zero j) (suc m) (omega (arith, few, size, kept)) n ++ none n)
           ∙ sym (ap lane_items (beyond t.others m few) ∙ items-none)
 
@@ -281,7 +281,7 @@ module _ (sys : System) (stimuli : List (List Stim)) (j : Journal) (sound : IsSo
   stood : (xs : List Placed) (z : Placed) (ys : List Placed) → all ≡ xs ++ z ∷ ys → Stood sys (items_ordered xs) z.item
   stood xs z ys split =
       let cut : order ≡ places_of [] xs ++ place_behind xs z ∷ places_of (xs ++ z ∷ []) ys = ap (places_of []) split ∙ places_of-append [] xs (z ∷ ys) in
-      let goes : GoesOn sys j.lanes (places_of [] xs) (place_behind xs z ∷ places_of (xs ++ z ∷ []) ys) =
+      let goes : RerunGoesOn sys j.lanes (places_of [] xs) (place_behind xs z ∷ places_of (xs ++ z ∷ []) ys) =
       (one-thread sys stimuli j order sound fit its.lawful serial).0 (places_of [] xs) (place_behind xs z ∷ places_of (xs ++ z ∷ []) ys) cut in
       let at = here j.lanes all lanes-are xs z ys split in
       let next = goes.next (place_behind xs z) (places_of (xs ++ z ∷ []) ys) at.r refl at.is in

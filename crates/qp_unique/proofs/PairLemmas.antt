@@ -24,9 +24,9 @@ use Rattle.qp_model.specs.Course.{actor, first_config}
 use Rattle.qp_model.specs.KernelLane.{Drops, Looks, role_of, Setting, floor_in, Upcoming, Inside, Looking, Chosen, Ended, Resting, Again, Over, Halted, Reading, lane_next, unread}
 use Rattle.qp_model.specs.Points.{pieces_at, pieces_in, begins_row}
 use Rattle.qp_model.specs.OneOrder.{Placed}
-use Rattle.qp_check_course.specs.Machine.{State, start_state, run, next as piece_next, tell_next}
+use Rattle.qp_check_course.specs.Machine.{State, start_state, state_after, state_next as piece_next, tell_next}
 use Rattle.qp_model_order.specs.RunOrder.{placed}
-use Rattle.qp_unique.specs.Held.{Held, comes_next}
+use Rattle.qp_unique.specs.Held.{WordsHeld, comes_next}
 use Rattle.qp_unique.specs.NextInCourse.{piece_told, PieceComes}
 use Rattle.qp_unique.proofs.CourseLemmas.{course_goes_on_alone}
 use Rattle.qp_unique.proofs.KernelLemmas.{Slot, Starts, Runs, Releases, IsLook, IsSeen, IsTook, IsSpent, IsRest, IsOwned, item-is}
@@ -61,15 +61,15 @@ tell-is e = cc
 
 -- a course from its beginning
 abbrev run_of : System → ObjectDef → Chart → List Piece → Option State
-run_of sys d chart ps = run sys (actor d chart) (start_state (actor d chart) (first_config d)) ps
+run_of sys d chart ps = state_after sys (actor d chart) (start_state (actor d chart) (first_config d)) ps
 
 -- nothing goes on by an entry taken where a release is to come
 left-took : (sys : System) (d : ObjectDef) (chart : Chart) (w : Facts) (s : Setting) (one two end : State) (p : ℕ) (some : p ≡ 0 → ⊥) (more : List Piece)
-    → MustRelease sys (actor d chart) one → two ≡ one → run sys (actor d chart) two more ≡ Some end
+    → MustRelease sys (actor d chart) one → two ≡ one → state_after sys (actor d chart) two more ≡ Some end
     → ((c f l m : ℕ) × (e : Entry) × (rest : List Piece) × (more ≡ Tell (told w p c (body.Took f l m e)) ∷ rest)) → ⊥
-unfolding run told piece_next
+unfolding state_after told piece_next
 left-took sys d chart w s one two end p some more must same went (c, f, l, m, e, rest, took) =
-    let moved = subst (λ ps. run sys (actor d chart) two ps ≡ Some end) took went in
+    let moved = subst (λ ps. state_after sys (actor d chart) two ps ≡ Some end) took went in
     let later = run-first sys (actor d chart) two end (Tell (told w p c (body.Took f l m e))) rest moved in
     let next : tell_next sys (actor d chart) one (told w p c (body.Took f l m e)) ≡ Some later.0 =
     subst (λ z. tell_next sys (actor d chart) z (told w p c (body.Took f l m e)) ≡ Some later.0) same later.1 in
@@ -108,11 +108,11 @@ ends-behind p some (f ∷ front) ib lb of (u ∷ us) i is own =
 
 -- no list ends where a release is to come, or goes on by an entry taken
 left : (sys : System) (d : ObjectDef) (chart : Chart) (w : Facts) (s : Setting) (one two end : State) (p : ℕ) (some : p ≡ 0 → ⊥) (before more : List Piece)
-    → MustRelease sys (actor d chart) one → two ≡ one → run sys (actor d chart) two more ≡ Some end → MayEnd (ends_at_point (before ++ more)) end
+    → MustRelease sys (actor d chart) one → two ≡ one → state_after sys (actor d chart) two more ≡ Some end → MayEnd (ends_at_point (before ++ more)) end
     → ends_at_point before ≡ false → BeginsTook w s p some more → ⊥
-unfolding run told piece_next
+unfolding state_after told piece_next
 left sys d chart w s one two end p some before more must same went may tail (inl none) =
-    let stays : run sys (actor d chart) two [] ≡ Some end = subst (λ ps. run sys (actor d chart) two ps ≡ Some end) none went in
+    let stays : state_after sys (actor d chart) two [] ≡ Some end = subst (λ ps. state_after sys (actor d chart) two ps ≡ Some end) none went in
     let last : end ≡ one = sym (some-same stays) ∙ same in
     let ends : MayEnd (ends_at_point before) one =
     subst (λ z. MayEnd (ends_at_point before) z) last (subst (λ ps. MayEnd (ends_at_point ps) end) (append-nil before) (subst (λ ps. MayEnd (ends_at_point (before ++ ps)) end) none may)) in
@@ -138,7 +138,7 @@ module _ (sys : System) (charts : (p : ℕ) (d : ObjectDef) → object_at sys p 
 
   module _ (a b : Side sys charts stimuli mode) (xs : List Placed) (front : List Item) (ia ib : Item) (la lb : List Item) (k : Reading)
       (g : Agree sys charts stimuli mode a b xs front (ia ∷ la) (ib ∷ lb) k) where
-    abbrev held : Held
+    abbrev held : WordsHeld
     held = held_to sys k.ceiling xs
 
     tells-same : (p : ℕ) → IsObject sys p → ia.of ≡ p → ib.of ≡ p → is_turn_mark ia.body ≡ false → is_turn_mark ib.body ≡ false → ia ≡ ib
@@ -148,7 +148,7 @@ module _ (sys : System) (charts : (p : ℕ) (d : ObjectDef) → object_at sys p 
         let one = told-next sys charts stimuli mode bounded positive a xs front ia la k g.one p d.0 d.1 d.2 ofa unmarked_a in
         let two = told-next sys charts stimuli mode bounded positive b xs front ib lb k g.two p d.0 d.1 d.2 ofb unmarked_b in
         let mids : Some one.0 ≡ Some two.0 =
-        sym one.1 ∙ ap (run sys (actor d.0 (charts p d.0 d.1)) (start_state (actor d.0 (charts p d.0 d.1)) (first_config d.0))) (g.pieces p) ∙ two.1 in
+        sym one.1 ∙ ap (state_after sys (actor d.0 (charts p d.0 d.1)) (start_state (actor d.0 (charts p d.0 d.1)) (first_config d.0))) (g.pieces p) ∙ two.1 in
         let same : one.0 ≡ two.0 = some-same mids in
         let told_both : Some (Tell (told a.w p k.ceiling ia.body)) ≡ Some (Tell (told b.w p k.ceiling ib.body)) =
         sym one.2 ∙ ap (piece_told sys held (actor d.0 (charts p d.0 d.1))) same ∙ two.2 in
@@ -170,7 +170,7 @@ module _ (sys : System) (charts : (p : ℕ) (d : ObjectDef) → object_at sys p 
         let mids : Some one.0 ≡ Some two.0 =
         sym one.1 ∙ ap (run_of sys d.0 (charts p d.0 d.1)) (g.pieces p) ∙ two.2 in
         let same : two.0 ≡ one.0 = sym (some-same mids) in
-        let first = subst (λ ps. run sys (actor d.0 (charts p d.0 d.1)) two.0 (ps ++ pieces_in b.w (in_kernel mode.kernel sys b.has) p (step sys charts stimuli mode bounded positive b xs front ib lb k g.two).0 lb) ≡ Some two.1) point two.3 in
+        let first = subst (λ ps. state_after sys (actor d.0 (charts p d.0 d.1)) two.0 (ps ++ pieces_in b.w (in_kernel mode.kernel sys b.has) p (step sys charts stimuli mode bounded positive b xs front ib lb k g.two).0 lb) ≡ Some two.1) point two.3 in
         let later = run-first sys (actor d.0 (charts p d.0 d.1)) two.0 two.1 Point _ first in
         let alone = course_goes_on_alone sys held (actor d.0 (charts p d.0 d.1)) two.0 later.0 Point (b.counted xs _ k.ceiling g.two.order) tt later.1 in
         let both : Some (Tell (told a.w p k.ceiling ia.body)) ≡ Some Point = sym one.2 ∙ ap (piece_told sys held (actor d.0 (charts p d.0 d.1))) (sym same) ∙ alone in
@@ -197,12 +197,12 @@ module _ (sys : System) (charts : (p : ℕ) (d : ObjectDef) → object_at sys p 
         let away = away-after (in_kernel mode.kernel sys b.has) k there.0 ib p (slot sys charts stimuli mode bounded positive b xs front ib lb k g.two) at not_drops not started in
         let more = away-pieces b.w (in_kernel mode.kernel sys b.has) p (positive p its) mode.one lb there.0 b.last away
         (unspilt-here sys charts stimuli mode bounded positive b xs front ib lb k g.two).1 there.2 in
-        let went = subst (λ ps. run sys (actor d.0 (charts p d.0 d.1)) two.0 (ps ++ pieces_in b.w (in_kernel mode.kernel sys b.has) p there.0 lb) ≡ Some two.1) none two.3 in
+        let went = subst (λ ps. state_after sys (actor d.0 (charts p d.0 d.1)) two.0 (ps ++ pieces_in b.w (in_kernel mode.kernel sys b.has) p there.0 lb) ≡ Some two.1) none two.3 in
         let may = subst (λ ps. MayEnd (ends_at_point (pieces_in b.w (in_kernel mode.kernel sys b.has) p (unread sys) front ++ (ps ++ pieces_in b.w (in_kernel mode.kernel sys b.has) p there.0 lb))) two.1 ⊎ EndsOwn p b.lane0) none two.4 in
         by d.0 d.1 must same went more may there.0 refl
       where
         by : (d : ObjectDef) (is : object_at sys p ≡ Some d) {one two end : State} → MustRelease sys (actor d (charts p d is)) one → two ≡ one
-            → {more : List Piece} → run sys (actor d (charts p d is)) two more ≡ Some end → BeginsTook b.w (in_kernel mode.kernel sys b.has) p (positive p its) more
+            → {more : List Piece} → state_after sys (actor d (charts p d is)) two more ≡ Some end → BeginsTook b.w (in_kernel mode.kernel sys b.has) p (positive p its) more
             → (MayEnd (ends_at_point (pieces_in b.w (in_kernel mode.kernel sys b.has) p (unread sys) front ++ more)) end ⊎ EndsOwn p b.lane0) → (next : Reading) → more ≡ pieces_in b.w (in_kernel mode.kernel sys b.has) p next lb → ⊥
         by d is {one} {two} {end} must same {more} went took (inl may) next are =
             left sys d (charts p d is) b.w (in_kernel mode.kernel sys b.has) one two end p (positive p its) (pieces_in b.w (in_kernel mode.kernel sys b.has) p (unread sys) front) more must same went may (g.two.tail p at) took
@@ -283,19 +283,19 @@ module _ (sys : System) (charts : (p : ℕ) (d : ObjectDef) → object_at sys p 
       (owned-unmarked-b sys charts stimuli mode bounded positive a b xs front ia ib la lb k g p its two.0 two.1)
 
   running-same : k.unstarted ≡ [] → (p : ℕ) (outer : List ℕ) → k.place ≡ Inside → k.running ≡ p ∷ outer → ia ≡ ib
-  running-same started p outer at run =
-      let its : IsObject sys p = (subst (Descends sys) run g.stacked.running).0 in
-      by its (runs-only (in_kernel mode.kernel sys a.has) k _ ia started p outer at run slot-a) (runs-only (in_kernel mode.kernel sys b.has) k _ ib started p outer at run slot-b)
+  running-same started p outer at state_after =
+      let its : IsObject sys p = (subst (Descends sys) state_after g.stacked.running).0 in
+      by its (runs-only (in_kernel mode.kernel sys a.has) k _ ia started p outer at state_after slot-a) (runs-only (in_kernel mode.kernel sys b.has) k _ ib started p outer at state_after slot-b)
     where
       by : IsObject sys p → ((ia.of ≡ p) × IsOwned (role_of ia.body)) ⊎ lookA sys charts stimuli mode bounded positive a b xs front ia ib la lb k g
           → ((ib.of ≡ p) × IsOwned (role_of ib.body)) ⊎ lookB sys charts stimuli mode bounded positive a b xs front ia ib la lb k g → ia ≡ ib
       by its (inl one) (inl two) = tells-both p its one two
       by its (inl one) (inr two) =
           absurd (tells-point sys charts stimuli mode bounded positive a b xs front ia ib la lb k g p outer its one.0
-          (owned-unmarked-a sys charts stimuli mode bounded positive a b xs front ia ib la lb k g p its one.0 one.1) at run two)
+          (owned-unmarked-a sys charts stimuli mode bounded positive a b xs front ia ib la lb k g p its one.0 one.1) at state_after two)
       by its (inr one) (inl two) =
           absurd (tells-point sys charts stimuli mode bounded positive b a xs front ib ia lb la k back p outer its two.0
-          (owned-unmarked-b sys charts stimuli mode bounded positive a b xs front ia ib la lb k g p its two.0 two.1) at run one)
+          (owned-unmarked-b sys charts stimuli mode bounded positive a b xs front ia ib la lb k g p its two.0 two.1) at state_after one)
       by its (inr one) (inr two) = looks-same sys charts stimuli mode bounded positive a b xs front ia ib la lb k g one two
 
   released-same : k.unstarted ≡ [] → (p : ℕ) → k.place ≡ Ended p → ia ≡ ib
@@ -330,10 +330,10 @@ module _ (sys : System) (charts : (p : ℕ) (d : ObjectDef) → object_at sys p 
   placed-same started Inside at = by k.running refl
     where
       by : (os : List ℕ) → k.running ≡ os → ia ≡ ib
-      by [] run =
+      by [] state_after =
           looks-same sys charts stimuli mode bounded positive a b xs front ia ib la lb k g
-          (look-only (in_kernel mode.kernel sys a.has) k _ ia started (inr (at, run)) slot-a) (look-only (in_kernel mode.kernel sys b.has) k _ ib started (inr (at, run)) slot-b)
-      by (p ∷ outer) run = running-same started p outer at run
+          (look-only (in_kernel mode.kernel sys a.has) k _ ia started (inr (at, state_after)) slot-a) (look-only (in_kernel mode.kernel sys b.has) k _ ib started (inr (at, state_after)) slot-b)
+      by (p ∷ outer) state_after = running-same started p outer at state_after
   placed-same started (Looking p others) at =
       let one = seen-only (in_kernel mode.kernel sys a.has) k _ ia started p others at slot-a in
       let two = seen-only (in_kernel mode.kernel sys b.has) k _ ib started p others at slot-b in

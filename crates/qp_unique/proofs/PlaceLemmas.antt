@@ -15,7 +15,7 @@ use Rattle.qp_model.specs.OneOrder.{Placed}
 use Rattle.qp_model.specs.Places.{IsSerial, RecordPlace, in_order, is_next, item_at, items_at, must_precede, places, touch_at, touch_first}
 use Rattle.qp_model.proofs.KnowingLemmas.{same_word-is}
 use Rattle.qp_model_order.specs.RunOrder.{items_ordered}
-use Rattle.qp_replay.specs.Remaining.{place}
+use Rattle.qp_replay.specs.Remaining.{record_place}
 use Rattle.qp_replay.proofs.OrderLemmas.{irreflexive, taken, taken-all, taken-more, taken-none}
 use Rattle.qp_replay.specs.RerunLaws.{placed_at, record_at}
 use Rattle.qp_replay.proofs.Along.{get-lane}
@@ -27,7 +27,7 @@ use Rattle.qp_model.proofs.RecordLemmas.{lane-length}
 
 -- the place of a record behind these
 abbrev pub place_behind : List Placed → Placed → RecordPlace
-place_behind xs z = place z.lane (length (lane_in xs z.lane))
+place_behind xs z = record_place z.lane (length (lane_in xs z.lane))
 
 -- the places of records, behind others
 abbrev pub places_of : List Placed → List Placed → List RecordPlace
@@ -155,11 +155,11 @@ module _ (lanes : List (List Rec)) (all : List Placed) (are : (a : ℕ) → lane
       let inside = h.lane in
       let within = h.within in
       let less : z.lane < length t.fronts = omega (arith, size, inside) in
-      let more : IsPermutation (taken 0 lanes (set t.fronts z.lane (get_or t.fronts z.lane 0 + 1))) (place (0 + z.lane) (get_or t.fronts z.lane 0) ∷ taken 0 lanes t.fronts) =
+      let more : IsPermutation (taken 0 lanes (set t.fronts z.lane (get_or t.fronts z.lane 0 + 1))) (record_place (0 + z.lane) (get_or t.fronts z.lane 0) ∷ taken 0 lanes t.fronts) =
       taken-more 0 lanes t.fronts z.lane less (omega (arith, at, within)) in
       let number : 0 + z.lane ≡ z.lane = omega arith in
-      let moved = subst (λ n. IsPermutation (taken 0 lanes (set t.fronts z.lane (get_or t.fronts z.lane 0 + 1))) (place n (length (lane_in xs z.lane)) ∷ taken 0 lanes t.fronts)) number
-      (subst (λ k. IsPermutation (taken 0 lanes (set t.fronts z.lane (get_or t.fronts z.lane 0 + 1))) (place (0 + z.lane) k ∷ taken 0 lanes t.fronts)) at more) in
+      let moved = subst (λ n. IsPermutation (taken 0 lanes (set t.fronts z.lane (get_or t.fronts z.lane 0 + 1))) (record_place n (length (lane_in xs z.lane)) ∷ taken 0 lanes t.fronts)) number
+      (subst (λ k. IsPermutation (taken 0 lanes (set t.fronts z.lane (get_or t.fronts z.lane 0 + 1))) (record_place (0 + z.lane) k ∷ taken 0 lanes t.fronts)) at more) in
       record {
         fronts = set t.fronts z.lane (get_or t.fronts z.lane 0 + 1);
         each = length-set t.fronts z.lane (get_or t.fronts z.lane 0 + 1) ∙ size;

@@ -40,14 +40,14 @@ use Rattle.qp_model.specs.Lawful.{Lawful, ObjectHolds, EndHolds, facts_of, setti
 use Rattle.qp_model.specs.WordLaw.{is_object}
 use Rattle.qp_model.proofs.LineLemmas.{line_is}
 use Rattle.qp_model.proofs.ListLemmas.{every-parts}
-use Rattle.qp_check_course.specs.Machine.{State, run, start_state, is_end as is_end_of_course, expects_point}
-use Rattle.qp_check_course.specs.Decided.{reads_to, may_end as list_may_end, ends_well}
+use Rattle.qp_check_course.specs.Machine.{State, state_after, start_state, is_course_end as is_end_of_course, expects_point}
+use Rattle.qp_check_course.specs.Decided.{reads_to, may_be_cut as list_may_end, ends_well}
 use Rattle.qp_check_course.specs.Followable.{IsFollowable}
 use Rattle.qp_check_course.proofs.FollowLemmas.{pieces-decided}
 use Rattle.qp_model_order.specs.RunOrder.{items_ordered}
 use Rattle.qp_unique.specs.Held.{IsCounted, MayComeNext}
-use Rattle.qp_unique.specs.Fronts.{held_after, log_of, has_word, names_its}
-use Rattle.qp_unique.specs.Tidy.{run_order, unspilt, IsTidy}
+use Rattle.qp_unique.specs.Fronts.{held_after, draws_of_word, is_word_of, names_its}
+use Rattle.qp_unique.specs.Tidy.{unspilt_order, unspilt, IsTidy}
 use Rattle.qp_unique.proofs.FrontLemmas.{from-behind, may-next}
 use Rattle.qp_unique.proofs.ComesLemmas.{comes-front, known-front}
 use Rattle.qp_unique.proofs.StackLemmas.{found-in}
@@ -76,39 +76,39 @@ nil-among w o f l m i ys of nil c (x ∷ xs) h = by (x.of == o) h (λ k. nil-amo
     by true h later = later (and_parts _ _ h).1
     by false h later = later h
 
-none : (w : Word) {S : Type 0} (m : Machine S) → is_allowed m (log_of w []) ≡ true
-unfolding is_allowed allowed_from log_of
+none : (w : Word) {S : Type 0} (m : Machine S) → is_allowed m (draws_of_word w []) ≡ true
+unfolding is_allowed allowed_from draws_of_word
 none w m = refl
 
-log-snoc : (w : Word) (zs : List Item) (i : Item) → log_of w (zs ++ i ∷ []) ≡ log_of w zs ++ cond (drawn_on w (touch i)) (i ∷ []) []
-unfolding log_of
+log-snoc : (w : Word) (zs : List Item) (i : Item) → draws_of_word w (zs ++ i ∷ []) ≡ draws_of_word w zs ++ cond (drawn_on w (touch i)) (i ∷ []) []
+unfolding draws_of_word
 log-snoc w zs i = filter-append (λ j. drawn_on w (touch j)) zs (i ∷ [])
 
 -- what was drawn before a place was allowed
 allowed-front : (all order : List Item) (inside : (P : Item → Type 0) → AllByRecursion P all → AllByRecursion P order) (ordered : in_order [] order ≡ true) (w : Word) (numbers : is_numbered w all ≡ true)
-    {S : Type 0} (m : Machine S) (allowed : is_allowed m (hist w all) ≡ true) (xs ys : List Item) → order ≡ xs ++ ys → is_allowed m (log_of w xs) ≡ true
+    {S : Type 0} (m : Machine S) (allowed : is_allowed m (hist w all) ≡ true) (xs ys : List Item) → order ≡ xs ++ ys → is_allowed m (draws_of_word w xs) ≡ true
 allowed-front all order inside ordered w numbers m allowed xs ys is =
-    from-behind (λ zs. (us : List Item) → order ≡ zs ++ us → is_allowed m (log_of w zs) ≡ true) (λ us e. none w m) (λ zs i before us e. more zs i before us e) xs ys is
+    from-behind (λ zs. (us : List Item) → order ≡ zs ++ us → is_allowed m (draws_of_word w zs) ≡ true) (λ us e. none w m) (λ zs i before us e. more zs i before us e) xs ys is
   where
-    more : (zs : List Item) (i : Item) → ((us : List Item) → order ≡ zs ++ us → is_allowed m (log_of w zs) ≡ true) → (us : List Item) → order ≡ (zs ++ i ∷ []) ++ us → is_allowed m (log_of w (zs ++ i ∷ [])) ≡ true
+    more : (zs : List Item) (i : Item) → ((us : List Item) → order ≡ zs ++ us → is_allowed m (draws_of_word w zs) ≡ true) → (us : List Item) → order ≡ (zs ++ i ∷ []) ++ us → is_allowed m (draws_of_word w (zs ++ i ∷ [])) ≡ true
     more zs i before us e =
         let at : order ≡ zs ++ i ∷ us = e ∙ append_assoc zs (i ∷ []) us in
         by (drawn_on w (touch i)) refl (before (i ∷ us) at) (λ h. may-next all order inside ordered w numbers m allowed zs i us at h)
       where
-        by : (b : Bool) → drawn_on w (touch i) ≡ b → is_allowed m (log_of w zs) ≡ true → (drawn_on w (touch i) ≡ true → m.may (after m (log_of w zs)) i ≡ true) → is_allowed m (log_of w (zs ++ i ∷ [])) ≡ true
-        by true h old may = subst (λ us. is_allowed m us ≡ true) (sym (log-snoc w zs i ∙ ap (λ c. log_of w zs ++ cond c (i ∷ []) []) h)) (is_allowed-append m (log_of w zs) i old (may h))
-        by false h old may = subst (λ us. is_allowed m us ≡ true) (sym (log-snoc w zs i ∙ ap (λ c. log_of w zs ++ cond c (i ∷ []) []) h ∙ append-nil (log_of w zs))) old
+        by : (b : Bool) → drawn_on w (touch i) ≡ b → is_allowed m (draws_of_word w zs) ≡ true → (drawn_on w (touch i) ≡ true → m.may (after m (draws_of_word w zs)) i ≡ true) → is_allowed m (draws_of_word w (zs ++ i ∷ [])) ≡ true
+        by true h old may = subst (λ us. is_allowed m us ≡ true) (sym (log-snoc w zs i ∙ ap (λ c. draws_of_word w zs ++ cond c (i ∷ []) []) h)) (is_allowed-append m (draws_of_word w zs) i old (may h))
+        by false h old may = subst (λ us. is_allowed m us ≡ true) (sym (log-snoc w zs i ∙ ap (λ c. draws_of_word w zs ++ cond c (i ∷ []) []) h ∙ append-nil (draws_of_word w zs))) old
 
 -- a queue that the system doesn't have
 queue-named : (sys : System) (a o : ℕ) (b : Body) → names_its sys o b ≡ true → drawn_on (word.Queue a) (touch_of o b) ≡ true → is_object sys a ≡ true
-unfolding names_its has_word
+unfolding names_its is_word_of
 queue-named sys a o (body.Took f l m e) named drawn = let same : o ≡ a = let test : (o == a) ≡ true = drawn in grind (arith, nat_tests) in subst (λ x. is_object sys x ≡ true) same named
 queue-named sys a o (body.Lifo f l m e) named drawn = let same : o ≡ a = let test : (o == a) ≡ true = drawn in grind (arith, nat_tests) in subst (λ x. is_object sys x ≡ true) same named
 queue-named sys a o (body.Post c f l m e) named drawn = let same : c ≡ a = let test : (c == a) ≡ true = drawn in grind (arith, nat_tests) in subst (λ x. is_object sys x ≡ true) same named
 queue-named sys a o b named drawn = absurd (cc)
 
-queue-none : (sys : System) (a : ℕ) → is_object sys a ≡ false → (xs : List Item) → AllByRecursion (λ i. names_its sys i.of i.body ≡ true) xs → log_of (word.Queue a) xs ≡ []
-unfolding log_of
+queue-none : (sys : System) (a : ℕ) → is_object sys a ≡ false → (xs : List Item) → AllByRecursion (λ i. names_its sys i.of i.body ≡ true) xs → draws_of_word (word.Queue a) xs ≡ []
+unfolding draws_of_word
 queue-none sys a out [] h = refl
 queue-none sys a out (i ∷ is) h = by (drawn_on (word.Queue a) (touch i)) refl (queue-none sys a out is h.1)
   where
@@ -278,7 +278,7 @@ module _ (sys : System) (stimuli : List (List Stim)) (j : Journal) (law : Lawful
     chart_of p d is = (followable p d is).its
 
     pub course-of : (p : ℕ) (d : ObjectDef) (is : object_at sys p ≡ Some d)
-        → (end : State) × (run sys (actor d (chart_of p d is)) (start_state (actor d (chart_of p d is)) (first_config d)) (pieces_in (facts_of sys j) (in_kernel kernel sys has_one) p (unread sys) zero_lane) ≡ Some end)
+        → (end : State) × (state_after sys (actor d (chart_of p d is)) (start_state (actor d (chart_of p d is)) (first_config d)) (pieces_in (facts_of sys j) (in_kernel kernel sys has_one) p (unread sys) zero_lane) ≡ Some end)
         × (MayEnd (ends_at_point (pieces_in (facts_of sys j) (in_kernel kernel sys has_one) p (unread sys) zero_lane)) end ⊎ EndsOwn p zero_lane)
     unfolding object_at lane_pieces facts_of reads_to
     course-of p d is =
@@ -291,7 +291,7 @@ module _ (sys : System) (stimuli : List (List Stim)) (j : Journal) (law : Lawful
         (subst (λ s. FollowsTo sys d (cut_of sys j p) (pieces_in (facts_of sys j) s p (unread sys) raw_lane)) setting-is
         (subst (λ o. FollowsTo sys d (cut_of sys j o) (pieces_in (facts_of sys j) (setting_of sys j) o (unread sys) raw_lane)) own found.0)) in
         let reads = runs-flag _ _ (pieces-decided sys d (followable p d is) (cut_of sys j p) (pieces_in (facts_of sys j) (in_kernel kernel sys has_one) p (unread sys) zero_lane)) moved in
-        by (run sys (actor d (chart_of p d is)) (start_state (actor d (chart_of p d is)) (first_config d)) (pieces_in (facts_of sys j) (in_kernel kernel sys has_one) p (unread sys) zero_lane)) refl
+        by (state_after sys (actor d (chart_of p d is)) (start_state (actor d (chart_of p d is)) (first_config d)) (pieces_in (facts_of sys j) (in_kernel kernel sys has_one) p (unread sys) zero_lane)) refl
         (and_parts _ _ reads).0 (cut-is p)
       where
         either : (b c : Bool) (s : State) (at : Bool) → (at || (is_end_of_course s || expects_point s)) ≡ true → MayEnd at s
@@ -317,48 +317,48 @@ module _ (sys : System) (stimuli : List (List Stim)) (j : Journal) (law : Lawful
             unmarked us i split own (inr (inr spent)) unended = absurd (let no : is_end body.Spent ≡ false = subst (λ b. is_end b ≡ false) spent unended in cc)
 
         by : (o : Option State)
-            → run sys (actor d (chart_of p d is)) (start_state (actor d (chart_of p d is)) (first_config d)) (pieces_in (facts_of sys j) (in_kernel kernel sys has_one) p (unread sys) zero_lane) ≡ o
+            → state_after sys (actor d (chart_of p d is)) (start_state (actor d (chart_of p d is)) (first_config d)) (pieces_in (facts_of sys j) (in_kernel kernel sys has_one) p (unread sys) zero_lane) ≡ o
             → ends_well (cut_of sys j p) (ends_at_point (pieces_in (facts_of sys j) (in_kernel kernel sys has_one) p (unread sys) zero_lane)) o ≡ true
             → (cut_of sys j p ≡ Whole) ⊎ ((cut_of sys j p ≡ Stopped) ⊎ (spill_cuts p raw_lane ≡ true))
-            → (end : State) × (run sys (actor d (chart_of p d is)) (start_state (actor d (chart_of p d is)) (first_config d)) (pieces_in (facts_of sys j) (in_kernel kernel sys has_one) p (unread sys) zero_lane) ≡ Some end)
+            → (end : State) × (state_after sys (actor d (chart_of p d is)) (start_state (actor d (chart_of p d is)) (first_config d)) (pieces_in (facts_of sys j) (in_kernel kernel sys has_one) p (unread sys) zero_lane) ≡ Some end)
             × (MayEnd (ends_at_point (pieces_in (facts_of sys j) (in_kernel kernel sys has_one) p (unread sys) zero_lane)) end ⊎ EndsOwn p zero_lane)
         by None e h cut = absurd (cc)
         by (Some s) e h cut = (s, e, may (cut_of sys j p) s _ cut h)
 
   -- each record of the order names words of the system
   module _ (tidy : IsTidy sys j) where
-    named-each : AllByRecursion (λ i. names_its sys i.of i.body ≡ true) (items_ordered (run_order sys j))
+    named-each : AllByRecursion (λ i. names_its sys i.of i.body ≡ true) (items_ordered (unspilt_order sys j))
     named-each = inside sys stimuli j t (λ i. names_its sys i.of i.body ≡ true) (all-of (λ i. names_its sys i.of i.body) (all_items j.lanes) tidy.named)
 
-    order-items : (xs : List Placed) (x : Placed) (ys : List Placed) → run_order sys j ≡ xs ++ x ∷ ys → items_ordered (run_order sys j) ≡ items_ordered xs ++ x.item ∷ items_ordered ys
+    order-items : (xs : List Placed) (x : Placed) (ys : List Placed) → unspilt_order sys j ≡ xs ++ x ∷ ys → items_ordered (unspilt_order sys j) ≡ items_ordered xs ++ x.item ∷ items_ordered ys
     order-items xs x ys is = ap items_ordered is ∙ map-append (λ (z : Placed). z.item) xs (x ∷ ys)
 
-    pub comes-of : (xs : List Placed) (x : Placed) (ys : List Placed) (c : ℕ) → run_order sys j ≡ xs ++ x ∷ ys → MayComeNext sys (held_to sys c xs) x.item.of (told (facts_of sys j) x.item.of c x.item.body)
+    pub comes-of : (xs : List Placed) (x : Placed) (ys : List Placed) (c : ℕ) → unspilt_order sys j ≡ xs ++ x ∷ ys → MayComeNext sys (held_to sys c xs) x.item.of (told (facts_of sys j) x.item.of c x.item.body)
     unfolding told facts_of
     comes-of xs x ys c is =
         let at = order-items xs x ys is in
         let named = (every-parts (λ i. names_its sys i.of i.body ≡ true) (items_ordered xs) (x.item ∷ items_ordered ys) (subst (AllByRecursion (λ i. names_its sys i.of i.body ≡ true)) at named-each)).1.0 in
         let events : Entry → Option Event = λ e. event_of_entry (record { sys = sys; items = items_ordered xs }) e in
         record {
-          may = comes-front sys j.lanes law.words (items_ordered (run_order sys j)) (inside sys stimuli j t) (in-order sys stimuli j t) (items_ordered xs) (items_ordered ys) events c x.item.of x.item.body at named;
-          known = known-front sys j.lanes law.words (items_ordered (run_order sys j)) (inside sys stimuli j t) (in-order sys stimuli j t) (items_ordered xs) (items_ordered ys) events c x.item.of x.item.body at named
+          may = comes-front sys j.lanes law.words (items_ordered (unspilt_order sys j)) (inside sys stimuli j t) (in-order sys stimuli j t) (items_ordered xs) (items_ordered ys) events c x.item.of x.item.body at named;
+          known = known-front sys j.lanes law.words (items_ordered (unspilt_order sys j)) (inside sys stimuli j t) (in-order sys stimuli j t) (items_ordered xs) (items_ordered ys) events c x.item.of x.item.body at named
               (λ f l m e took. tidy.events xs x ys f l m e is took);
         }
 
-    pub counted-of : (xs ys : List Placed) (c : ℕ) → run_order sys j ≡ xs ++ ys → IsCounted (held_to sys c xs)
+    pub counted-of : (xs ys : List Placed) (c : ℕ) → unspilt_order sys j ≡ xs ++ ys → IsCounted (held_to sys c xs)
     unfolding held_after is_object
     counted-of xs ys c is = record { counted = λ a. by a (is_object sys a) refl }
       where
-        whole : items_ordered (run_order sys j) ≡ items_ordered xs ++ items_ordered ys
+        whole : items_ordered (unspilt_order sys j) ≡ items_ordered xs ++ items_ordered ys
         whole = ap items_ordered is ∙ map-append (λ (z : Placed). z.item) xs ys
 
         by : (a : ℕ) (b : Bool) → is_object sys a ≡ b
-            → length (after (line (ring_of sys a)) (log_of (word.Queue a) (items_ordered xs))).entries + (after (line (ring_of sys a)) (log_of (word.Queue a) (items_ordered xs))).m
-            ≡ (after (line (ring_of sys a)) (log_of (word.Queue a) (items_ordered xs))).f + (after (line (ring_of sys a)) (log_of (word.Queue a) (items_ordered xs))).l
+            → length (after (line (ring_of sys a)) (draws_of_word (word.Queue a) (items_ordered xs))).entries + (after (line (ring_of sys a)) (draws_of_word (word.Queue a) (items_ordered xs))).m
+            ≡ (after (line (ring_of sys a)) (draws_of_word (word.Queue a) (items_ordered xs))).f + (after (line (ring_of sys a)) (draws_of_word (word.Queue a) (items_ordered xs))).l
         by a true e =
             let queue = law.words.queues a e in
-            (line_is (ring_of sys a) (log_of (word.Queue a) (items_ordered xs))
-            (allowed-front (all_items j.lanes) (items_ordered (run_order sys j)) (inside sys stimuli j t) (in-order sys stimuli j t) (word.Queue a) queue.numbers (line (ring_of sys a)) queue.allowed (items_ordered xs) (items_ordered ys) whole)).counted
+            (line_is (ring_of sys a) (draws_of_word (word.Queue a) (items_ordered xs))
+            (allowed-front (all_items j.lanes) (items_ordered (unspilt_order sys j)) (inside sys stimuli j t) (in-order sys stimuli j t) (word.Queue a) queue.numbers (line (ring_of sys a)) queue.allowed (items_ordered xs) (items_ordered ys) whole)).counted
         by a false e =
             let none = queue-none sys a e (items_ordered xs) (every-parts (λ i. names_its sys i.of i.body ≡ true) (items_ordered xs) (items_ordered ys) (subst (AllByRecursion (λ i. names_its sys i.of i.body ≡ true)) whole named-each)).0 in
             subst (λ zs. length (after (line (ring_of sys a)) zs).entries + (after (line (ring_of sys a)) zs).m ≡ (after (line (ring_of sys a)) zs).f + (after (line (ring_of sys a)) zs).l) (sym none) (empty (ring_of sys a))

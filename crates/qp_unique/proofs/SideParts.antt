@@ -35,7 +35,7 @@ use Rattle.qp_check_ends.proofs.StopLemmas.{lane-stops}
 use Rattle.qp_check_ends.proofs.LaneLemmas.{runs-flag}
 use Rattle.qp_model_order.specs.RunOrder.{placed, items_ordered, has_stim}
 use Rattle.qp_model_order.specs.Placing.{look_item}
-use Rattle.qp_unique.specs.Tidy.{run_order, spill_free, unspilt}
+use Rattle.qp_unique.specs.Tidy.{unspilt_order, spill_free, unspilt}
 use Rattle.qp_unique.proofs.SourceSteps.{lane_in-append}
 use Rattle.qp_unique.proofs.KernelLemmas.{Slot, slot-of}
 use Rattle.qp_unique.proofs.StackLemmas.{found-in}
@@ -392,8 +392,8 @@ module _ (sys : System) (stimuli : List (List Stim)) (j : Journal) (law : Lawful
   sources-untaken p some = each-by (λ l. AllByRecursion (λ i. takes_of p i ≡ false) l) (source_lanes sys j) (λ front l back is. untaken p some l (raw-own front l back is))
 
   -- how many entries an object has taken
-  pub count-order : (p : ℕ) → (p ≡ 0 → ⊥) → count_by (takes_of p) (items_ordered (run_order sys j)) ≡ count_by (takes_of p) (all_items j.lanes)
-  unfolding run_order
+  pub count-order : (p : ℕ) → (p ≡ 0 → ⊥) → count_by (takes_of p) (items_ordered (unspilt_order sys j)) ≡ count_by (takes_of p) (all_items j.lanes)
+  unfolding unspilt_order
   count-order p some =
       let each = sources-untaken p some in
       let others : count_by (takes_of p) (all_items t.others) ≡ 0 = count-none (takes_of p) (all_items t.others) (joined-each (λ i. takes_of p i ≡ false) t.others (subst (AllByRecursion (λ l. AllByRecursion (λ i. takes_of p i ≡ false) l)) t.sources_are each)) in
@@ -406,7 +406,7 @@ module _ (sys : System) (stimuli : List (List Stim)) (j : Journal) (law : Lawful
       omega (arith, others, whole, zero_is, merged, bare)
 
   -- a look has the stimulus that acts in it, or none
-  pub turn-of : (xs : List Placed) (n floor : ℕ) (ys : List Placed) → run_order sys j ≡ xs ++ placed 0 (look_item n floor) ∷ ys
+  pub turn-of : (xs : List Placed) (n floor : ℕ) (ys : List Placed) → unspilt_order sys j ≡ xs ++ placed 0 (look_item n floor) ∷ ys
       → (is_turn (acts_next sys stimuli xs (floor == 0)) (turns_at 1 n (kept_sources sys j)) ≡ true) ⊎ (turns_at 1 n (kept_sources sys j) ≡ [])
   turn-of xs n floor ys is = by (turn-at sys stimuli j t xs n floor ys is)
     where
@@ -422,7 +422,7 @@ module _ (sys : System) (stimuli : List (List Stim)) (j : Journal) (law : Lawful
 
   -- the lanes in the order
   lined-of : Lined sys stimuli
-  unfolding run_order
+  unfolding unspilt_order
   lined-of = record {
     kernel = kernel;
     w = facts_of sys j;
@@ -438,12 +438,12 @@ module _ (sys : System) (stimuli : List (List Stim)) (j : Journal) (law : Lawful
   }
 
   -- each source's lane stands in the order, all of it
-  pub lane-stood : (before : List (List Item)) (l : List Item) (behind : List (List Item)) → kept_sources sys j ≡ before ++ l ∷ behind → l ≡ lane_in (run_order sys j) (1 + length before)
-  unfolding run_order lined-of
+  pub lane-stood : (before : List (List Item)) (l : List Item) (behind : List (List Item)) → kept_sources sys j ≡ before ++ l ∷ behind → l ≡ lane_in (unspilt_order sys j) (1 + length before)
+  unfolding unspilt_order lined-of
   lane-stood before l behind is = lane-stands sys stimuli lined-of (λ xs i ys is n floor look. at-place xs i ys is n floor look) before l behind is
 
   -- a look may lack its stimulus only where lane 0 ended with a `spill`, or a source's lane did, which then stands before the look
-  pub late-of : (xs : List Placed) (n floor : ℕ) (back : List Item) → run_order sys j ≡ xs ++ placed 0 (look_item n floor) ∷ with_stimuli true (kept_sources sys j) back
+  pub late-of : (xs : List Placed) (n floor : ℕ) (back : List Item) → unspilt_order sys j ≡ xs ++ placed 0 (look_item n floor) ∷ with_stimuli true (kept_sources sys j) back
       → is_turn (acts_next sys stimuli xs (floor == 0)) (turns_at 1 n (kept_sources sys j)) ≡ false
       → (has_spilt sys j ≡ true) × ((spills_in (lane_items (lane_at j 0)) ≡ true) ⊎ LongFront (length (kept_sources sys j)) xs)
   late-of xs n floor back is lacks = by (turn-at sys stimuli j t xs n floor (with_stimuli true (kept_sources sys j) back) is)
@@ -458,7 +458,7 @@ module _ (sys : System) (stimuli : List (List Stim)) (j : Journal) (law : Lawful
           let stands = lane-stood (map (λ lane. unspilt lane) lane.0) (unspilt lane.1) (map (λ lane. unspilt lane) lane.2) are in
           let zero_other : (0 == 1 + m) ≡ false = ne_eqb 0 (1 + m) (λ e. omega (arith, e)) in
           let none : lane_in (placed 0 (look_item n floor) ∷ with_stimuli true (kept_sources sys j) back) (1 + m) ≡ [] = rw zero_other (bare-order true (kept_sources sys j) back last m) in
-          let split : lane_in (run_order sys j) (1 + m) ≡ lane_in xs (1 + m) =
+          let split : lane_in (unspilt_order sys j) (1 + m) ≡ lane_in xs (1 + m) =
           ap (λ zs. lane_in zs (1 + m)) is ∙ lane_in-append xs (placed 0 (look_item n floor) ∷ with_stimuli true (kept_sources sys j) back) (1 + m)
           ∙ ap (λ zs. lane_in xs (1 + m) ++ zs) none ∙ append-nil (lane_in xs (1 + m)) in
           let size = ap length are ∙ length-append (map (λ lane. unspilt lane) lane.0) (unspilt lane.1 ∷ map (λ lane. unspilt lane) lane.2) in
@@ -474,16 +474,16 @@ module _ (sys : System) (stimuli : List (List Stim)) (j : Journal) (law : Lawful
           on true e h = inl e
           on false e h = inr (at-source last h)
 
-  module _ (xs : List Placed) (p : ℕ) (b : Body) (ys : List Placed) (is : run_order sys j ≡ xs ++ placed 0 (record { of = p; body = b }) ∷ ys) (some : p ≡ 0 → ⊥) where
+  module _ (xs : List Placed) (p : ℕ) (b : Body) (ys : List Placed) (is : unspilt_order sys j ≡ xs ++ placed 0 (record { of = p; body = b }) ∷ ys) (some : p ≡ 0 → ⊥) where
     counted-here : count_by (λ (z : Placed). takes_of p z.item) xs + (cond (takes_of p (record { of = p; body = b })) 1 0 + count_by (λ (z : Placed). takes_of p z.item) ys) ≡ took_count (all_items j.lanes) p
     unfolding took_count
     counted-here =
         let whole = ap (count_by (λ (z : Placed). takes_of p z.item)) is ∙ count-append (λ (z : Placed). takes_of p z.item) xs (placed 0 (record { of = p; body = b }) ∷ ys) in
         let cons = sum_by-cons (λ (z : Placed). cond (takes_of p z.item) 1 0) (placed 0 (record { of = p; body = b })) ys in
-        let items : count_by (λ (z : Placed). takes_of p z.item) (run_order sys j) ≡ count_by (takes_of p) (items_ordered (run_order sys j)) = count-items (takes_of p) (run_order sys j) in
+        let items : count_by (λ (z : Placed). takes_of p z.item) (unspilt_order sys j) ≡ count_by (takes_of p) (items_ordered (unspilt_order sys j)) = count-items (takes_of p) (unspilt_order sys j) in
         sym (whole ∙ ap (λ n. count_by (λ (z : Placed). takes_of p z.item) xs + n) cons) ∙ items ∙ count-order p some
 
-  pub within-of : (xs : List Placed) (p f l m : ℕ) (e : Entry) (ys : List Placed) → run_order sys j ≡ xs ++ placed 0 (record { of = p; body = body.Took f l m e }) ∷ ys
+  pub within-of : (xs : List Placed) (p f l m : ℕ) (e : Entry) (ys : List Placed) → unspilt_order sys j ≡ xs ++ placed 0 (record { of = p; body = body.Took f l m e }) ∷ ys
       → (p ≡ 0 → ⊥) → (object_at sys p ≡ None → ⊥) → count_by (λ (z : Placed). takes_of p z.item) xs < j.budget
   unfolding object_at EndHolds
   within-of xs p f l m e ys is some there = by (object_at sys p) refl
@@ -501,17 +501,17 @@ module _ (sys : System) (stimuli : List (List Stim)) (j : Journal) (law : Lawful
           (counted-here xs p (body.Took f l m e) ys is some) in
           omega (arith, most, one)
 
-  pub spent-of : (xs : List Placed) (p : ℕ) (ys : List Placed) → run_order sys j ≡ xs ++ placed 0 (record { of = p; body = body.Spent }) ∷ ys → (p ≡ 0 → ⊥) → count_by (λ (z : Placed). takes_of p z.item) xs ≡ j.budget
+  pub spent-of : (xs : List Placed) (p : ℕ) (ys : List Placed) → unspilt_order sys j ≡ xs ++ placed 0 (record { of = p; body = body.Spent }) ∷ ys → (p ≡ 0 → ⊥) → count_by (λ (z : Placed). takes_of p z.item) xs ≡ j.budget
   unfolding EndHolds
   spent-of xs p ys is some =
       let each = inside sys stimuli j t (λ i. is_spent i.body ≡ true → took_count (all_items j.lanes) i.of ≡ j.budget) (spents-each sys j 0 j.lanes law.end.spents) in
-      let split : items_ordered (run_order sys j) ≡ items_ordered xs ++ record { of = p; body = body.Spent } ∷ items_ordered ys = ap items_ordered is ∙ map-append (λ (z : Placed). z.item) xs _ in
+      let split : items_ordered (unspilt_order sys j) ≡ items_ordered xs ++ record { of = p; body = body.Spent } ∷ items_ordered ys = ap items_ordered is ∙ map-append (λ (z : Placed). z.item) xs _ in
       let took : took_count (all_items j.lanes) p ≡ j.budget = (every-parts (λ i. is_spent i.body ≡ true → took_count (all_items j.lanes) i.of ≡ j.budget) (items_ordered xs) _ (subst (AllByRecursion (λ i. is_spent i.body ≡ true → took_count (all_items j.lanes) i.of ≡ j.budget)) split each)).1.0 refl in
       let here = counted-here xs p body.Spent ys is some in
       let none : count_by (λ (z : Placed). takes_of p z.item) ys ≡ 0 = by ys is in
       omega (arith, took, here, none)
     where
-      by : (us : List Placed) → run_order sys j ≡ xs ++ placed 0 (record { of = p; body = body.Spent }) ∷ us → count_by (λ (z : Placed). takes_of p z.item) us ≡ 0
+      by : (us : List Placed) → unspilt_order sys j ≡ xs ++ placed 0 (record { of = p; body = body.Spent }) ∷ us → count_by (λ (z : Placed). takes_of p z.item) us ≡ 0
       by [] e = refl
       by (u ∷ us) e =
           let last = ends-run sys stimuli j t (xs ++ placed 0 (record { of = p; body = body.Spent }) ∷ []) u us (e ∙ sym (append_assoc xs (placed 0 (record { of = p; body = body.Spent }) ∷ []) (u ∷ us))) in

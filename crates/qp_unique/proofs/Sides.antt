@@ -21,11 +21,11 @@ use Rattle.qp_model.specs.KernelLane.{Setting, Reading, unread, lane_on, is_whol
 use Rattle.qp_model.specs.Points.{pieces_in}
 use Rattle.qp_model.specs.Sources.{SourceEnd, InStimulus}
 use Rattle.qp_model.specs.OneOrder.{Placed, with_stimuli, turns_at, acts_next, is_turn}
-use Rattle.qp_check_course.specs.Machine.{State, start_state, run, is_end as is_end_of_course, expects_point}
+use Rattle.qp_check_course.specs.Machine.{State, start_state, state_after, is_course_end as is_end_of_course, expects_point}
 use Rattle.qp_check_ends.specs.SourceState.{SourceState, Between, source_after, source_stops}
 use Rattle.qp_model_order.specs.RunOrder.{placed, items_ordered, has_stim}
 use Rattle.qp_model_order.specs.Placing.{look_item}
-use Rattle.qp_unique.specs.Held.{Held, IsCounted, MayComeNext}
+use Rattle.qp_unique.specs.Held.{WordsHeld, IsCounted, MayComeNext}
 use Rattle.qp_unique.specs.Fronts.{held_after}
 use Rattle.qp_unique.specs.Tidy.{spill_free}
 use Rattle.qp_unique.proofs.LookLemmas.{StimFirst}
@@ -55,7 +55,7 @@ abbrev pub facts_to : System → List Placed → Facts
 facts_to sys xs = record { sys = sys; items = items_ordered xs }
 
 -- what the words hold after some records of the order
-abbrev pub held_to : System → ℕ → List Placed → Held
+abbrev pub held_to : System → ℕ → List Placed → WordsHeld
 held_to sys ceiling xs = held_after sys (λ e. event_of_entry (facts_to sys xs) e) ceiling (items_ordered xs)
 
 -- a state in which a list may end: that of a whole course, or at a point
@@ -117,7 +117,7 @@ pub record Side (sys : System) (charts : (p : ℕ) (d : ObjectDef) → object_at
   pub unspilt_sources : (front : List (List Item)) (l : List Item) (back : List (List Item)) → sources ≡ front ++ l ∷ back → spills_in l ≡ false
   -- each object follows its chart
   pub course : (p : ℕ) (d : ObjectDef) (is : object_at sys p ≡ Some d)
-      → (end : State) × (run sys (actor d (charts p d is)) (start_state (actor d (charts p d is)) (first_config d)) (pieces_in w (in_kernel mode.kernel sys has) p (unread sys) lane0) ≡ Some end)
+      → (end : State) × (state_after sys (actor d (charts p d is)) (start_state (actor d (charts p d is)) (first_config d)) (pieces_in w (in_kernel mode.kernel sys has) p (unread sys) lane0) ≡ Some end)
       × (MayEnd (ends_at_point (pieces_in w (in_kernel mode.kernel sys has) p (unread sys) lane0)) end ⊎ EndsOwn p lane0)
   -- no queue is found empty by an object
   pub unmarked : (xs : List Item) (i : Item) (ys : List Item) → lane0 ≡ xs ++ i ∷ ys → (object_at sys i.of ≡ None → ⊥) → (f l m : ℕ) → i.body ≡ body.Nil f l m → ⊥

@@ -20,7 +20,7 @@ use Rattle.qp_model.specs.Kernels.{has_one_order}
 use Rattle.qp_model.specs.Sources.{SourceEnd, AfterTry, AtAssert, InStimulus, look_may}
 use Rattle.qp_model.specs.OneOrder.{Placed, stim_of, is_stim, begun}
 use Rattle.qp_check_ends.specs.Underway.{Underway, underway_begin, underway_next, underway_done}
-use Rattle.qp_check_ends.specs.SourceState.{SourceState, Between, Within, source_next, source_after, source_stops, stim_next, goes_on}
+use Rattle.qp_check_ends.specs.SourceState.{SourceState, Between, Within, source_next, source_after, source_stops, stim_next, stimulus_goes_on}
 use Rattle.qp_check_ends.proofs.StimLemmas.{underway-stim}
 use Rattle.qp_model_order.specs.Placing.{all_placed}
 use Rattle.qp_unique.proofs.LookLemmas.{begins, begun_in}
@@ -87,10 +87,10 @@ module _ (sys : System) (kernel : ℕ) (w : Facts) (c : ℕ) where
   pub stim-read : (r next : SourceState) (p n : ℕ) → source_next sys kernel r (told w 0 c (body.Stim p n)) ≡ Some next
       → (p ≡ place_of r) × (u : Underway) × (left : List Stim) × (next ≡ Within u (place_of r + 1) left)
       × ((v : Underway) (k : ℕ) (more : List Stim) → r ≡ Within v k more → underway_done v ≡ true)
-  unfolding source_next goes_on told
+  unfolding source_next stimulus_goes_on told
   stim-read (Between k left) next p n h =
       let at = begun-by sys kernel k left p n next h in (at.0, at.1, at.2, at.3, λ v j more e. absurd (cc))
-  stim-read (Within u k left) next p n h = by (underway_done u) refl (subst (λ o. goes_on sys kernel u k left (plain (body.Stim p n)) o ≡ Some next) (underway-stim sys p n kernel u) h)
+  stim-read (Within u k left) next p n h = by (underway_done u) refl (subst (λ o. stimulus_goes_on sys kernel u k left (plain (body.Stim p n)) o ≡ Some next) (underway-stim sys p n kernel u) h)
     where
       same-state : (v : Underway) (j : ℕ) (more : List Stim) → Within u k left ≡ Within v j more → u ≡ v
       same-state v j more e = cc
@@ -106,11 +106,11 @@ module _ (sys : System) (kernel : ℕ) (w : Facts) (c : ℕ) where
   -- any other goes on with the stimulus under way
   pub other-read : (r next : SourceState) (b : Body) → stim_of b ≡ None → source_next sys kernel r (told w 0 c b) ≡ Some next
       → (u v : Underway) × (k : ℕ) × (left : List Stim) × (r ≡ Within u k left) × (underway_next sys kernel u (told w 0 c b) ≡ Some v) × (next ≡ Within v k left)
-  unfolding source_next goes_on told
+  unfolding source_next stimulus_goes_on told
   other-read (Between k left) next b none h = absurd (let no : None ≡ Some next = sym (unbegun sys kernel k left b (known_of w 0 c b) none) ∙ h in cc)
   other-read (Within u k left) next b none h = by (underway_next sys kernel u (told w 0 c b)) refl h
     where
-      by : (o : Option Underway) → underway_next sys kernel u (told w 0 c b) ≡ o → goes_on sys kernel u k left (told w 0 c b) o ≡ Some next
+      by : (o : Option Underway) → underway_next sys kernel u (told w 0 c b) ≡ o → stimulus_goes_on sys kernel u k left (told w 0 c b) o ≡ Some next
           → (u2 v : Underway) × (j : ℕ) × (more : List Stim) × (Within u k left ≡ Within u2 j more) × (underway_next sys kernel u2 (told w 0 c b) ≡ Some v) × (next ≡ Within v j more)
       by (Some v) e h = let is : next ≡ Within v k left = cc in (u, v, k, left, refl, e, is)
       by None e h = on (underway_done u) h

@@ -5,7 +5,7 @@ use Rattle.qp_model.specs.declared.bodies.Body.TheVariants as body
 use Rattle.qp_model.specs.Record.{Item}
 use Rattle.qp_model.specs.Kernels.{qk, qv}
 use Rattle.qp_model.specs.KernelLane.{Drops, role_of, Setting, floor_in, Upcoming, Inside, Looking, Chosen, Ended, Resting, Again, Over, Halted, Reading, base_ended, found_none, looking_at}
-use Rattle.qp_check_course.specs.Machine.{run}
+use Rattle.qp_check_course.specs.Machine.{state_after}
 use Rattle.qp_model_order.specs.Placing.{look_item}
 use Rattle.qp_unique.proofs.KernelLemmas.{Slot, Starts, Runs, Releases, IsLook, IsSeen, IsTook, IsSpent, IsRest, IsDone, GoesOn, IsOwned, MayLook}
 
@@ -38,8 +38,8 @@ module _ (s : Setting) (k next : Reading) (i : Item) where
   OwnOf p = (i.of ≡ p) × IsOwned (role_of i.body)
 
   pub starts-only : (p : ℕ) (others : List ℕ) → k.unstarted ≡ p ∷ others → Slot s k next i → OwnOf p
-  starts-only p others us (Starts q more vs of own run place left looks) = let same : q ∷ more ≡ p ∷ others = sym vs ∙ us in let e : q ≡ p = cc in (of ∙ e, own)
-  starts-only p others us (Runs q outer none at run of own went) = absurd (let no : [] ≡ p ∷ others = sym none ∙ us in cc)
+  starts-only p others us (Starts q more vs of own state_after place left looks) = let same : q ∷ more ≡ p ∷ others = sym vs ∙ us in let e : q ≡ p = cc in (of ∙ e, own)
+  starts-only p others us (Runs q outer none at state_after of own went) = absurd (let no : [] ≡ p ∷ others = sym none ∙ us in cc)
   starts-only p others us (Releases q none at of role is) = absurd (let no : [] ≡ p ∷ others = sym none ∙ us in cc)
   starts-only p others us (IsLook none may at is) = absurd (let no : [] ≡ p ∷ others = sym none ∙ us in cc)
   starts-only p others us (IsSeen q more f l m none at item is) = absurd (let no : [] ≡ p ∷ others = sym none ∙ us in cc)
@@ -49,14 +49,14 @@ module _ (s : Setting) (k next : Reading) (i : Item) where
 
   module _ (started : k.unstarted ≡ []) where
     pub runs-only : (p : ℕ) (outer : List ℕ) → k.place ≡ Inside → k.running ≡ p ∷ outer → Slot s k next i → OwnOf p ⊎ LookHere
-    runs-only p outer at run (Starts q more vs of own r place left looks) = absurd (let no : [] ≡ q ∷ more = sym started ∙ vs in cc)
-    runs-only p outer at run (Runs q others none place r of own went) = let same : q ∷ others ≡ p ∷ outer = sym r ∙ run in let e : q ≡ p = cc in inl (of ∙ e, own)
-    runs-only p outer at run (Releases q none place of role is) = absurd (let no : Inside ≡ Ended q = sym at ∙ place in cc)
-    runs-only p outer at run (IsLook none may item is) = inr item
-    runs-only p outer at run (IsSeen q others f l m none place item is) = absurd (let no : Inside ≡ Looking q others = sym at ∙ place in cc)
-    runs-only p outer at run (IsTook q f l m e none place item is) = absurd (let no : Inside ≡ Chosen q = sym at ∙ place in cc)
-    runs-only p outer at run (IsSpent q none place item is) = absurd (let no : Inside ≡ Chosen q = sym at ∙ place in cc)
-    runs-only p outer at run (IsRest none place item is) = absurd (let no : Inside ≡ Resting = sym at ∙ place in cc)
+    runs-only p outer at state_after (Starts q more vs of own r place left looks) = absurd (let no : [] ≡ q ∷ more = sym started ∙ vs in cc)
+    runs-only p outer at state_after (Runs q others none place r of own went) = let same : q ∷ others ≡ p ∷ outer = sym r ∙ state_after in let e : q ≡ p = cc in inl (of ∙ e, own)
+    runs-only p outer at state_after (Releases q none place of role is) = absurd (let no : Inside ≡ Ended q = sym at ∙ place in cc)
+    runs-only p outer at state_after (IsLook none may item is) = inr item
+    runs-only p outer at state_after (IsSeen q others f l m none place item is) = absurd (let no : Inside ≡ Looking q others = sym at ∙ place in cc)
+    runs-only p outer at state_after (IsTook q f l m e none place item is) = absurd (let no : Inside ≡ Chosen q = sym at ∙ place in cc)
+    runs-only p outer at state_after (IsSpent q none place item is) = absurd (let no : Inside ≡ Chosen q = sym at ∙ place in cc)
+    runs-only p outer at state_after (IsRest none place item is) = absurd (let no : Inside ≡ Resting = sym at ∙ place in cc)
 
     pub ended-only : (p : ℕ) → k.place ≡ Ended p → Slot s k next i → ((i.of ≡ p) × (role_of i.body ≡ Drops)) ⊎ LookHere
     ended-only p at (Starts q more vs of own r place left looks) = absurd (let no : [] ≡ q ∷ more = sym started ∙ vs in cc)
@@ -78,14 +78,14 @@ module _ (s : Setting) (k next : Reading) (i : Item) where
     look-only (inl at) (IsTook q f l m e none place item is) = absurd (let no : Again ≡ Chosen q = sym at ∙ place in cc)
     look-only (inl at) (IsSpent q none place item is) = absurd (let no : Again ≡ Chosen q = sym at ∙ place in cc)
     look-only (inl at) (IsRest none place item is) = absurd (let no : Again ≡ Resting = sym at ∙ place in cc)
-    look-only (inr (at, run)) (Starts q more vs of own r place left looks) = absurd (let no : [] ≡ q ∷ more = sym started ∙ vs in cc)
-    look-only (inr (at, run)) (Runs q others none place r of own went) = absurd (let no : q ∷ others ≡ [] = sym r ∙ run in cc)
-    look-only (inr (at, run)) (Releases q none place of role is) = absurd (let no : Ended q ≡ Inside = sym place ∙ at in cc)
-    look-only (inr (at, run)) (IsLook none may item is) = item
-    look-only (inr (at, run)) (IsSeen q others f l m none place item is) = absurd (let no : Inside ≡ Looking q others = sym at ∙ place in cc)
-    look-only (inr (at, run)) (IsTook q f l m e none place item is) = absurd (let no : Inside ≡ Chosen q = sym at ∙ place in cc)
-    look-only (inr (at, run)) (IsSpent q none place item is) = absurd (let no : Inside ≡ Chosen q = sym at ∙ place in cc)
-    look-only (inr (at, run)) (IsRest none place item is) = absurd (let no : Inside ≡ Resting = sym at ∙ place in cc)
+    look-only (inr (at, state_after)) (Starts q more vs of own r place left looks) = absurd (let no : [] ≡ q ∷ more = sym started ∙ vs in cc)
+    look-only (inr (at, state_after)) (Runs q others none place r of own went) = absurd (let no : q ∷ others ≡ [] = sym r ∙ state_after in cc)
+    look-only (inr (at, state_after)) (Releases q none place of role is) = absurd (let no : Ended q ≡ Inside = sym place ∙ at in cc)
+    look-only (inr (at, state_after)) (IsLook none may item is) = item
+    look-only (inr (at, state_after)) (IsSeen q others f l m none place item is) = absurd (let no : Inside ≡ Looking q others = sym at ∙ place in cc)
+    look-only (inr (at, state_after)) (IsTook q f l m e none place item is) = absurd (let no : Inside ≡ Chosen q = sym at ∙ place in cc)
+    look-only (inr (at, state_after)) (IsSpent q none place item is) = absurd (let no : Inside ≡ Chosen q = sym at ∙ place in cc)
+    look-only (inr (at, state_after)) (IsRest none place item is) = absurd (let no : Inside ≡ Resting = sym at ∙ place in cc)
 
     pub seen-only : (p : ℕ) (others : List ℕ) → k.place ≡ Looking p others → Slot s k next i → (f l m : ℕ) × (i ≡ record { of = 0; body = body.Seen p f l m })
     seen-only p others at (Starts q more vs of own r place left looks) = absurd (let no : [] ≡ q ∷ more = sym started ∙ vs in cc)

@@ -12,12 +12,12 @@ use Rattle.qp_model.specs.Sources.{priorities}
 use Rattle.qp_model.specs.Parts.{room_before}
 use Rattle.qp_model.proofs.RecordLemmas.{same_entry-is}
 use Rattle.qp_check_calls.specs.CallStateNext.{call_state_next, stage_next}
-use Rattle.qp_check_ends.specs.TickState.{Due, TickState, Reaching, Fired, Vain, had_room, tick_next, reach_next, fired_next}
-use Rattle.qp_check_ends.specs.SettleState.{SettleState, Before, Seeing, settle_next, before_next, seen_next, behind_seen}
+use Rattle.qp_check_ends.specs.TickState.{Due, TickState, Reaching, Fired, Vain, ring_had_room, tick_next, reach_next, fired_next}
+use Rattle.qp_check_ends.specs.SettleState.{SettleState, Before, Seeing, settle_next, before_next, settle_seen_next, behind_seen}
 use Rattle.qp_check_ends.specs.Underway.{Underway, Calling, Ticking, Settling, underway_next}
-use Rattle.qp_unique.specs.Held.{Held, IsCounted, MayComeNext, comes_next}
+use Rattle.qp_unique.specs.Held.{WordsHeld, IsCounted, MayComeNext, comes_next}
 use Rattle.qp_unique.specs.NextInCall.{post_told}
-use Rattle.qp_unique.specs.NextInSource.{reach_told, tick_told, seen_told, settle_told, underway_told}
+use Rattle.qp_unique.specs.NextInSource.{reach_told, tick_told, seen_of_held, settle_told, underway_told}
 use Rattle.qp_unique.specs.Laws.{StimulusGoesOnAlone}
 use Rattle.qp_unique.proofs.CallLemmas.{call_goes_on_alone, post-granted, post-asserted}
 use Rattle.qp_model.proofs.KernelLaneLemmas.{granted}
@@ -26,7 +26,7 @@ use Rattle.qp_model.proofs.ListLemmas.{mapped}
 abbrev tells : Body → Known → Told
 tells b k = record { body = b; known = k }
 
-module _ (sys : System) (h : Held) where
+module _ (sys : System) (h : WordsHeld) where
   reach-alone : (x : Due) (left : List Due) (b : Body) (k : Known) (later : TickState) → reach_next x left b k ≡ Some later → comes_next sys h 0 b ≡ true
       → reach_told (h.clocks x.t) x.t ≡ tells b k
   unfolding comes_next
@@ -55,9 +55,9 @@ module _ (sys : System) (h : Held) where
 
   fired-alone : (object sig : ℕ) (left : List Due) (b : Body) (k : Known) (later : TickState) → fired_next (ring_of sys object) object sig left b k ≡ Some later
       → comes_next sys h 0 b ≡ true → post_told (ring_of sys object) (h.lines object) object None (entry 0 sig 0) ≡ tells b k
-  unfolding had_room
+  unfolding ring_had_room
   fired-alone object sig left (body.Post a f l m e) Nothing later is comes =
-      let test : ((a == object) && same_entry e (entry 0 sig 0) && had_room (ring_of sys object) f l m) ≡ true = (granted _ _ _ is).0 in
+      let test : ((a == object) && same_entry e (entry 0 sig 0) && ring_had_room (ring_of sys object) f l m) ≡ true = (granted _ _ _ is).0 in
       let e1 : a ≡ object = grind (arith, nat_tests) in
       let same : same_entry e (entry 0 sig 0) ≡ true = grind (arith, nat_tests) in
       let e2 : e ≡ entry 0 sig 0 = same_entry-is e (entry 0 sig 0) same in
@@ -81,12 +81,12 @@ module _ (sys : System) (h : Held) where
   before-alone objects body.Settle Nothing later is = refl
   before-alone objects b k later is = absurd (cc)
 
-  seen-alone : (kernel p : ℕ) (left : List ℕ) (b : Body) (k : Known) (later : SettleState) → seen_next kernel p left b k ≡ Some later → comes_next sys h 0 b ≡ true
-      → seen_told h p ≡ tells b k
+  seen-alone : (kernel p : ℕ) (left : List ℕ) (b : Body) (k : Known) (later : SettleState) → settle_seen_next kernel p left b k ≡ Some later → comes_next sys h 0 b ≡ true
+      → seen_of_held h p ≡ tells b k
   unfolding comes_next
   seen-alone kernel p left (body.Seen q f l m) Nothing later is comes = by (q == p) refl is
     where
-      by : (same : Bool) → (q == p) ≡ same → cond same (behind_seen kernel left (f + l) m) None ≡ Some later → seen_told h p ≡ tells (body.Seen q f l m) Nothing
+      by : (same : Bool) → (q == p) ≡ same → cond same (behind_seen kernel left (f + l) m) None ≡ Some later → seen_of_held h p ≡ tells (body.Seen q f l m) Nothing
       by true same is =
           let e1 : q ≡ p = grind (arith, nat_tests) in
           let e2 : f ≡ (h.lines q).f = grind (arith, nat_tests) in

@@ -30,11 +30,11 @@ use Rattle.qp_check_calls.proofs.OpenLemmas.{open-begin, open-next}
 use Rattle.qp_check_calls.proofs.ReadLemmas.{reads-next, reads-whole}
 use Rattle.qp_check_calls.proofs.SomeLemmas.{open-reads}
 use Rattle.qp_check_course.specs.Followable.{IsFollowable}
-use Rattle.qp_check_course.specs.Goes.{Aim, Meets, Starting, StepsGo, CourseGoes}
-use Rattle.qp_check_course.specs.Machine.{State, Between, AtPoint, AtPost, Releasing, Returning, Goes, expects_point, next, start_state, tell_next}
+use Rattle.qp_check_course.specs.Goes.{Aim, MeetsAim, Starting, StepsGo, CourseGoes}
+use Rattle.qp_check_course.specs.Machine.{State, Between, AtPoint, AtPost, Releasing, Returning, Goes, expects_point, state_next, start_state, tell_next}
 use Rattle.qp_check_course.specs.Passing.{pass, run_told}
 use Rattle.qp_check_course.specs.Ready.{MayGoOnFrom}
-use Rattle.qp_check_course.specs.Standing.{left_in}
+use Rattle.qp_check_course.specs.Standing.{config_left_in}
 use Rattle.qp_check_course.proofs.CourseLemmas.{course-goes}
 use Rattle.qp_check_course.proofs.DoneLemmas.{open_in, start-under, told-counts}
 use Rattle.qp_check_course.proofs.NextLemmas.{goes-next}
@@ -84,7 +84,7 @@ module _ (sys : System) (a : Actor) (able : chart_able sys a.chart ≡ true) (c 
       (read.0, read.1, ap (λ x. option_and_then (λ more. run_told sys a more g) (tell_next sys a x t)) (sym same) ∙ read.2, read.3, read.4)
 
   read-on : (ps back : List Piece) (s : State) → MayGoOnFrom sys a s → Goes sys a Here s (ps ++ back) → Read s (records_in ps) back
-  unfolding run_told next records_in
+  unfolding run_told state_next records_in
   read-on [] back s ready h = (s, [], refl, refl, h)
   read-on (Tell t ∷ ps) back s ready h =
       let step = goes-next reads-begin reads-whole reads-next sys a Here s (Tell t) (ps ++ back) (under sys a s ready) h in
@@ -99,14 +99,14 @@ module _ (sys : System) (a : Actor) (able : chart_able sys a.chart ≡ true) (c 
   -- between steps, where none begins, the course has come to its end
   stays : (d : Config) (zs : List Piece) → begins_nothing zs ≡ true → StepsGo sys a Here d zs → d ≡ c
   unfolding StepsGo Steps Step records_in
-  stays d zs none ([], end, (is, same), met) = subst (Meets Here) same met
+  stays d zs none ([], end, (is, same), met) = subst (MeetsAim Here) same met
   stays d zs none (e ∷ es, end, (one, rest, mid, split, (f, l, m, ev, more, began, behind), steps), met) =
       let is : zs ≡ Tell (told_took f l m e ev) ∷ (more ++ rest) = split ∙ ap (λ us. us ++ rest) began in
       let wrong : begins_nothing (Tell (told_took f l m e ev) ∷ (more ++ rest)) ≡ true = subst (λ us. begins_nothing us ≡ true) is none in
       absurd (cc)
 
   -- so where no step is under way that is its configuration
-  lands : (s : State) (zs : List Piece) → open_in s ≡ 0 → begins_nothing zs ≡ true → Goes sys a Here s zs → left_in s ≡ Some c
+  lands : (s : State) (zs : List Piece) → open_in s ≡ 0 → begins_nothing zs ≡ true → Goes sys a Here s zs → config_left_in s ≡ Some c
   unfolding Goes
   lands (Between d) zs over none h = ap Some (stays d zs none h)
   lands (Releasing e d) zs over none (rel, rest, drops, is, more) =
@@ -152,7 +152,7 @@ module _ (sys : System) (d : ObjectDef) (chart : Chart) (able : chart_able sys c
   start = start_state (actor d chart) (first_config d)
 
   -- its records lead to a state that has the configuration which the course leaves
-  comes-to : (c : Config) → CourseLeaves sys d chart ts c → (s : State) × (run_told sys a start (dispatched ts) ≡ Some s) × (left_in s ≡ Some c)
+  comes-to : (c : Config) → CourseLeaves sys d chart ts c → (s : State) × (run_told sys a start (dispatched ts) ≡ Some s) × (config_left_in s ≡ Some c)
   unfolding CourseLeaves CourseGoes start_state
   comes-to c (ps, back, es, is, none, course) =
       let from : CourseGoes sys a (Here sys a able c) (first_config d) (ps ++ back) = course-goes sys a (Here sys a able c) (first_config d) es (ps ++ back) (Some c) course refl in
@@ -175,7 +175,7 @@ module _ (sys : System) (d : ObjectDef) (chart : Chart) (able : chart_able sys c
   one-left c e first second =
       let x = comes-to c first in
       let y = comes-to e second in
-      some-same (sym x.2 ∙ ap left_in (some-same (sym x.1 ∙ y.1)) ∙ y.2)
+      some-same (sym x.2 ∙ ap config_left_in (some-same (sym x.1 ∙ y.1)) ∙ y.2)
 
 one-text : (sys : System) (d : ObjectDef) → IsFollowable sys d → (ts : List Told) (x y : List ℕ) → IsStateText sys d (chart_at sys d.chart) ts x → IsStateText sys d (chart_at sys d.chart) ts y → x ≡ y
 unfolding IsStateText

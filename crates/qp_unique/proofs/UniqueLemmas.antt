@@ -30,7 +30,7 @@ use Rattle.qp_check_course.specs.Followable.{IsFollowable}
 use Rattle.qp_model_order.specs.RunOrder.{has_stim}
 use Rattle.qp_model_order.specs.Placing.{look_item}
 use Rattle.qp_unique.proofs.KernelLemmas.{Slot, Starts, Runs, Releases, IsLook, IsSeen, IsTook, IsSpent, IsRest}
-use Rattle.qp_unique.specs.Tidy.{run_order, unspilt, is_short, spill_free, IsTidy, LacksStimulus}
+use Rattle.qp_unique.specs.Tidy.{unspilt_order, unspilt, has_short_lanes, spill_free, IsTidy, LacksStimulus}
 use Rattle.qp_unique.specs.Laws.{ShortJournalsLeaveNoSpill, TidyJournalsAreOne}
 use Rattle.qp_unique.proofs.StackLemmas.{IsBounded, found-in, IsObject}
 use Rattle.qp_unique.proofs.LoopLemmas.{agree-first, front-order, lane-at}
@@ -161,7 +161,7 @@ module _ (sys : System) (stimuli : List (List Stim)) (sound : IsSound sys) (foll
     t = threaded sys stimuli j law single
 
     abbrev side : Side sys charts stimuli mode
-    unfolding run_order setting_of
+    unfolding unspilt_order setting_of
     side = record {
       w = facts_of sys j;
       has = (setting_of sys j).has_stimulus;
@@ -205,7 +205,7 @@ module _ (sys : System) (stimuli : List (List Stim)) (sound : IsSound sys) (foll
           (every-append P (lane_items t.first) (all_items t.others) (subst (AllByRecursion P) (sym zero-clean ∙ lane0-is sys stimuli j t) zero_has) others)
 
       ended : HasEnded sys charts stimuli mode side
-      unfolding EndHolds side run_order
+      unfolding EndHolds side unspilt_order
       ended = by (raw-read sys stimuli j law single t).2 (list_any (λ (z : Placed). is_end z.item.body) (order_of sys charts stimuli mode side)) refl
         where
           last-same : (raw-read sys stimuli j law single t).0 ≡ (kernel-read sys stimuli j law single t).0
@@ -293,7 +293,7 @@ module _ (sys : System) (stimuli : List (List Stim)) (j : Journal) (t : Threaded
         lanes (l ∷ ls) h = rw (each-unspilt l h.0) (lanes ls h.1)
 
     -- a short journal has none
-    module _ (short : is_short j ≡ true) where
+    module _ (short : has_short_lanes j ≡ true) where
       shorts : (length (lane_items (lane_at j 0)) ≤ spill_free) × AllByRecursion (λ l. length l ≤ spill_free) (source_lanes sys j)
       shorts =
           let each = short-each j.lanes short in
@@ -346,8 +346,8 @@ module _ (sys : System) (stimuli : List (List Stim)) (i j : Journal) (sound : Is
 
   -- the second goes on behind the first, or they needn't go on alike
   goes-behind : has_spilt sys i ≡ false
-      → ((zs : List Placed) × (run_order sys i ≡ run_order sys j ++ zs)) ⊎ MayPart sys (charts sys stimuli sound followable) stimuli mode side_i side_j
-  unfolding side run_order
+      → ((zs : List Placed) × (unspilt_order sys i ≡ unspilt_order sys j ++ zs)) ⊎ MayPart sys (charts sys stimuli sound followable) stimuli mode side_i side_j
+  unfolding side unspilt_order
   goes-behind clean =
       front-order sys (charts sys stimuli sound followable) stimuli mode (bounded sys stimuli sound followable) (positive sys stimuli sound followable) side_i side_j
       (ended sys stimuli sound followable i mode law_i single_i budget_i tidy_i clean) sizes (kept_zero i) (kept_zero j) [] [] (unread sys)
@@ -355,8 +355,8 @@ module _ (sys : System) (stimuli : List (List Stim)) (i j : Journal) (sound : Is
       (unlooked sys stimuli i thread_i law_i single_i ∙ sym (unlooked sys stimuli j thread_j law_j single_j)))
 
   -- the same lanes, where neither has a `spill`
-  lanes-one : has_spilt sys i ≡ false → has_spilt sys j ≡ false → run_order sys i ≡ run_order sys j → map (λ lane. lane_items lane) i.lanes ≡ map (λ lane. lane_items lane) j.lanes
-  unfolding side run_order
+  lanes-one : has_spilt sys i ≡ false → has_spilt sys j ≡ false → unspilt_order sys i ≡ unspilt_order sys j → map (λ lane. lane_items lane) i.lanes ≡ map (λ lane. lane_items lane) j.lanes
+  unfolding side unspilt_order
   lanes-one clean_i clean_j same =
       let both = same-lanes sys (charts sys stimuli sound followable) stimuli mode (bounded sys stimuli sound followable) (positive sys stimuli sound followable) side_i side_j same sizes
       (λ before l behind is. lane-stood sys stimuli i law_i single_i thread_i before l behind is) (λ before l behind is. lane-stood sys stimuli j law_j single_j thread_j before l behind is) in
@@ -367,14 +367,14 @@ module _ (sys : System) (stimuli : List (List Stim)) (i j : Journal) (sound : Is
       lanes-are sys stimuli i thread_i ∙ (λ n. zeros n ∷ sources n) ∙ sym (lanes-are sys stimuli j thread_j)
 
   -- a lane of the second that ended with a `spill` is a front of one of the first
-  spilt-long : (zs : List Placed) → run_order sys i ≡ run_order sys j ++ zs → is_short i ≡ true → has_spilt sys j ≡ true → ⊥
-  unfolding run_order
+  spilt-long : (zs : List Placed) → unspilt_order sys i ≡ unspilt_order sys j ++ zs → has_short_lanes i ≡ true → has_spilt sys j ≡ true → ⊥
+  unfolding unspilt_order
   spilt-long zs is short spilt = by (spills_in (lane_items (lane_at j 0))) refl spilt
     where
-      behind : (m : ℕ) → lane_in (run_order sys i) m ≡ lane_in (run_order sys j) m ++ lane_in zs m
-      behind m = ap (λ us. lane_in us m) is ∙ lane_in-append (run_order sys j) zs m
+      behind : (m : ℕ) → lane_in (unspilt_order sys i) m ≡ lane_in (unspilt_order sys j) m ++ lane_in zs m
+      behind m = ap (λ us. lane_in us m) is ∙ lane_in-append (unspilt_order sys j) zs m
 
-      zeros : (k : Journal) → lane_in (run_order sys k) 0 ≡ kept_zero k
+      zeros : (k : Journal) → lane_in (unspilt_order sys k) 0 ≡ kept_zero k
       zeros k = zero-is true (kept_sources sys k) (kept_zero k)
 
       at-zero : spills_in (lane_items (lane_at j 0)) ≡ true → ⊥
@@ -393,8 +393,8 @@ module _ (sys : System) (stimuli : List (List Stim)) (i j : Journal) (sound : Is
           let count = ap length are ∙ length-append front (unspilt lane.1 ∷ map (λ lane. unspilt lane) lane.2) in
           let same = sizes in
           let own = lane-at (kept_sources sys i) (length front) (omega (arith, count, same)) in
-          let its : own.1 ≡ lane_in (run_order sys i) (1 + length front) =
-          lane-stood sys stimuli i law_i single_i thread_i own.0 own.1 own.2 own.3 ∙ ap (λ n. lane_in (run_order sys i) (1 + n)) own.4 in
+          let its : own.1 ≡ lane_in (unspilt_order sys i) (1 + length front) =
+          lane-stood sys stimuli i law_i single_i thread_i own.0 own.1 own.2 own.3 ∙ ap (λ n. lane_in (unspilt_order sys i) (1 + n)) own.4 in
           let size = ap length (its ∙ behind (1 + length front) ∙ ap (λ us. us ++ lane_in zs (1 + length front)) (sym stands)) ∙ length-append (unspilt lane.1) (lane_in zs (1 + length front)) in
           short-source sys stimuli i thread_i law_i single_i short own.0 own.1 own.2 own.3 (omega (arith, long, size))
 
@@ -427,7 +427,7 @@ abbrev mode_of : (j : Journal) → has_one_order j.kernel ≡ true → Mode
 mode_of j single = record { kernel = j.kernel; one = single; budget = j.budget }
 
 -- a short journal has no `spill`
-pub short_journals_are_unspilt : (sys : System) (stimuli : List (List Stim)) (j : Journal) → Lawful sys stimuli j → has_one_order j.kernel ≡ true → is_short j ≡ true → list_any (λ x. is_spill x.body) (all_items j.lanes) ≡ false
+pub short_journals_are_unspilt : (sys : System) (stimuli : List (List Stim)) (j : Journal) → Lawful sys stimuli j → has_one_order j.kernel ≡ true → has_short_lanes j ≡ true → list_any (λ x. is_spill x.body) (all_items j.lanes) ≡ false
 short_journals_are_unspilt sys stimuli j law one short =
     let tj = threaded sys stimuli j law (own-kernel j one) in
     clean-items sys stimuli j tj (short-clean sys stimuli j tj law (own-kernel j one) short)
@@ -440,7 +440,7 @@ short_journals_leave_no_spill sys stimuli i j sound followable law_i law_j singl
     by tj (goes-behind sys stimuli i j sound followable law_i law_j (mode_of i single) (own-kernel i single) (same-kernel i j single kernels) refl (sym budgets) tidy_i tidy_j (short-clean sys stimuli i ti law_i (own-kernel i single) short)) (has_spilt sys j) refl
   where
     by : (tj : Threaded sys stimuli j)
-        → ((zs : List Placed) × (run_order sys i ≡ run_order sys j ++ zs))
+        → ((zs : List Placed) × (unspilt_order sys i ≡ unspilt_order sys j ++ zs))
         ⊎ MayPart sys (charts sys stimuli sound followable) stimuli (mode_of i single) (side sys stimuli sound followable i (mode_of i single) law_i (own-kernel i single) refl tidy_i) (side sys stimuli sound followable j (mode_of i single) law_j (same-kernel i j single kernels) (sym budgets) tidy_j)
         → (b : Bool) → has_spilt sys j ≡ b → (list_any (λ x. is_spill x.body) (all_items j.lanes) ≡ false) ⊎ LacksStimulus sys stimuli j
     by tj (inl (zs, is)) false e = inl (clean-items sys stimuli j tj e)
@@ -471,7 +471,7 @@ tidy_journals_are_one sys stimuli i j sound followable law_i law_j single kernel
     let clean_j = clean-of sys stimuli j tj law_j (same-kernel i j single kernels) unspilt_j in
     let one = alike clean_i clean_j (goes-behind sys stimuli i j sound followable law_i law_j (mode_of i single) (own-kernel i single) (same-kernel i j single kernels) refl (sym budgets) tidy_i tidy_j clean_i) in
     let two = alike clean_j clean_i (goes-behind sys stimuli j i sound followable law_j law_i (mode_of i single) (same-kernel i j single kernels) (own-kernel i single) (sym budgets) refl tidy_j tidy_i clean_j) in
-    let same : run_order sys i ≡ run_order sys j = fronts-one (run_order sys i) (run_order sys j) one.0 two.0 one.1 two.1 in
+    let same : unspilt_order sys i ≡ unspilt_order sys j = fronts-one (unspilt_order sys i) (unspilt_order sys j) one.0 two.0 one.1 two.1 in
     let lanes = lanes-one sys stimuli i j sound followable law_i law_j (mode_of i single) (own-kernel i single) (same-kernel i j single kernels) refl (sym budgets) tidy_i tidy_j clean_i clean_j same in
     let items : all_items i.lanes ≡ all_items j.lanes = joined i.lanes ∙ ap joined_items lanes ∙ sym (joined j.lanes) in
     let one_end : (i.end == end_of (all_items i.lanes)) ≡ true = law_i.end.stated in

@@ -17,7 +17,7 @@ use Rattle.qp_model.specs.Subscribers.{Subscribers, subscribers_may, subscribers
 use Rattle.qp_model.specs.TimeEvents.{Clock, clock_may, clock_says}
 
 -- what each word holds, the ceiling of the lane, and the events of entries
-pub record Held : Type 0 where
+pub record WordsHeld : Type 0 where
   pub pools : ℕ → Pool
   pub blocks : ℕ → ℕ → Refs
   pub lives : ℕ → ℕ → Life
@@ -28,11 +28,11 @@ pub record Held : Type 0 where
   pub events : Entry → Option Event
 
 -- each queue holds what was posted and not taken
-pub record IsCounted (h : Held) : Type 0 where
+pub record IsCounted (h : WordsHeld) : Type 0 where
   pub counted : (a : ℕ) → length (h.lines a).entries + (h.lines a).m ≡ (h.lines a).f + (h.lines a).l
 
 -- the operation of a record of o is allowed, with the next number of its word; or what it shows is what the word holds
-unfoldable pub comes_next : System → Held → ℕ → Body → Bool
+unfoldable pub comes_next : System → WordsHeld → ℕ → Body → Bool
 unfolding ring_of
 comes_next sys h o (Took f l m e) = line_may (ring_of sys o) (h.lines o) (Took f l m e)
 comes_next sys h o (Nil f l m) = line_says (ring_of sys o) (h.lines o) (Nil f l m)
@@ -63,7 +63,7 @@ comes_next sys h o (Armed t n counter) = (n == (h.clocks t).count) && clock_says
 comes_next sys h o b = true
 
 -- what is known beside it
-unfoldable pub known_then : Held → ℕ → Body → Known
+unfoldable pub known_then : WordsHeld → ℕ → Body → Known
 known_then h o (Took f l m e) = event_known (h.events e)
 known_then h o (New p n b from sig pars) = Free (length (h.pools p).free)
 known_then h o (Dec p b d k) = Left (length (refs_next (h.blocks p b) (Dec p b d k)).names)
@@ -72,6 +72,6 @@ known_then h o (Same sig n) = Member (has (h.sets sig).members o)
 known_then h o b = Nothing
 
 -- the record of o, as it is told, may come next
-pub record MayComeNext (sys : System) (h : Held) (o : ℕ) (t : Told) : Type 0 where
+pub record MayComeNext (sys : System) (h : WordsHeld) (o : ℕ) (t : Told) : Type 0 where
   pub may : IsTrue (comes_next sys h o t.body)
   pub known : t.known ≡ known_then h o t.body

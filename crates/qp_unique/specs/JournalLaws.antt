@@ -14,7 +14,7 @@ use Rattle.qp_model.specs.Lawful.{Lawful}
 use Rattle.qp_model.specs.OutputSummary.{IsSummary}
 use Rattle.qp_stim.specs.Rules.{StimuliFit}
 use Rattle.qp_replay.specs.Orders.{IsLowestOrder}
-use Rattle.qp_unique.specs.Tidy.{IsTidy, LacksStimulus, is_short}
+use Rattle.qp_unique.specs.Tidy.{IsTidy, LacksStimulus, has_short_lanes}
 
 -- a journal of a run with one thread, lawful for the system and its stimuli
 pub record IsOneThreadJournal (sys : System) (stimuli : List (List Stim)) (j : Journal) : Type 0 where
@@ -36,7 +36,7 @@ OneThreadJournalsAreTidy =
 abbrev pub OneThreadJournalsAreOne : Type 0
 OneThreadJournalsAreOne =
     (sys : System) (stimuli : List (List Stim)) (i j : Journal) → IsSound sys → StimuliFit sys stimuli
-    → IsOneThreadJournal sys stimuli i → IsOneThreadJournal sys stimuli j → j.kernel ≡ i.kernel → i.budget ≡ j.budget → IsTrue (is_short i) → (j ≡ i) ⊎ LacksStimulus sys stimuli j
+    → IsOneThreadJournal sys stimuli i → IsOneThreadJournal sys stimuli j → j.kernel ≡ i.kernel → i.budget ≡ j.budget → IsTrue (has_short_lanes i) → (j ≡ i) ⊎ LacksStimulus sys stimuli j
 
 -- and two in which no lane ended with a `spill` are the same journal, however long their lanes are
 abbrev pub UnspiltJournalsAreOne : Type 0
@@ -46,7 +46,7 @@ UnspiltJournalsAreOne =
 
 -- in a short one no lane ended with a `spill`
 abbrev pub ShortJournalsAreUnspilt : Type 0
-ShortJournalsAreUnspilt = (sys : System) (stimuli : List (List Stim)) (j : Journal) → IsOneThreadJournal sys stimuli j → IsTrue (is_short j) → IsUnspilt j
+ShortJournalsAreUnspilt = (sys : System) (stimuli : List (List Stim)) (j : Journal) → IsOneThreadJournal sys stimuli j → IsTrue (has_short_lanes j) → IsUnspilt j
 
 -- a journal has one summary
 abbrev pub SummariesAreOne : Type 0

@@ -18,14 +18,14 @@ use Rattle.qp_model.specs.Places.{RecordPlace, items_at, in_order}
 use Rattle.qp_model.specs.WordLaw.{Words}
 use Rattle.qp_unique.specs.Fronts.{held_after, names_its}
 use Rattle.qp_check_course.specs.Followable.{IsFollowable}
-use Rattle.qp_unique.specs.Tidy.{IsTidy, LacksStimulus, is_short}
+use Rattle.qp_unique.specs.Tidy.{IsTidy, LacksStimulus, has_short_lanes}
 use Rattle.qp_model.specs.Told.{Told}
 use Rattle.qp_check_calls.specs.CallState.{CallStage}
 use Rattle.qp_check_calls.specs.CallStateNext.{stage_next}
-use Rattle.qp_unique.specs.Held.{Held, IsCounted, MayComeNext}
+use Rattle.qp_unique.specs.Held.{WordsHeld, IsCounted, MayComeNext}
 use Rattle.qp_model.specs.Pieces.{Piece}
 use Rattle.qp_model.specs.Acts.{Actor}
-use Rattle.qp_check_course.specs.Machine.{State, next as piece_next}
+use Rattle.qp_check_course.specs.Machine.{State, state_next as piece_next}
 use Rattle.qp_check_ends.specs.Underway.{Underway, underway_next}
 use Rattle.qp_unique.specs.NextInCall.{stage_told}
 use Rattle.qp_unique.specs.NextInCourse.{piece_told, PieceComes}
@@ -34,19 +34,19 @@ use Rattle.qp_unique.specs.NextInSource.{underway_told}
 -- a record by which a call goes on, and which may come next by what the words hold, is the one of `stage_told`
 abbrev pub CallGoesOnAlone : Type 0
 CallGoesOnAlone =
-    (sys : System) (h : Held) (o : ℕ) (now : Option Entry) (kept : List Entry) (s next : CallStage) (t : Told) → IsCounted h → MayComeNext sys h o t
+    (sys : System) (h : WordsHeld) (o : ℕ) (now : Option Entry) (kept : List Entry) (s next : CallStage) (t : Told) → IsCounted h → MayComeNext sys h o t
     → stage_next sys o now kept s t.body t.known ≡ Some next → stage_told sys h o now kept s ≡ Some t
 
 -- so is a piece by which an object's course goes on
 abbrev pub CourseGoesOnAlone : Type 0
 CourseGoesOnAlone =
-    (sys : System) (h : Held) (a : Actor) (s later : State) (p : Piece) → IsCounted h → PieceComes sys h a.o p
+    (sys : System) (h : WordsHeld) (a : Actor) (s later : State) (p : Piece) → IsCounted h → PieceComes sys h a.o p
     → piece_next sys a s p ≡ Some later → piece_told sys h a s ≡ Some p
 
 -- and a record by which a stimulus goes on
 abbrev pub StimulusGoesOnAlone : Type 0
 StimulusGoesOnAlone =
-    (sys : System) (h : Held) (kernel : ℕ) (u later : Underway) (t : Told) → IsCounted h → MayComeNext sys h 0 t
+    (sys : System) (h : WordsHeld) (kernel : ℕ) (u later : Underway) (t : Told) → IsCounted h → MayComeNext sys h 0 t
     → underway_next sys kernel u t ≡ Some later → underway_told sys h u ≡ Some t
 
 -- Each record of a run, in an order in which each number is that of its word's operations before it, comes next by what the words hold
@@ -63,7 +63,7 @@ RecordsComeNext =
 abbrev pub ShortJournalsLeaveNoSpill : Type 0
 ShortJournalsLeaveNoSpill =
     (sys : System) (stimuli : List (List Stim)) (i j : Journal) → IsSound sys → AllByRecursion (IsFollowable sys) sys.objects
-    → Lawful sys stimuli i → Lawful sys stimuli j → has_one_order i.kernel ≡ true → j.kernel ≡ i.kernel → i.budget ≡ j.budget → IsTrue (is_short i) → IsTidy sys i → IsTidy sys j
+    → Lawful sys stimuli i → Lawful sys stimuli j → has_one_order i.kernel ≡ true → j.kernel ≡ i.kernel → i.budget ≡ j.budget → IsTrue (has_short_lanes i) → IsTidy sys i → IsTidy sys j
     → (list_any (λ x. is_spill x.body) (all_items j.lanes) ≡ false) ⊎ LacksStimulus sys stimuli j
 
 -- two such journals without a `spill`, both tidy, tell the same

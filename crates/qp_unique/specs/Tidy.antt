@@ -22,17 +22,17 @@ abbrev pub unspilt : List Item → List Item
 unspilt lane = filter (λ i. not (is_spill i.body)) lane
 
 -- the records of a run with one thread in their order, but for its `spill`
-unfoldable pub run_order : System → Journal → List Placed
+unfoldable pub unspilt_order : System → Journal → List Placed
 unfolding with_stimuli source_lanes lane_items
-run_order sys j = with_stimuli true (map (λ lane. unspilt lane) (source_lanes sys j)) (unspilt (lane_items (lane_at j 0)))
+unspilt_order sys j = with_stimuli true (map (λ lane. unspilt lane) (source_lanes sys j)) (unspilt (lane_items (lane_at j 0)))
 
 -- behind more records than these in its lane a `spill` may stand
 unfoldable pub spill_free : ℕ
 spill_free = 999992
 
 -- No lane has more records than these.
-abbrev pub is_short : Journal → Bool
-is_short j = list_all (λ lane. nat_le (length lane) spill_free) j.lanes
+abbrev pub has_short_lanes : Journal → Bool
+has_short_lanes j = list_all (λ lane. nat_le (length lane) spill_free) j.lanes
 
 -- Lane 0 ended with a `spill`, and its last look lacks the stimulus that acts in it.
 pub record LacksStimulus (sys : System) (stimuli : List (List Stim)) (j : Journal) : Type 0 where
@@ -41,11 +41,11 @@ pub record LacksStimulus (sys : System) (stimuli : List (List Stim)) (j : Journa
   pub number : ℕ
   pub floor : ℕ
   pub behind : List Placed
-  pub look : run_order sys j ≡ before ++ placed 0 (look_item number floor) ∷ behind
+  pub look : unspilt_order sys j ≡ before ++ placed 0 (look_item number floor) ∷ behind
   pub lacks : is_turn (acts_next sys stimuli before (floor == 0)) (turns_at 1 number (source_lanes sys j)) ≡ false
 
 pub record IsTidy (sys : System) (j : Journal) : Type 0 where
   pub named : IsTrue (list_all (λ i. names_its sys i.of i.body) (all_items j.lanes))
   -- what the records before an entry is taken tell of its event stays
-  pub events : (xs : List Placed) (x : Placed) (ys : List Placed) (f l m : ℕ) (e : Entry) → run_order sys j ≡ xs ++ x ∷ ys → x.item.body ≡ Took f l m e
+  pub events : (xs : List Placed) (x : Placed) (ys : List Placed) (f l m : ℕ) (e : Entry) → unspilt_order sys j ≡ xs ++ x ∷ ys → x.item.body ≡ Took f l m e
       → event_of_entry (facts_of sys j) e ≡ event_of_entry (record { sys = sys; items = map (λ z. z.item) xs }) e

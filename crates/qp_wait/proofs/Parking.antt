@@ -9,11 +9,11 @@ use Rattle.qp_model.specs.Sources.{priorities}
 use Rattle.qp_model.specs.Told.{ToldItem}
 use Rattle.qp_calls.specs.LaneView.{LaneView}
 use Rattle.qp_wait_rings.specs.declared.cord.Cord.{Cord}
-use Rattle.qp_wait_rings.specs.Cords.{count_in, has_cord}
+use Rattle.qp_wait_rings.specs.Cords.{notes_given, has_cord}
 use Rattle.qp_wait_rings.proofs.Quiet.{Grown}
 use Rattle.qp_wait.specs.declared.perch.Perch.{Perch}
 use Rattle.qp_wait.specs.Lane.{given_in}
-use Rattle.qp_wait.specs.Parked.{HasParked, have_all, is_park_place, object_of, parks_of}
+use Rattle.qp_wait.specs.Parked.{HasParked, have_all, is_park_place, parked_object, parks_of}
 
 place-still : (me : ℕ) (told ts : List ToldItem) (n : ℕ) → is_park_place me told n ≡ true → is_park_place me (told ++ ts) n ≡ true
 place-still me [] ts zero h = absurd (cc)
@@ -31,7 +31,7 @@ places-still me told ts (n ∷ ns) h =
 pub parked-still : (cords : List Cord) (perch : Option Perch) (v w : LaneView) → HasParked cords perch v → Grown v w → HasParked cords perch w
 parked-still cords perch v w h g = record {
   objects = h.objects ∙ ap priorities (sym g.sys);
-  places = subst (λ ts. list_all (is_park_place (object_of perch) ts) (parks_of perch) ≡ true) (sym g.told) (places-still (object_of perch) v.told g.ts (parks_of perch) h.places);
+  places = subst (λ ts. list_all (is_park_place (parked_object perch) ts) (parks_of perch) ≡ true) (sym g.told) (places-still (parked_object perch) v.told g.ts (parks_of perch) h.places);
 }
 
 -- one park more
@@ -58,22 +58,22 @@ parked-again cords p q v w place (Err e) is h look same one two = record {
 -- Notes by the cords.
 
 -- each shows what it counted
-pub given-count : (a : ℕ) (cs : List Cord) → given_in a cs % 2 ^ 64 ≡ count_in a cs
+pub given-count : (a : ℕ) (cs : List Cord) → given_in a cs % 2 ^ 64 ≡ notes_given a cs
 given-count a [] = refl
 given-count a (c ∷ cs) = by (c.object == a) (given-count a cs)
   where
-    by : (b : Bool) → given_in a cs % 2 ^ 64 ≡ count_in a cs → cond b (parker_view c.pass).given (given_in a cs) % 2 ^ 64 ≡ cond b c.pulls (count_in a cs)
+    by : (b : Bool) → given_in a cs % 2 ^ 64 ≡ notes_given a cs → cond b (parker_view c.pass).given (given_in a cs) % 2 ^ 64 ≡ cond b c.pulls (notes_given a cs)
     by true rest = c.given
     by false rest = rest
 
-pub count-all : (a n : ℕ) (cs : List Cord) → have_all n cs ≡ true → has_cord a cs ≡ true → count_in a cs ≡ n
+pub count-all : (a n : ℕ) (cs : List Cord) → have_all n cs ≡ true → has_cord a cs ≡ true → notes_given a cs ≡ n
 count-all a n [] h there = absurd (cc)
 count-all a n (c ∷ cs) h there =
     let parts = and_parts (c.pulls == n) (have_all n cs) h in
     let one = parts.0 in
     by (c.object == a) (grind (arith, nat_tests, one)) (count-all a n cs parts.1) there
   where
-    by : (b : Bool) → c.pulls ≡ n → (has_cord a cs ≡ true → count_in a cs ≡ n) → (b || has_cord a cs) ≡ true → cond b c.pulls (count_in a cs) ≡ n
+    by : (b : Bool) → c.pulls ≡ n → (has_cord a cs ≡ true → notes_given a cs ≡ n) → (b || has_cord a cs) ≡ true → cond b c.pulls (notes_given a cs) ≡ n
     by true one rest there = one
     by false one rest there = rest there
 

@@ -6,13 +6,13 @@ use Rattle.qp_wait_bells.specs.Tallies.{one_where, with_added}
 use Rattle.qp_wait_rings.specs.declared.cord.Cord.{Cord}
 use Rattle.qp_wait_rings.specs.Lane.{Forgets, ringing_view}
 use Rattle.qp_wait.specs.declared.lane.BellLane.{BellLane}
-use Rattle.qp_wait.specs.Parked.{object_of, parks_of}
+use Rattle.qp_wait.specs.Parked.{parked_object, parks_of}
 
 abbrev pub bell_view : BellLane → LaneView
 bell_view l = ringing_view l.ringing
 
 -- a lane whose posts ring from its first record on; it has said no farewell, closed nothing, and not parked
-pub record BeginsAt (v : LaneView) (l : BellLane) : Type 0 where
+pub record IsNewBellLane (v : LaneView) (l : BellLane) : Type 0 where
   pub lane : bell_view l ≡ v
   pub opened : l.ringing.opened ≡ 0
   pub refused : l.ringing.refused ≡ 0
@@ -91,4 +91,4 @@ pub record KeepsPerch (old new : BellLane) : Type 0 where
   pub ringing : Forgets old.ringing new.ringing
   pub farewells : new.farewells ≡ old.farewells
   pub closings : new.closings ≡ old.closings
-  pub object : object_of new.perch ≡ object_of old.perch
+  pub object : parked_object new.perch ≡ parked_object old.perch

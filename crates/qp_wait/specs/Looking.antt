@@ -6,10 +6,10 @@ use Rattle.qp_model.specs.Record.{Item}
 use Rattle.qp_wait.specs.Parked.{is_empty_look}
 
 -- such a look stands at this place
-abbrev pub is_look_at : ℕ → List Item → ℕ → Bool
-is_look_at me is n = option_map_or (λ i. is_empty_look me i.of i.body) (slice_get is n) false
+abbrev pub is_look_in : ℕ → List Item → ℕ → Bool
+is_look_in me is n = option_map_or (λ i. is_empty_look me i.of i.body) (slice_get is n) false
 
 -- and behind this place none does
-abbrev pub IsLastLook : ℕ → List Item → Option ℕ → Type 0
-IsLastLook me is None = (k : ℕ) → is_look_at me is k ≡ false
-IsLastLook me is (Some n) = (is_look_at me is n ≡ true) × ((k : ℕ) → n < k → is_look_at me is k ≡ false)
+abbrev pub IsLastLookAt : ℕ → List Item → Option ℕ → Type 0
+IsLastLookAt me is None = (k : ℕ) → is_look_in me is k ≡ false
+IsLastLookAt me is (Some n) = (is_look_in me is n ≡ true) × ((k : ℕ) → n < k → is_look_in me is k ≡ false)

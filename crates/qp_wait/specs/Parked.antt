@@ -28,9 +28,9 @@ abbrev pub is_park_place : ℕ → List ToldItem → ℕ → Bool
 is_park_place me told n = option_map_or (λ t. is_empty_look me t.of t.told.body) (slice_get told n) false
 
 -- the object for which a lane parks, 0 for none
-abbrev pub object_of : Option Perch → ℕ
-object_of None = 0
-object_of (Some p) = p.object
+abbrev pub parked_object : Option Perch → ℕ
+parked_object None = 0
+parked_object (Some p) = p.object
 
 abbrev pub parks_of : Option Perch → List ℕ
 parks_of None = []
@@ -49,7 +49,7 @@ parks_shown (Some p) = (parker_view p.pass).parks
 -- the lane has a cord for each object, and parked behind such looks alone
 pub record HasParked (cords : List Cord) (perch : Option Perch) (v : LaneView) : Type 0 where
   pub objects : map (λ c. c.object) cords ≡ priorities v.sys
-  pub places : list_all (is_park_place (object_of perch) v.told) (parks_of perch) ≡ true
+  pub places : list_all (is_park_place (parked_object perch) v.told) (parks_of perch) ≡ true
 
 pub HasParked-prop : (cords : List Cord) (perch : Option Perch) (v : LaneView) → IsProp (HasParked cords perch v)
 HasParked-prop cords perch v = hlevel props

@@ -54,7 +54,7 @@ pub record IsStopFound (old new : BellLane) : Type 0 where
   pub parks : parks_of new.perch ≡ parks_of old.perch
 
 -- it couldn't park, and handed in 7 from there on
-pub record IsShort (from : LaneView) (old new : BellLane) : Type 0 where
+pub record FailsToPark (from : LaneView) (old new : BellLane) : Type 0 where
   pub rests : LaneRests false old new
   pub stops : Stops 7 from (bell_view new)
   pub parks : parks_of new.perch ≡ parks_of old.perch
@@ -64,7 +64,7 @@ abbrev pub Pauses : ℕ → BellLane → BellLane → Result Bool Halt → Type 
 Pauses me old new (Ok true) = HasParkedAt me old new × (bell_view new ≡ asked_once (bell_view old))
 Pauses me old new (Ok false) = HasNotParked true old new
 Pauses me old new (Err halt.Stopped) = IsStopFound old new
-Pauses me old new (Err halt.Memory) = IsShort (asked_once (bell_view old)) old new
+Pauses me old new (Err halt.Memory) = FailsToPark (asked_once (bell_view old)) old new
 
 -- It parks only where the stop word was found unset first.
 abbrev pub ParksUnset : LaneView → Result Bool Halt → Type 0

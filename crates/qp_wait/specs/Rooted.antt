@@ -14,7 +14,7 @@ abbrev pub AreBellsOf : System → Bells → Type 0
 AreBellsOf sys b = map (λ w. w.object) b.wakers.items ≡ priorities sys
 
 -- the root of these bells
-pub record IsRootOf (b : Bells) (r : BellRoot) : Type 0 where
+pub record IsBellRootOf (b : Bells) (r : BellRoot) : Type 0 where
   pub seat : r.seat.table_id ≡ b.count.shared.table_id
   pub ropes : AreRopes b.wakers.items r.ropes.items
 

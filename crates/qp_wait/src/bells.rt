@@ -38,13 +38,13 @@ pub struct BellFault<'a> {
 }
 
 impl Bells {
-    ghost use Rattle.qp_wait.specs.Rooted.{AreBellsOf, AreLooseFor, HangsOn, IsRootOf};
-    ghost use Rattle.qp_wait.specs.Lane.{BeginsAt};
+    ghost use Rattle.qp_wait.specs.Rooted.{AreBellsOf, AreLooseFor, HangsOn, IsBellRootOf};
+    ghost use Rattle.qp_wait.specs.Lane.{IsNewBellLane};
 
     /// The bells of a system, on whose count is nothing, and their root.
     pub fn new(alloc: Global, sys: &System) -> Result<(Bells, BellRoot), Memory>
         ensures bells { IfOk result (λ b. AreBellsOf sys.now b.0) }
-        ensures root { IfOk result (λ b. IsRootOf b.0 b.1) }
+        ensures root { IfOk result (λ b. IsBellRootOf b.0 b.1) }
     {
         let mut wakers = Vec::new(alloc);
         let mut ropes = Vec::new(alloc);
@@ -57,8 +57,8 @@ impl Bells {
 
     /// A cord for each object.
     fn cords(&self, alloc: Global, root: &mut BellRoot) -> Result<Vec<Cord>, Memory>
-        requires root { IsRootOf self.now root.old }
-        ensures root { IsRootOf self.now root.new }
+        requires root { IsBellRootOf self.now root.old }
+        ensures root { IsBellRootOf self.now root.new }
         ensures cords { IfOk result (λ cs. AreLooseFor self.now cs.items) }
     {
         let mut cords = Vec::new(alloc);
@@ -79,11 +79,11 @@ impl Bells {
         lane: SharedLane<'a>,
         me: u8,
     ) -> Result<BellLane<'a>, BellFault<'a>>
-        requires root { IsRootOf self.now root.old }
+        requires root { IsBellRootOf self.now root.old }
         requires fresh { (lane_view lane).told ≡ [] }
         requires system { AreBellsOf (lane_view lane).sys self.now }
-        ensures root { IsRootOf self.now root.new }
-        ensures begins { IfOk result (BeginsAt (lane_view lane.entry)) }
+        ensures root { IsBellRootOf self.now root.new }
+        ensures begins { IfOk result (IsNewBellLane (lane_view lane.entry)) }
         ensures hangs { IfOk result (HangsOn self.now) }
         ensures parks { IfOk result (λ l. IfSome l.perch (λ p. p.object ≡ me)) }
         ensures refused { IfErr result (λ fault. fault.lane ≡ lane.entry) }

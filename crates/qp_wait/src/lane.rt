@@ -7,8 +7,8 @@ ghost use Rattle.qp_model.specs.WordLaw.{is_object};
 ghost use Rattle.qp_model_order.specs.SourceRun.{untold_all};
 ghost use Rattle.qp_wait_rings.specs.Handed.{lane_view};
 ghost use Rattle.qp_wait_rings.specs.Lane.{ringing_view};
-ghost use Rattle.qp_wait_rings.specs.Records.{is_claim, is_refusal, posts_on};
-ghost use Rattle.qp_wait.specs.Parked.{HasParked, HasParked-prop, HasPerch, is_park_place, object_of, parks_of, parks_shown};
+ghost use Rattle.qp_wait_rings.specs.Records.{is_claim, tells_refusal, posts_on};
+ghost use Rattle.qp_wait.specs.Parked.{HasParked, HasParked-prop, HasPerch, is_park_place, parked_object, parks_of, parks_shown};
 
 use crate::closings::Closings;
 use crate::farewells::Farewells;
@@ -49,7 +49,7 @@ impl<'a> BellLane<'a> {
 
     /// What it took off, modulo 2^64: one for each claim that was refused, for each step that its turns finished and for each end.
     pub fn closed(&self) -> u64
-        ensures refusals { result ≡ (count_by is_refusal (bell_view self.now).told + self.now.closings.ended) % 2 ^ 64 }
+        ensures refusals { result ≡ (count_by tells_refusal (bell_view self.now).told + self.now.closings.ended) % 2 ^ 64 }
         ensures seats { result ≡ (self.now.ringing.seat.me.0.taken + self.now.closings.seat.me.0.taken) % 2 ^ 64 }
     {
         self.ringing.refused.wrapping_add(self.closings.ended)
@@ -66,7 +66,7 @@ impl<'a> BellLane<'a> {
     /// the look in the place of a take where the object is at its budget.
     pub fn parks(&self) -> &[u32]
         ensures parks { result.now ≡ parks_of self.now.perch }
-        ensures places { list_all (is_park_place (object_of self.now.perch) (bell_view self.now).told) result.now ≡ true }
+        ensures places { list_all (is_park_place (parked_object self.now.perch) (bell_view self.now).told) result.now ≡ true }
         ensures made { parks_shown self.now.perch ≡ length result.now }
     {
         match &self.perch {
@@ -141,9 +141,9 @@ impl<'a> BellLane<'a> {
     /// Parks behind the look at this place, until a note is there. Where the list of places can't grow it doesn't park. What its last look found is used up: no two parks
     /// stand behind one look.
     pub fn park<R: Wait>(&mut self, rt: &R, place: u32) -> Result<(), Memory>
-        requires some { HasPerch (object_of self.old.perch) self.old.perch }
-        requires found { self.old.ringing.found ≡ Some (object_of self.old.perch) }
-        requires look { is_park_place (object_of self.old.perch) (bell_view self.old).told place ≡ true }
+        requires some { HasPerch (parked_object self.old.perch) self.old.perch }
+        requires found { self.old.ringing.found ≡ Some (parked_object self.old.perch) }
+        requires look { is_park_place (parked_object self.old.perch) (bell_view self.old).told place ≡ true }
         ensures lane { KeepsPerch self.old self.new }
         ensures parked { OnOk result (parks_of self.new.perch ≡ parks_of self.old.perch ++ place ∷ []) }
         ensures refused { OnErr result (parks_of self.new.perch ≡ parks_of self.old.perch) }

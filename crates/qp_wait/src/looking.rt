@@ -4,7 +4,7 @@ ghost use Rattle.std.specs.Prelude.{◌≡◌, ◌+◌, ◌==◌};
 ghost use Rattle.qp_model.specs.History.{lane_items};
 ghost use Rattle.qp_model.specs.Record.{item_of};
 ghost use Rattle.qp_wait.specs.Parked.{is_empty_look};
-ghost use Rattle.qp_wait.specs.Looking.{IsLastLook};
+ghost use Rattle.qp_wait.specs.Looking.{IsLastLookAt};
 
 use qp_model::{Body, Rec};
 
@@ -32,7 +32,7 @@ fn is_empty_look(rec: &Rec, me: u8) -> bool
 
 /// The place of the last look that found the queue of object `me` empty.
 pub(crate) fn last_look(records: &[Rec], me: u8) -> Option<usize>
-    ensures { IsLastLook me (lane_items records.now) result }
+    ensures { IsLastLookAt me (lane_items records.now) result }
 {
     let Some((last, front)) = records.split_last() else {
         return None;

@@ -2,7 +2,7 @@
 
 ghost use Rattle.std.specs.Prelude.{◌≡◌, ◌≤◌, Some, length};
 ghost use Rattle.qp_wait.specs.Lane.{bell_view};
-ghost use Rattle.qp_wait.specs.Pausing.{HasLook, IsShort, Parks, ParksUnset, Pauses};
+ghost use Rattle.qp_wait.specs.Pausing.{HasLook, FailsToPark, Parks, ParksUnset, Pauses};
 
 use crate::lane::BellLane;
 use crate::looking::last_look;
@@ -52,7 +52,7 @@ pub(crate) fn pause<R: Wait>(rt: &R, lane: &mut BellLane<'_>, me: u8) -> Result<
 
 /// The turn ends as for want of memory.
 pub(crate) fn give_up(lane: &mut BellLane<'_>)
-    ensures { IsShort (bell_view lane.old) lane.old lane.new }
+    ensures { FailsToPark (bell_view lane.old) lane.old lane.new }
 {
     lane.ringing.stop(qp_model::stops::MEMORY);
 }

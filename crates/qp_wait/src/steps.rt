@@ -6,7 +6,7 @@ ghost use Rattle.qp_kernel_turns.specs.Lanes.{LaneTo};
 ghost use Rattle.qp_told.specs.Steps.{TellsSteps};
 ghost use Rattle.qp_port_lanes.specs.At.{IsBusyHome, IsHome};
 ghost use Rattle.qp_port_lanes.specs.Takes.{BeginTakes, FinishTakes};
-ghost use Rattle.qp_port_lanes.specs.Turning.{NextTo, StepsTo, UnsetFirst};
+ghost use Rattle.qp_port_lanes.specs.Turning.{NextTo, HomeStepsTo, UnsetFirst};
 ghost use Rattle.qp_wait.specs.Lane.{bell_view};
 ghost use Rattle.qp_wait.specs.Steps.{ClosesStep, FinishesStep, KeepsCounts};
 
@@ -52,7 +52,7 @@ fn go_on<R: Wait>(
 ) -> Result<(), Halt>
     requires sound { IsSound sys.now }
     requires knows { IsBusyHome sys.now budget false home.old (bell_view lane.old) }
-    ensures goes { StepsTo sys.now budget home.old.me home.new (bell_view lane.new) result }
+    ensures goes { HomeStepsTo sys.now budget home.old.me home.new (bell_view lane.new) result }
     ensures lane { LaneTo false (bell_view lane.old) (bell_view lane.new) result }
     ensures same { home.new.me ≡ home.old.me }
     ensures takes { FinishTakes home.old home.new (bell_view lane.old).told (bell_view lane.new).told result }
@@ -84,7 +84,7 @@ pub(crate) fn finish<R: Wait>(
 ) -> Result<(), Halt>
     requires sound { IsSound sys.now }
     requires knows { IsBusyHome sys.now budget false home.old (bell_view lane.old) }
-    ensures goes { StepsTo sys.now budget home.old.me home.new (bell_view lane.new) result }
+    ensures goes { HomeStepsTo sys.now budget home.old.me home.new (bell_view lane.new) result }
     ensures lane { LaneTo false (bell_view lane.old) (bell_view lane.new) result }
     ensures same { home.new.me ≡ home.old.me }
     ensures takes { FinishTakes home.old home.new (bell_view lane.old).told (bell_view lane.new).told result }

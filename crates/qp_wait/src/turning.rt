@@ -5,7 +5,7 @@ ghost use Rattle.qp_model.specs.Sound.{IsSound};
 ghost use Rattle.qp_kernel_turns.specs.Lanes.{LaneTo, LaneTurns};
 ghost use Rattle.qp_told.specs.Steps.{TellsSteps};
 ghost use Rattle.qp_port_lanes.specs.At.{IsHome};
-ghost use Rattle.qp_port_lanes.specs.Turning.{HomeTurns, LooksTo};
+ghost use Rattle.qp_port_lanes.specs.Turning.{HomeTurns, HomeLooksTo};
 ghost use Rattle.qp_wait.specs.Lane.{bell_view};
 ghost use Rattle.qp_wait.specs.Waiting.{RoundWaits, TurnWaits};
 
@@ -33,7 +33,7 @@ fn rounds<R: Wait, G: Tells>(
     requires sound { IsSound sys.now }
     requires few { budget ≤ 1000000 }
     requires knows { IsHome sys.now budget home.old (bell_view lane.old) }
-    ensures goes { LooksTo sys.now budget home.old.me home.new (bell_view lane.new) result }
+    ensures goes { HomeLooksTo sys.now budget home.old.me home.new (bell_view lane.new) result }
     ensures lane { LaneTo false (bell_view lane.old) (bell_view lane.new) result }
     ensures same { home.new.me ≡ home.old.me }
     ensures waits { RoundWaits result home.new.busy lane.old lane.new }

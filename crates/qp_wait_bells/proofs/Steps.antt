@@ -4,7 +4,7 @@ use mathlib.Core.Option.{some}
 use lib.ListN.{get_elem?}
 use Rattle.qp_wait_bells.specs.declared.tally.Tally.{Tally}
 use Rattle.qp_wait_bells.specs.declared.parking.Notes.{Notes}
-use Rattle.qp_wait_bells.specs.Tallies.{IsTallied, no_tally, sum_of, total, with_added, with_look, with_taken}
+use Rattle.qp_wait_bells.specs.Tallies.{IsTallied, no_tally, sum_of, tally_sum, with_added, look_found, with_taken}
 use Rattle.qp_wait_bells.specs.Parks.{HasNoted, with_note, with_park}
 use Rattle.qp_wait_bells.proofs.Totals.{total-set, total-last}
 
@@ -47,11 +47,11 @@ module _ (words : List ℕ) (views : List Tally) (id : ℕ) (v : Tally) (at : ge
       }
 
   -- it was looked at
-  pub looks : IsTallied words views → IsTallied (slice_set words 0 (slice_index words 0)) (slice_set views id (with_look (slice_index words 0) v))
+  pub looks : IsTallied words views → IsTallied (slice_set words 0 (slice_index words 0)) (slice_set views id (look_found (slice_index words 0) v))
   looks h =
       let there = word-there words (slice_index words 0) h.one in
-      let added = total-set (λ (u : Tally). u.added) views id v (with_look (slice_index words 0) v) at in
-      let taken = total-set (λ (u : Tally). u.taken) views id v (with_look (slice_index words 0) v) at in
+      let added = total-set (λ (u : Tally). u.added) views id v (look_found (slice_index words 0) v) at in
+      let taken = total-set (λ (u : Tally). u.taken) views id v (look_found (slice_index words 0) v) at in
       let is = h.is in
       record { one = still-one words (slice_index words 0) h.one; over = h.over; under = h.under; is = omega (arith, there, added, taken, is) }
 
@@ -86,8 +86,8 @@ module _ (views : List Notes) (id : ℕ) (v : Notes) (at : get_elem? views id �
       by was h given parks
     where
       by : (was : Bool) → HasNoted was views
-          → total (λ (u : Notes). u.given) (slice_set views id (with_note v)) + v.given ≡ total (λ (u : Notes). u.given) views + (v.given + 1)
-          → total (λ (u : Notes). u.parks) (slice_set views id (with_note v)) + v.parks ≡ total (λ (u : Notes). u.parks) views + v.parks
+          → tally_sum (λ (u : Notes). u.given) (slice_set views id (with_note v)) + v.given ≡ tally_sum (λ (u : Notes). u.given) views + (v.given + 1)
+          → tally_sum (λ (u : Notes). u.parks) (slice_set views id (with_note v)) + v.parks ≡ tally_sum (λ (u : Notes). u.parks) views + v.parks
           → HasNoted true (slice_set views id (with_note v))
       by true h given parks = omega (arith, h, given, parks)
       by false h given parks = omega (arith, h, given, parks)

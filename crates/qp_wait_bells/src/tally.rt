@@ -1,7 +1,7 @@
 //! The count of what keeps the threads awake: sources that aren't at their end, and entries whose step isn't finished.
 
 ghost use Rattle.std.specs.Prelude.{◌≡◌, ◌<◌, [], IfOk};
-ghost use Rattle.qp_wait_bells.specs.Tallies.{IsTallied, no_tally, with_added, with_look, with_taken, sum_of};
+ghost use Rattle.qp_wait_bells.specs.Tallies.{IsTallied, no_tally, with_added, look_found, with_taken, sum_of};
 
 use atomic_table::{Join, Play, Seat, Split, Table, TableRule};
 use std::alloc::{AllocError, Global};
@@ -42,7 +42,7 @@ impl Play<(), Tally> for Takes {
 struct Finds;
 
 impl Play<(), Tally> for Finds {
-    ghost then = { λ st m n m'. m'.0 ≡ with_look n m.0 };
+    ghost then = { λ st m n m'. m'.0 ≡ look_found n m.0 };
 }
 
 /// A lane's seat is split off with nothing in it.
@@ -93,7 +93,7 @@ pub fn take_one(tallies: &Tallies, seat: &mut Seat<(), Tally>) -> u64
 pub fn find(tallies: &Tallies, seat: &mut Seat<(), Tally>) -> u64
     requires own { (seat.old.table_id ≡ tallies.now.shared.table_id) × (0 < tallies.now.shared.table_id.words) }
     ensures same { (seat.new.table_id ≡ seat.old.table_id) × (seat.new.id ≡ seat.old.id) }
-    ensures found { seat.new.me.0 ≡ with_look result seat.old.me.0 }
+    ensures found { seat.new.me.0 ≡ look_found result seat.old.me.0 }
 {
     tallies.shared.load::<Finds>(seat, 0)
 }

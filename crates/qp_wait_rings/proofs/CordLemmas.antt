@@ -25,8 +25,8 @@ use Rattle.qp_calls.specs.LaneLaws.{IsWithinLimit}
 use Rattle.qp_calls.specs.LaneView.{AddsOf, LaneView}
 use Rattle.qp_model.proofs.NumberLemmas.{count-append}
 use Rattle.qp_wait_rings.specs.declared.cord.Cord.{Cord}
-use Rattle.qp_wait_rings.specs.Cords.{AreLoose, RingsOne, Settles, are_unpulled, count_in, has_cord}
-use Rattle.qp_wait_rings.specs.Records.{has_posted, is_claim, is_post_on, is_refusal, is_refused, is_silent, posts_on}
+use Rattle.qp_wait_rings.specs.Cords.{AreLoose, RingsOne, SettlesClaim, are_unpulled, notes_given, has_cord}
+use Rattle.qp_wait_rings.specs.Records.{has_posted, is_claim, is_post_on, tells_refusal, is_refused, rings_nothing, posts_on}
 use Rattle.qp_wait_rings.specs.Rung.{HasRung}
 use Rattle.qp_wait_rings.proofs.Counting.{count-more, count-none, count-one}
 use Rattle.qp_wait_rings.proofs.Quiet.{Grown, Quietly}
@@ -72,8 +72,8 @@ few-posts a v within = few-of (posts_on a) v (λ t. post-plain a t.of t.told.bod
 pub few-claims : (v : LaneView) → IsWithinLimit v → count_by is_claim v.told + v.spare ≤ 1000000
 few-claims v within = few-of is_claim v (λ t. claim-plain t.told.body) within
 
-pub few-refusals : (v : LaneView) → IsWithinLimit v → count_by is_refusal v.told + v.spare ≤ 1000000
-few-refusals v within = few-of is_refusal v (λ t. refused-plain t.told.body) within
+pub few-refusals : (v : LaneView) → IsWithinLimit v → count_by tells_refusal v.told + v.spare ≤ 1000000
+few-refusals v within = few-of tells_refusal v (λ t. refused-plain t.told.body) within
 
 -- The lane goes on.
 
@@ -81,8 +81,8 @@ module _ (opened refused : ℕ) (cords : List Cord) (v w : LaneView) (h : HasRun
   counted : (p : ToldItem → Bool) (g : Grown v w) → count_by p w.told ≡ count_by p v.told + count_by p g.ts
   counted p g = ap (λ ts. count_by p ts) g.told ∙ count-append p v.told g.ts
 
-  same-count : (p : ToldItem → Bool) (q : Quietly v w) → ((t : ToldItem) → is_silent t ≡ true → p t ≡ false) → count_by p w.told ≡ count_by p v.told
-  same-count p q apart = let all = counted p q.grown in let none = count-none p is_silent q.grown.ts apart q.silent in omega (arith, all, none)
+  same-count : (p : ToldItem → Bool) (q : Quietly v w) → ((t : ToldItem) → rings_nothing t ≡ true → p t ≡ false) → count_by p w.told ≡ count_by p v.told
+  same-count p q apart = let all = counted p q.grown in let none = count-none p rings_nothing q.grown.ts apart q.silent in omega (arith, all, none)
 
   -- by calls that add neither a post nor a refusal
   pub rung-still : Quietly v w → HasRung opened refused cords w
@@ -90,7 +90,7 @@ module _ (opened refused : ℕ) (cords : List Cord) (v w : LaneView) (h : HasRun
     objects = h.objects ∙ ap priorities (sym q.grown.sys);
     rang = λ a. h.rang a ∙ sym (same-count (posts_on a) q (λ t. not-post a t.of t.told.body));
     opened_is = h.opened_is ∙ sym (same-count is_claim q (λ t. not-claim (is_claim t)));
-    refused_is = h.refused_is ∙ sym (same-count is_refusal q (λ t. not-refused (has_posted t.told.body) (is_refused t.told.body)));
+    refused_is = h.refused_is ∙ sym (same-count tells_refusal q (λ t. not-refused (has_posted t.told.body) (is_refused t.told.body)));
   }
 
   -- by a post
@@ -105,20 +105,20 @@ module _ (opened refused : ℕ) (cords : List Cord) (v w : LaneView) (h : HasRun
     opened-more = let more = one-count is_claim true claims in let was = h.opened_is in omega (arith, more, was)
 
     pub rung-posted : (more : List Cord) → is_refused t.body ≡ false → is_post_on a o t.body ≡ true → ((b : ℕ) → (a == b) ≡ false → is_post_on b o t.body ≡ false)
-        → map (λ c. c.object) more ≡ map (λ c. c.object) cords → count_in a more ≡ (count_in a cords + 1) % 2 ^ 64
-        → ((b : ℕ) → (a == b) ≡ false → count_in b more ≡ count_in b cords) → count_by (posts_on a) v.told < 1000000 → HasRung (opened + 1) refused more w
+        → map (λ c. c.object) more ≡ map (λ c. c.object) cords → notes_given a more ≡ (notes_given a cords + 1) % 2 ^ 64
+        → ((b : ℕ) → (a == b) ≡ false → notes_given b more ≡ notes_given b cords) → count_by (posts_on a) v.told < 1000000 → HasRung (opened + 1) refused more w
     rung-posted more taken mine others objects its rest few = record {
       objects = objects ∙ h.objects ∙ ap priorities (sym one.sys);
       rang = λ b. by b (a == b) refl;
       opened_is = opened-more;
-      refused_is = let same = one-count is_refusal false taken in let was = h.refused_is in omega (arith, same, was);
+      refused_is = let same = one-count tells_refusal false taken in let was = h.refused_is in omega (arith, same, was);
     }
       where
-        by : (b : ℕ) (test : Bool) → (a == b) ≡ test → count_in b more ≡ count_by (posts_on b) w.told
+        by : (b : ℕ) (test : Bool) → (a == b) ≡ test → notes_given b more ≡ count_by (posts_on b) w.told
         by b false other = rest b other ∙ h.rang b ∙ (let same = one-count (posts_on b) false (others b other) in omega (arith, same))
         by b true same =
             let here : a ≡ b = grind (arith, nat_tests, same) in
-            subst (λ k. count_in k more ≡ count_by (posts_on k) w.told) here
+            subst (λ k. notes_given k more ≡ count_by (posts_on k) w.told) here
             (let up = one-count (posts_on a) true mine in let was = h.rang a in omega (arith, up, was, its, few))
 
     pub rung-refused : is_refused t.body ≡ true → ((b : ℕ) → is_post_on b o t.body ≡ false) → HasRung (opened + 1) (refused + 1) cords w
@@ -126,7 +126,7 @@ module _ (opened refused : ℕ) (cords : List Cord) (v w : LaneView) (h : HasRun
       objects = h.objects ∙ ap priorities (sym one.sys);
       rang = λ b. h.rang b ∙ (let same = one-count (posts_on b) false (none b) in omega (arith, same));
       opened_is = opened-more;
-      refused_is = let more = one-count is_refusal true taken in let was = h.refused_is in omega (arith, more, was);
+      refused_is = let more = one-count tells_refusal true taken in let was = h.refused_is in omega (arith, more, was);
     }
 
   -- The two calls that post.
@@ -155,24 +155,24 @@ module _ (opened refused : ℕ) (cords : List Cord) (v w : LaneView) (h : HasRun
 
   -- a claim that was settled
   module _ (within : IsWithinLimit v) (room : 0 < v.spare) (later : ℕ) (one : later ≡ opened + 1) (more : List Cord) (refused_now : ℕ) (was is : Tally) where
-    pub claim-settled : (to : ℕ) (e : HeldEntry) (margin : Option ℕ) (r : Claim) → ClaimsEntry to e margin v w r → Settles to cords more refused refused_now was is r → HasRung later refused_now more w
+    pub claim-settled : (to : ℕ) (e : HeldEntry) (margin : Option ℕ) (r : Claim) → ClaimsEntry to e margin v w r → SettlesClaim to cords more refused refused_now was is r → HasRung later refused_now more w
     claim-settled to e margin claim.Done p s = subst (λ n. HasRung n refused_now more w) (sym one) (subst (λ n. HasRung (opened + 1) n more w) (sym s.refused_is) (claimed to more s.cords within room e margin p))
     claim-settled to e margin (claim.Short same f l m) p s =
         subst (λ n. HasRung n refused_now more w) (sym one)
         (subst (λ n. HasRung (opened + 1) n more w) (sym s.refused_is) (subst (λ cs. HasRung (opened + 1) (refused + 1) cs w) (sym s.cords) (claim-refused to e same margin f l m p)))
 
-    pub front-settled : (a : ℕ) (e : HeldEntry) (r : Claim) → a ≡ v.by → ClaimsFront e v w r → Settles a cords more refused refused_now was is r → HasRung later refused_now more w
+    pub front-settled : (a : ℕ) (e : HeldEntry) (r : Claim) → a ≡ v.by → ClaimsFront e v w r → SettlesClaim a cords more refused refused_now was is r → HasRung later refused_now more w
     front-settled a e claim.Done mine p s = subst (λ n. HasRung n refused_now more w) (sym one) (subst (λ n. HasRung (opened + 1) n more w) (sym s.refused_is) (put-front a more s.cords within room e mine p))
     front-settled a e (claim.Short same f l m) mine p s =
         subst (λ n. HasRung n refused_now more w) (sym one)
         (subst (λ n. HasRung (opened + 1) n more w) (sym s.refused_is) (subst (λ cs. HasRung (opened + 1) (refused + 1) cs w) (sym s.cords) (front-refused e same f l m p)))
 
 -- what the seat took off, behind a claim that was settled
-pub settled-taken : (a : ℕ) (old new : List Cord) (refused more : ℕ) (was is : Tally) (r : Claim) → was.taken ≡ refused → Settles a old new refused more was is r → is.taken ≡ more
+pub settled-taken : (a : ℕ) (old new : List Cord) (refused more : ℕ) (was is : Tally) (r : Claim) → was.taken ≡ refused → SettlesClaim a old new refused more was is r → is.taken ≡ more
 settled-taken a old new refused more was is claim.Done same s = ap (λ m. m.taken) s.taken ∙ same ∙ sym s.refused_is
 settled-taken a old new refused more was is (claim.Short e f l m) same s = ap (λ m. m.taken) s.taken ∙ ap (λ n. n + 1) same ∙ sym s.refused_is
 
-pub settled-added : (a : ℕ) (old new : List Cord) (refused more : ℕ) (was is : Tally) (r : Claim) → Settles a old new refused more was is r → is.added ≡ was.added
+pub settled-added : (a : ℕ) (old new : List Cord) (refused more : ℕ) (was is : Tally) (r : Claim) → SettlesClaim a old new refused more was is r → is.added ≡ was.added
 settled-added a old new refused more was is claim.Done s = ap (λ m. m.added) s.taken
 settled-added a old new refused more was is (claim.Short e f l m) s = ap (λ m. m.added) s.taken
 
@@ -218,7 +218,7 @@ module _ (a : ℕ) (c d : Cord) (cs : List Cord) where
     others = λ b other. by b (c.object == b) (h.others b other);
   }
     where
-      by : (b : ℕ) (test : Bool) → count_in b ds ≡ count_in b cs → cond test c.pulls (count_in b ds) ≡ cond test c.pulls (count_in b cs)
+      by : (b : ℕ) (test : Bool) → notes_given b ds ≡ notes_given b cs → cond test c.pulls (notes_given b ds) ≡ cond test c.pulls (notes_given b cs)
       by b true same = refl
       by b false same = same
 
@@ -294,14 +294,14 @@ drop-all : {A : Type 0} (xs : List A) → drop (length xs) xs ≡ []
 drop-all [] = refl
 drop-all (x ∷ xs) = drop-all xs
 
-none-in : (a : ℕ) (cs : List Cord) → are_unpulled cs ≡ true → count_in a cs ≡ 0
+none-in : (a : ℕ) (cs : List Cord) → are_unpulled cs ≡ true → notes_given a cs ≡ 0
 none-in a [] h = refl
 none-in a (c ∷ cs) h =
     let parts = and_parts (c.pulls == 0) (are_unpulled cs) h in
     let one = parts.0 in
     by (c.object == a) (grind (arith, nat_tests, one)) (none-in a cs parts.1)
   where
-    by : (b : Bool) → c.pulls ≡ 0 → count_in a cs ≡ 0 → cond b c.pulls (count_in a cs) ≡ 0
+    by : (b : Bool) → c.pulls ≡ 0 → notes_given a cs ≡ 0 → cond b c.pulls (notes_given a cs) ≡ 0
     by true none rest = none
     by false none rest = rest
 
@@ -311,7 +311,7 @@ rung-begun cords v none loose =
       objects = loose.objects;
       rang = λ a. none-in a cords loose.none ∙ sym (ap (count_by (posts_on a)) none);
       opened_is = sym (ap (count_by is_claim) none);
-      refused_is = sym (ap (count_by is_refusal) none);
+      refused_is = sym (ap (count_by tells_refusal) none);
     }
 
 -- A list of cords that was lent, and comes back as long.
@@ -327,6 +327,6 @@ whole n xs ys len same =
 long-as : (cs ds : List Cord) → map (λ c. c.object) ds ≡ map (λ c. c.object) cs → length ds ≡ length cs
 long-as cs ds same = sym (length-map ds (λ c. c.object)) ∙ ap length same ∙ length-map cs (λ c. c.object)
 
-pub settled-long : (a : ℕ) (old new : List Cord) (refused more : ℕ) (was is : Tally) (r : Claim) → Settles a old new refused more was is r → length new ≡ length old
+pub settled-long : (a : ℕ) (old new : List Cord) (refused more : ℕ) (was is : Tally) (r : Claim) → SettlesClaim a old new refused more was is r → length new ≡ length old
 settled-long a old new refused more was is claim.Done s = long-as old new s.cords.objects
 settled-long a old new refused more was is (claim.Short e f l m) s = ap length s.cords

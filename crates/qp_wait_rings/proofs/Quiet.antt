@@ -25,10 +25,10 @@ use Rattle.qp_calls.specs.declared.answers.Arm as arming
 use Rattle.qp_calls.specs.declared.answers.Arm.TheVariants as armed
 use Rattle.qp_calls.specs.declared.answers.Tick as ticking
 use Rattle.qp_calls.specs.declared.answers.Tick.TheVariants as ticked
-use Rattle.qp_calls.specs.Clauses.{Arms, ClaimsEntry, ClaimsFront, Counted, Disarms, Does, GivesBlock, GoesBack, LetsGo, Makes, MakesMore, ReadsSubscribers, Rearms, Sees, Stopped, Stops, Subscribing, Takes, TicksOne, Unsubscribing, entry_of, last_nil, refusal_of, same_counts}
+use Rattle.qp_calls.specs.Clauses.{CallArms, ClaimsEntry, ClaimsFront, Counted, CallDisarms, AddsDrawn, GivesBlock, GoesBack, LetsGo, Makes, MakesMore, ReadsSubscribers, CallRearms, Sees, Stopped, Stops, Subscribing, Takes, AnswersTick, Unsubscribing, entry_of, last_nil, refusal_of, same_counts}
 use Rattle.qp_calls.specs.LaneView.{AddsOf, Counts, GrowsOf, LaneView, Looks, NotShown, Roomier, Sets, Shown, ceiling_in}
-use Rattle.qp_calls.specs.Notes.{IsNote, MayNote, told_as, told_note}
-use Rattle.qp_wait_rings.specs.Records.{has_posted, is_refused, is_silent}
+use Rattle.qp_calls.specs.Notes.{IsNote, MayNote, note_told, told_note}
+use Rattle.qp_wait_rings.specs.Records.{has_posted, is_refused, rings_nothing}
 
 -- more records came
 pub record Grown (v w : LaneView) : Type 0 where
@@ -39,7 +39,7 @@ pub record Grown (v w : LaneView) : Type 0 where
 -- and none of them is a post or a refusal
 pub record Quietly (v w : LaneView) : Type 0 where
   pub grown : Grown v w
-  pub silent : list_all is_silent grown.ts ≡ true
+  pub silent : list_all rings_nothing grown.ts ≡ true
 
 pub still-quiet : (v w : LaneView) → w.sys ≡ v.sys → w.told ≡ v.told → Quietly v w
 still-quiet v w sys told = record { grown = record { sys = sys; ts = []; told = told ∙ sym (append-nil v.told) }; silent = refl }
@@ -68,7 +68,7 @@ room-quiet v w room = still-quiet v w (ap (λ u. u.sys) room.same) (ap (λ u. u.
 pub by-quiet : (o : ℕ) (v w : LaneView) → Sets o v w → Quietly v w
 by-quiet o v w sets = still-quiet v w (ap (λ u. u.sys) sets) (ap (λ u. u.told) sets)
 
-told-body : (c : ℕ) (b : Body) → (told_as c b).body ≡ b
+told-body : (c : ℕ) (b : Body) → (note_told c b).body ≡ b
 told-body c (Lock x) = refl
 told-body c _ = refl
 
@@ -82,7 +82,7 @@ note-body _ v h = refl
 
 pub note-quiet : (r : Rec) (v w : LaneView) → MayNote r v → GrowsOf r.of (told_note r v) v w → Quietly v w
 unfolding MayNote told_note
-note-quiet r v w may grown = gains-quiet r.of (told_as (ceiling_in 0 v.told) (body_of r)) v w grown (rw (told-body (ceiling_in 0 v.told) (body_of r)) (note-body (body_of r) v may))
+note-quiet r v w may grown = gains-quiet r.of (note_told (ceiling_in 0 v.told) (body_of r)) v w grown (rw (told-body (ceiling_in 0 v.told) (body_of r)) (note-body (body_of r) v may))
 
 pub give-quiet : (pool : ℕ) (reserve : Option ℕ) (ev : Event) (v w : LaneView) (r : Give) → GivesBlock pool reserve ev v w r → Quietly v w
 give-quiet pool reserve ev v w (give.Given f) h = adds-quiet v.by _ v w h.adds refl
@@ -116,7 +116,7 @@ seen-quiet p v w c sees = adds-quiet 0 _ v w sees.0 refl
 pub counts-quiet : (p : ℕ) (v w : LaneView) (c : counts.Counts) → Counted p v w c → Quietly v w
 counts-quiet p v w c counted = looks-quiet _ _ _ v w counted.0
 
-does-quiet : (x : Word) (t : ℕ → Told) (v w : LaneView) → ((n : ℕ) → is_quiet (t n).body ≡ true) → Does x t v w → Quietly v w
+does-quiet : (x : Word) (t : ℕ → Told) (v w : LaneView) → ((n : ℕ) → is_quiet (t n).body ≡ true) → AddsDrawn x t v w → Quietly v w
 does-quiet x t v w quiet does = adds-quiet v.by (t does.0) v w does.1 (quiet does.0)
 
 pub subscribe-quiet : (sig : ℕ) (v w : LaneView) (r : Bool) → Subscribing sig v w r → Quietly v w
@@ -130,18 +130,18 @@ unsubscribe-quiet sig v w false h = adds-quiet v.by _ v w h.1 refl
 pub reads-quiet : (sig : ℕ) (v w : LaneView) (set : ℕ) → ReadsSubscribers sig v w set → Quietly v w
 reads-quiet sig v w set h = adds-quiet v.by _ v w h.1 refl
 
-pub arm-quiet : (t ticks interval : ℕ) (v w : LaneView) (r : arming.Arm) → Arms t ticks interval v w r → Quietly v w
+pub arm-quiet : (t ticks interval : ℕ) (v w : LaneView) (r : arming.Arm) → CallArms t ticks interval v w r → Quietly v w
 arm-quiet t ticks interval v w armed.Done h = does-quiet _ _ v w (λ n. refl) h
 arm-quiet t ticks interval v w (armed.Armed n c) h = adds-quiet v.by _ v w h.0 refl
 
-pub disarm-quiet : (t : ℕ) (v w : LaneView) (former : ℕ) → Disarms t v w former → Quietly v w
+pub disarm-quiet : (t : ℕ) (v w : LaneView) (former : ℕ) → CallDisarms t v w former → Quietly v w
 disarm-quiet t v w zero h = adds-quiet v.by _ v w h.1 refl
 disarm-quiet t v w (suc c) h = does-quiet _ _ v w (λ n. refl) h
 
-pub rearm-quiet : (t ticks : ℕ) (v w : LaneView) (former : ℕ) → Rearms t ticks v w former → Quietly v w
+pub rearm-quiet : (t ticks : ℕ) (v w : LaneView) (former : ℕ) → CallRearms t ticks v w former → Quietly v w
 rearm-quiet t ticks v w former h = does-quiet _ _ v w (λ n. refl) h
 
-pub tick-quiet : (t : ℕ) (v w : LaneView) (r : ticking.Tick) → TicksOne t v w r → Quietly v w
+pub tick-quiet : (t : ℕ) (v w : LaneView) (r : ticking.Tick) → AnswersTick t v w r → Quietly v w
 tick-quiet t v w ticked.Idle h = adds-quiet v.by _ v w h.1 refl
 tick-quiet t v w ticked.Down h = adds-quiet 0 _ v w h.2.1 refl
 tick-quiet t v w ticked.Fired h = adds-quiet 0 _ v w h.1.1 refl

@@ -10,9 +10,9 @@ use Rattle.qp_wait_bells.specs.Tallies.{with_taken}
 use Rattle.qp_wait_rings.specs.declared.cord.Cord.{Cord}
 
 -- the notes given to object a
-abbrev pub count_in : ℕ → List Cord → ℕ
-count_in a [] = 0
-count_in a (c ∷ cs) = if c.object == a then c.pulls else count_in a cs
+abbrev pub notes_given : ℕ → List Cord → ℕ
+notes_given a [] = 0
+notes_given a (c ∷ cs) = if c.object == a then c.pulls else notes_given a cs
 
 abbrev pub has_cord : ℕ → List Cord → Bool
 has_cord a [] = false
@@ -30,8 +30,8 @@ pub record AreLoose (sys : System) (cords : List Cord) : Type 0 where
 -- one note was given to object a, and none to another
 pub record RingsOne (a : ℕ) (old new : List Cord) : Type 0 where
   pub objects : map (λ c. c.object) new ≡ map (λ c. c.object) old
-  pub its : count_in a new ≡ (count_in a old + 1) % 2 ^ 64
-  pub others : (b : ℕ) → (a == b) ≡ false → count_in b new ≡ count_in b old
+  pub its : notes_given a new ≡ (notes_given a old + 1) % 2 ^ 64
+  pub others : (b : ℕ) → (a == b) ≡ false → notes_given b new ≡ notes_given b old
 
 -- one was taken off the count, and no note was given
 pub record TakesOff (old new : List Cord) (refused more : ℕ) (was is : Tally) : Type 0 where
@@ -47,6 +47,6 @@ pub record RingsFor (a : ℕ) (old new : List Cord) (refused more : ℕ) (was is
   pub taken : is ≡ was
 
 -- behind a claim on the queue of object a
-abbrev pub Settles : ℕ → List Cord → List Cord → ℕ → ℕ → Tally → Tally → Claim → Type 0
-Settles a old new refused more was is claim.Done = RingsFor a old new refused more was is
-Settles a old new refused more was is (claim.Short e f l m) = TakesOff old new refused more was is
+abbrev pub SettlesClaim : ℕ → List Cord → List Cord → ℕ → ℕ → Tally → Tally → Claim → Type 0
+SettlesClaim a old new refused more was is claim.Done = RingsFor a old new refused more was is
+SettlesClaim a old new refused more was is (claim.Short e f l m) = TakesOff old new refused more was is

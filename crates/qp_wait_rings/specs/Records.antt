@@ -25,12 +25,12 @@ is_refused (NoEntry to f l m) = true
 is_refused (NoLifo a f l m) = true
 is_refused _ = false
 
-abbrev pub is_refusal : ToldItem → Bool
-is_refusal t = is_refused t.told.body
+abbrev pub tells_refusal : ToldItem → Bool
+tells_refusal t = is_refused t.told.body
 
 abbrev pub is_claim : ToldItem → Bool
 is_claim t = has_posted t.told.body || is_refused t.told.body
 
 -- neither a post nor a claim that was refused
-abbrev pub is_silent : ToldItem → Bool
-is_silent t = not (has_posted t.told.body || is_refused t.told.body)
+abbrev pub rings_nothing : ToldItem → Bool
+rings_nothing t = not (has_posted t.told.body || is_refused t.told.body)

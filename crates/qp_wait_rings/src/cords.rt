@@ -1,7 +1,7 @@
 //! A lane's cords, one for each object.
 
 ghost use Rattle.std.specs.Prelude.{◌≡◌, ◌+◌, ◌%◌, ◌^◌, true, map};
-ghost use Rattle.qp_wait_rings.specs.Cords.{RingsOne, count_in, has_cord};
+ghost use Rattle.qp_wait_rings.specs.Cords.{RingsOne, notes_given, has_cord};
 
 use crate::cord::Cord;
 
@@ -30,7 +30,7 @@ pub fn ring_all(cords: &mut [Cord])
 
 /// The notes given to object `a`, modulo 2^64; 0 where there is no such object.
 pub fn pulls_of(cords: &[Cord], a: u8) -> u64
-    ensures { result ≡ count_in a cords.now }
+    ensures { result ≡ notes_given a cords.now }
 {
     let Some((one, rest)) = cords.split_first() else {
         return 0;

@@ -2,7 +2,7 @@
 
 ghost use Rattle.std.specs.Prelude.{◌≡◌, ◌+◌, ◌<◌, true};
 ghost use Rattle.qp_wait_bells.specs.Tallies.{with_added};
-ghost use Rattle.qp_wait_rings.specs.Cords.{Settles, has_cord};
+ghost use Rattle.qp_wait_rings.specs.Cords.{SettlesClaim, has_cord};
 
 use crate::cord::Cord;
 use crate::cords::ring;
@@ -37,7 +37,7 @@ pub(crate) fn settle(
     requires there { has_cord a cords.old ≡ true }
     requires few { refused.old < 1000000 }
     ensures own { seat.new.table_id ≡ seat.old.table_id }
-    ensures settles { Settles a cords.old cords.new refused.old refused.new seat.old.me.0 seat.new.me.0 claim.now }
+    ensures settles { SettlesClaim a cords.old cords.new refused.old refused.new seat.old.me.0 seat.new.me.0 claim.now }
 {
     match claim {
         Claim::Done => ring(cords, a),

@@ -4,8 +4,8 @@ ghost use Rattle.std.specs.Prelude.{◌≡◌, ◌++◌, ◌∷◌, [], IfOk, On
 ghost use Rattle.std.specs.List.{AllByRecursion};
 ghost use Rattle.qp_port_runs.specs.Handed.{lane_view};
 ghost use Rattle.qp_wait.specs.Handed.{bell_view};
-ghost use Rattle.qp_wait.specs.Handed.{AreBellsOf, IsRootOf};
-ghost use Rattle.qp_wait_runs.specs.Places.{AddsFor, ParkInPlaces, object_at};
+ghost use Rattle.qp_wait.specs.Handed.{AreBellsOf, IsBellRootOf};
+ghost use Rattle.qp_wait_runs.specs.Places.{AddsFor, ParkInPlaces, object_in_place};
 
 use qp_base::Memory;
 use qp_model::{ObjectDef, System};
@@ -15,7 +15,7 @@ use std::alloc::Global;
 
 /// The object whose lane stands at this place; 0 for the first lane, and for those of sources.
 fn object_at(objects: &[ObjectDef], place: usize) -> u8
-    ensures { result ≡ object_at objects.now place }
+    ensures { result ≡ object_in_place objects.now place }
 {
     if place == 0 {
         return 0;
@@ -35,10 +35,10 @@ fn add<'a>(
     me: u8,
     ringing: &mut Vec<BellLane<'a>>,
 ) -> Result<(), Memory>
-    requires root { IsRootOf bells.now root.old }
+    requires root { IsBellRootOf bells.now root.old }
     requires fresh { (lane_view lane).told ≡ [] }
     requires system { AreBellsOf (lane_view lane).sys bells.now }
-    ensures root { IsRootOf bells.now root.new }
+    ensures root { IsBellRootOf bells.now root.new }
     ensures lane { OnOk result (map bell_view ringing.new.items ≡ map bell_view ringing.old.items ++ lane_view lane.entry ∷ []) }
     ensures parks { OnOk result (AddsFor me ringing.old.items ringing.new.items) }
 {
@@ -60,11 +60,11 @@ pub(crate) fn all_ringing<'a>(
     sys: &System,
     lanes: Vec<SharedLane<'a>>,
 ) -> Result<Vec<BellLane<'a>>, Memory>
-    requires root { IsRootOf bells.now root.old }
+    requires root { IsBellRootOf bells.now root.old }
     requires bells { AreBellsOf sys.now bells.now }
     requires systems { AllByRecursion (λ l. (lane_view l).sys ≡ sys.now) lanes.items }
     requires fresh { AllByRecursion (λ l. (lane_view l).told ≡ []) lanes.items }
-    ensures root { IsRootOf bells.now root.new }
+    ensures root { IsBellRootOf bells.now root.new }
     ensures lanes { IfOk result (λ ringing. map bell_view ringing.items ≡ map lane_view lanes.entry.items) }
     ensures parks { IfOk result (λ ringing. ParkInPlaces sys.now.objects 0 ringing.items) }
 {

@@ -13,7 +13,7 @@ ghost use Rattle.qp_port_runs.specs.Handed.{AreNewLanes, AreSameLanes};
 ghost use Rattle.qp_port_runs.specs.Handed.{IsThreadRun};
 ghost use Rattle.qp_port_runs.specs.Handed.{WasSealedFor, lane_view};
 ghost use Rattle.qp_wait.specs.Handed.{bell_view};
-ghost use Rattle.qp_wait.specs.Handed.{AreBellsOf, IsRootOf};
+ghost use Rattle.qp_wait.specs.Handed.{AreBellsOf, IsBellRootOf};
 
 use crate::ringing::{all_done, all_ringing};
 use crate::turns::WaitTurns;
@@ -57,7 +57,7 @@ fn run_ringing<'a, R: Threads + Wait + Sync, G: Gate>(
     requires fit { StimuliFit at.now.sys.now at.now.stim.now }
     requires few { at.now.budget ≤ 1000000 }
     requires bells { AreBellsOf at.now.sys.now bells.now }
-    requires root { IsRootOf bells.now root }
+    requires root { IsBellRootOf bells.now root }
     requires sources { at.now.turns.now.rounds.now.sources ≡ length at.now.stim.now }
     requires lanes { AreNewLanes at.now.sys.now at.now.stim.now (map lane_view lanes.items) }
     ensures lanes { IfOk result (λ run. AreSameLanes (map lane_view lanes.entry.items) (map lane_view run.lanes.items)) }

@@ -3,7 +3,7 @@ use Rattle.std.proofs.lemmas.Result.{err_from_is_err_and}
 use Rattle.qp_model.specs.declared.stimulus.Stim.{Stim}
 use Rattle.qp_model.specs.declared.stimulus.Stim.TheVariants as stim
 use Rattle.qp_model.specs.Calls as call
-use Rattle.qp_stim.specs.Rules.{StimFits}
+use Rattle.qp_stim.specs.Rules.{StimulusFits}
 use Rattle.qp_calls_stimulus.specs.Settling.{SettlesTo}
 use Rattle.qp_calls_stimulus.specs.declared.settling.Sight.{Sight}
 use Rattle.qp_calls_stimulus.proofs.Called.{answered, answers-here, fits-event, fits-object, fits-reserve, made, post-fits, publish-fits, settled, ticked}
@@ -12,30 +12,30 @@ use Rattle.qp_calls_stimulus.proofs.calling.make.Goals as goal
 
 pub post-requires-clause-object : goal.post-requires-clause-object
 post-requires-clause-object g c =
-    fits-object c.args.sys.now c.in-Post.to c.in-Post.ev c.in-Post.margin c.in-Post.reserve (subst (λ (s : Stim). StimFits c.args.sys.now s) c.in-Post.is c.requires.fits)
+    fits-object c.args.sys.now c.in-Post.to c.in-Post.ev c.in-Post.margin c.in-Post.reserve (subst (λ (s : Stim). StimulusFits c.args.sys.now s) c.in-Post.is c.requires.fits)
 
 pub post-requires-clause-event : goal.post-requires-clause-event
 post-requires-clause-event g c =
-    let fits = subst (λ (s : Stim). StimFits c.args.sys.now s) c.in-Post.is c.requires.fits in
+    let fits = subst (λ (s : Stim). StimulusFits c.args.sys.now s) c.in-Post.is c.requires.fits in
     fits-event c.args.sys.now c.in-Post.ev c.in-Post.reserve fits.event
 
 pub post-requires-clause-reserve : goal.post-requires-clause-reserve
 post-requires-clause-reserve g c =
-    let fits = subst (λ (s : Stim). StimFits c.args.sys.now s) c.in-Post.is c.requires.fits in
+    let fits = subst (λ (s : Stim). StimulusFits c.args.sys.now s) c.in-Post.is c.requires.fits in
     fits-reserve c.args.sys.now c.in-Post.ev c.in-Post.reserve fits.event
 
 pub returns-in_err-post-in-Post : goal.returns-in_err-post-in-Post
 returns-in_err-post-in-Post g c =
     let p = err_from_is_err_and c.from_residual.result c.from_residual.ensures.1 in
     let e = c.in_err-post-in-Post.ensures in
-    let fits = subst (λ (s : Stim). StimFits c.args.sys.now s) c.in-Post.is c.requires.fits in
+    let fits = subst (λ (s : Stim). StimulusFits c.args.sys.now s) c.in-Post.is c.requires.fits in
     rw (p.1, p.2, c.in-Post.is)
     (cut-here c.in_err-post-in-Post.field-0.0 _ _ e.0 e.1
     (post-cut c.args.sys.now c.in-Post.to c.in-Post.ev c.in-Post.margin c.in-Post.reserve _ _ c.requires.sound (fits-event c.args.sys.now c.in-Post.ev c.in-Post.reserve fits.event) e.0))
 
 pub publish-requires-clause-event : goal.publish-requires-clause-event
 publish-requires-clause-event g c =
-    fits-event c.args.sys.now c.in-Publish.ev c.in-Publish.reserve (subst (λ (s : Stim). StimFits c.args.sys.now s) c.in-Publish.is c.requires.fits)
+    fits-event c.args.sys.now c.in-Publish.ev c.in-Publish.reserve (subst (λ (s : Stim). StimulusFits c.args.sys.now s) c.in-Publish.is c.requires.fits)
 
 pub returns-in_err-publish-in-Publish : goal.returns-in_err-publish-in-Publish
 returns-in_err-publish-in-Publish g c =

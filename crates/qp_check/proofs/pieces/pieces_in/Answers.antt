@@ -4,15 +4,15 @@ use Rattle.qp_model.specs.KernelLane.{lane_on, lane_read, unread}
 use Rattle.qp_model.specs.Lawful.{facts_of}
 use Rattle.qp_model.specs.Points.{lane_pieces, pieces_in}
 use Rattle.qp_check_kernel.specs.LaneState.{as_reading, as_setting}
-use Rattle.qp_check_knowledge.specs.Knowledge.{facts_in}
-use Rattle.qp_check.specs.ObjectPieces.{pieces_of}
+use Rattle.qp_check_knowledge.specs.Knowledge.{known_facts}
+use Rattle.qp_check.specs.ObjectPieces.{pieces_of_object}
 use Rattle.qp_check.proofs.PieceLemmas.{pieces-end, pieces-next, stands-next}
 use Rattle.qp_check.proofs.pieces.pieces_in.Goals as goal
 
 pub loop-r-init : goal.loop-r-init
 unfolding lane_read lane_pieces facts_of
 loop-r-init c =
-    let w = facts_in c.args.knowledge.now in
+    let w = known_facts c.args.knowledge.now in
     let s = as_setting c.args.rules.now in
     let lane = lane_items c.args.lane.now in
     record {
@@ -25,7 +25,7 @@ loop-r-init c =
 
 pub loop-r-preserved : goal.loop-r-preserved
 loop-r-preserved c =
-    let w = facts_in c.args.knowledge.now in
+    let w = known_facts c.args.knowledge.now in
     let s = as_setting c.args.rules.now in
     let k = as_reading c.loop-r.reading in
     let next = as_reading c.next.new.self in
@@ -33,12 +33,12 @@ loop-r-preserved c =
     record {
       each = λ o.
           pieces-next w s k c.args.lane.now c.loop-r.r-index c.r-item.result c.loop-r-test.true c.r-item.is next c.in_ok-_stands._stands reads c.loop-r.invariant.stands
-          o (pieces_of c.put_record.new.pieces o) (pieces_of c.loop-r.pieces o) (lane_pieces w s o (lane_items c.args.lane.now)) (c.in_ok-put_record.ensures o) (c.loop-r.invariant.each o);
+          o (pieces_of_object c.put_record.new.pieces o) (pieces_of_object c.loop-r.pieces o) (lane_pieces w s o (lane_items c.args.lane.now)) (c.in_ok-put_record.ensures o) (c.loop-r.invariant.each o);
       stands = stands-next w s k c.args.lane.now c.loop-r.r-index c.r-item.result c.loop-r-test.true c.r-item.is next c.in_ok-_stands._stands reads c.loop-r.invariant.stands;
       few = omega (arith, c.in_ok-_stands.ensures.few, c.loop-r.invariant.few);
     }
 
 pub returns : goal.returns
 returns c o =
-    pieces-end (facts_in c.args.knowledge.now) (as_setting c.args.rules.now) (as_reading c.loop-r.reading) c.args.lane.now c.loop-r.r-index
-    o (pieces_of c.loop-r.pieces o) (lane_pieces (facts_in c.args.knowledge.now) (as_setting c.args.rules.now) o (lane_items c.args.lane.now)) c.loop-r-test.false (c.loop-r.invariant.each o)
+    pieces-end (known_facts c.args.knowledge.now) (as_setting c.args.rules.now) (as_reading c.loop-r.reading) c.args.lane.now c.loop-r.r-index
+    o (pieces_of_object c.loop-r.pieces o) (lane_pieces (known_facts c.args.knowledge.now) (as_setting c.args.rules.now) o (lane_items c.args.lane.now)) c.loop-r-test.false (c.loop-r.invariant.each o)

@@ -14,22 +14,22 @@ use Rattle.qp_chart.specs.Task as task
 use Rattle.qp_model.specs.Acts.{Actor, Config}
 use Rattle.qp_check_course.specs.declared.tasks.CourseTask.{CourseTask}
 use Rattle.qp_check_course.specs.Goes.{Way, moment_of}
-use Rattle.qp_check_course.specs.Machine.{State, done, resume, deed_state, task_state, settle}
-use Rattle.qp_check_course.specs.AsTask.{as_task, as_tasks}
-use Rattle.qp_check_course.specs.AsState.{as_actor, as_way, config_of}
+use Rattle.qp_check_course.specs.Machine.{State, action_done, resume, deed_state, task_state, tasks_state}
+use Rattle.qp_check_course.specs.AsTask.{as_course_task, as_tasks}
+use Rattle.qp_check_course.specs.AsState.{as_actor, as_way, own_config}
 use Rattle.qp_check_course.proofs.FewLemmas.{makes-few}
 use Rattle.qp_check_course.proofs.settle.+settle.Goals as goal
 
 -- the state of a task that is known
 of-task : (a : Actor) (way : Way) (leaf : ℕ) (ts : List task.Task) (go : Config → State) (c : Config) (s : State) (t u : CourseTask) → t ≡ u
-    → s ≡ task_state a way leaf ts go c (as_task u) → s ≡ task_state a way leaf ts go c (as_task t)
-of-task a way leaf ts go c s t u is e = e ∙ ap (λ (x : CourseTask). task_state a way leaf ts go c (as_task x)) (sym is)
+    → s ≡ task_state a way leaf ts go c (as_course_task u) → s ≡ task_state a way leaf ts go c (as_course_task t)
+of-task a way leaf ts go c s t u is e = e ∙ ap (λ (x : CourseTask). task_state a way leaf ts go c (as_course_task x)) (sym is)
 
 pub act-returns-in-Says : goal.act-returns-in-Says
 unfolding deed_state
 act-returns-in-Says t c =
     ap (λ (d : calls.Deed). deed_state (as_actor c.args.who.now) (as_way c.args.way) c.args.left.leaf (as_tasks c.args.left.tasks.items)
-    (settle (as_actor c.args.who.now) (as_way c.args.way) c.args.left.leaf (as_tasks c.args.left.tasks.items)) (config_of c.args.own c.args.kept) d)
+    (tasks_state (as_actor c.args.who.now) (as_way c.args.way) c.args.left.leaf (as_tasks c.args.left.tasks.items)) (own_config c.args.own c.args.kept) d)
     (c.in-Says.ensures ∙ ap (λ (names : Names). deed_of names c.args.plain.now) c.env_of.ensures)
 
 pub act-returns-in-Calls : goal.act-returns-in-Calls
@@ -37,11 +37,11 @@ unfolding deed_state
 act-returns-in-Calls t c =
     c.resume.ensures
     ∙ ap (λ (r : CallState). resume (as_way c.args.way) c.has_inner-inner.result r c.args.left.leaf (as_tasks c.args.left.tasks.items)
-    (settle (as_actor c.args.who.now) (as_way c.args.way) c.args.left.leaf (as_tasks c.args.left.tasks.items)) (config_of c.args.own r.kept)) c.begin.ensures
+    (tasks_state (as_actor c.args.who.now) (as_way c.args.way) c.args.left.leaf (as_tasks c.args.left.tasks.items)) (own_config c.args.own r.kept)) c.begin.ensures
     ∙ ap (λ i. resume (as_way c.args.way) i (call_state_begin c.args.who.now.room c.args.kept (as_call c.in-Calls.call)) c.args.left.leaf (as_tasks c.args.left.tasks.items)
-    (settle (as_actor c.args.who.now) (as_way c.args.way) c.args.left.leaf (as_tasks c.args.left.tasks.items)) (config_of c.args.own c.args.kept)) c.has_inner-inner.ensures
+    (tasks_state (as_actor c.args.who.now) (as_way c.args.way) c.args.left.leaf (as_tasks c.args.left.tasks.items)) (own_config c.args.own c.args.kept)) c.has_inner-inner.ensures
     ∙ ap (λ (d : calls.Deed). deed_state (as_actor c.args.who.now) (as_way c.args.way) c.args.left.leaf (as_tasks c.args.left.tasks.items)
-    (settle (as_actor c.args.who.now) (as_way c.args.way) c.args.left.leaf (as_tasks c.args.left.tasks.items)) (config_of c.args.own c.args.kept) d)
+    (tasks_state (as_actor c.args.who.now) (as_way c.args.way) c.args.left.leaf (as_tasks c.args.left.tasks.items)) (own_config c.args.own c.args.kept) d)
     (c.in-Calls.ensures ∙ ap (λ (names : Names). deed_of names c.args.plain.now) c.env_of.ensures)
 
 pub act-returns-in-Sets : goal.act-returns-in-Sets
@@ -49,11 +49,11 @@ unfolding deed_state
 act-returns-in-Sets t c =
     let fits : SFits w64 c.in-Sets.value = search rules in
     c.done.ensures
-    ∙ ap (λ (xs : List ℤ). done (as_way c.args.way) c.args.left.leaf (as_tasks c.args.left.tasks.items)
-    (settle (as_actor c.args.who.now) (as_way c.args.way) c.args.left.leaf (as_tasks c.args.left.tasks.items)) (record (config_of c.args.own c.args.kept) { vars = xs }))
+    ∙ ap (λ (xs : List ℤ). action_done (as_way c.args.way) c.args.left.leaf (as_tasks c.args.left.tasks.items)
+    (tasks_state (as_actor c.args.who.now) (as_way c.args.way) c.args.left.leaf (as_tasks c.args.left.tasks.items)) (record (own_config c.args.own c.args.kept) { vars = xs }))
     (c.set.ensures ∙ ap (λ (z : ℤ). slice_set c.args.own.vars.items c.in-Sets.var z) (to_z-of_z w64 c.in-Sets.value fits))
     ∙ ap (λ (d : calls.Deed). deed_state (as_actor c.args.who.now) (as_way c.args.way) c.args.left.leaf (as_tasks c.args.left.tasks.items)
-    (settle (as_actor c.args.who.now) (as_way c.args.way) c.args.left.leaf (as_tasks c.args.left.tasks.items)) (config_of c.args.own c.args.kept) d)
+    (tasks_state (as_actor c.args.who.now) (as_way c.args.way) c.args.left.leaf (as_tasks c.args.left.tasks.items)) (own_config c.args.own c.args.kept) d)
     (c.in-Sets.ensures ∙ ap (λ (names : Names). deed_of names c.args.plain.now) c.env_of.ensures)
 
 pub begin-act-requires : goal.begin-act-requires

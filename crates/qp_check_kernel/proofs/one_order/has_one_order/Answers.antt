@@ -10,7 +10,7 @@ use Rattle.qp_model.specs.Places.{in_order}
 use Rattle.qp_model.specs.OneOrder.{look_numbers, looks_right, stims_placed}
 use Rattle.qp_check_kernel.specs.AsPlaced.{as_placed}
 use Rattle.qp_check_kernel.specs.StimulusIndex.{parts_at}
-use Rattle.qp_check_kernel.specs.OneOrder.{run_of, is_unused, last_of}
+use Rattle.qp_check_kernel.specs.OneOrder.{run_of, has_no_turn, last_of}
 use Rattle.qp_check_kernel.proofs.ProgressLemmas.{turns-are}
 use Rattle.qp_check_kernel.proofs.OneOrderLemmas.{one-order, placed-is, free-is, items-said, late-is}
 use Rattle.qp_check_kernel.proofs.one_order.has_one_order.Goals as goal
@@ -28,5 +28,5 @@ returns c =
     (c.stims_stand-placed.ensures ∙ placed-is c.args.sources.now numbers (contains nat_cmp c.in_ok-looks.looks) c.in_ok-looks.ensures)
     (c.in_ok-stands.ensures r c.requires.run ∙ ap (λ (l : List Item). looks_right r [] (map as_placed xs) && in_order [] l && ends_last l) (sym (items-said xs)))
     (c.end_is_free-free.ensures
-    ∙ ap (λ b. c.args.cuts || not b || option_map_or (is_unused parts) (last_of numbers) true) (c.requires.late ∙ late-is c.args.sources.now)
+    ∙ ap (λ b. c.args.cuts || not b || option_map_or (has_no_turn parts) (last_of numbers) true) (c.requires.late ∙ late-is c.args.sources.now)
     ∙ ap (λ b. c.args.cuts || not (list_any spills_in r.sources) || b) (free-is r parts (turns-are c.args.run.now r c.requires.run) numbers)))

@@ -1,7 +1,7 @@
 use Rattle.std.proofs.Common.{Some}
 use Rattle.qp_model.specs.Shapes.{Drops}
 use Rattle.qp_check_shapes.specs.ShapeAction.{IsWhole}
-use Rattle.qp_check_shapes.specs.ObjectRead.{Closes, FrontOf}
+use Rattle.qp_check_shapes.specs.ObjectRead.{GroupsThenDone, FrontOf}
 use Rattle.qp_check_shapes.proofs.GroupsDecideLemmas.{decides-no}
 use Rattle.qp_check_shapes.proofs.GroupsLawLemmas.{whole-parts}
 use Rattle.qp_check_shapes.proofs.ObjectTestLemmas.{closes-decided, closes-not}
@@ -14,6 +14,6 @@ returns-in-Some c =
 
 pub returns-in-None : goal.returns-in-None
 returns-in-None c =
-    decides-no (Closes (IsWhole c.args.scene.now.sys.now c.args.scene.now.o (Some c.args.e)) (FrontOf (Drops c.args.e)) c.args.told.now)
+    decides-no (GroupsThenDone (IsWhole c.args.scene.now.sys.now c.args.scene.now.o (Some c.args.e)) (FrontOf (Drops c.args.e)) c.args.told.now)
     (closes-not (IsWhole c.args.scene.now.sys.now c.args.scene.now.o (Some c.args.e)) (FrontOf (Drops c.args.e)) (whole-parts c.args.scene.now.sys.now c.args.scene.now.o (Some c.args.e)) c.args.told.now
     c.behind_groups.result.now c.behind_groups.ensures c.in-None.ensures)

@@ -1,7 +1,7 @@
 use Rattle.std.proofs.Common.{refl, rules}
 use Rattle.qp_dispatch.proofs.ActLemmas.{act-said, act-set, cut-none, settled}
 use Rattle.qp_dispatch.proofs.CallLemmas.{some-call}
-use Rattle.qp_dispatch.specs.Lasts.{moment_of, names_at}
+use Rattle.qp_dispatch.specs.Lasts.{moment_of_work, names_at}
 use Rattle.qp_calls.proofs.Flushing.{fault-still}
 use Rattle.qp_dispatch.proofs.act.act.Goals as goal
 
@@ -17,7 +17,7 @@ returns-in-Ok g c =
 pub returns-in-Err : goal.returns-in-Err
 returns-in-Err g c =
     let e = c.in-Err.ensures.err in
-    (cut-none c.args.me c.args.lasting.now c.args.lasting.now (moment_of c.args.work.now) c.args.plain.now _ _ refl e.0, fault-still c.in-Err.fault _ _ e.0 e.1)
+    (cut-none c.args.me c.args.lasting.now c.args.lasting.now (moment_of_work c.args.work.now) c.args.plain.now _ _ refl e.0, fault-still c.in-Err.fault _ _ e.0 e.1)
 
 pub returns-in_default : goal.returns-in_default
 returns-in_default g c =

@@ -1,5 +1,5 @@
 use Rattle.std.proofs.Common.{subst}
-use Rattle.qp_calls.specs.Groups.{DoesCall}
+use Rattle.qp_calls.specs.Groups.{CallReturns}
 use Rattle.std.proofs.Common.{None}
 use Rattle.qp_dispatch.specs.Lasts.{names_at}
 use Rattle.qp_dispatch.proofs.Naming.{arm-timer, disarm-timer, owns-timer, rearm-timer}
@@ -33,21 +33,21 @@ disarm-requires-clause-owns g c =
 pub returns-in-Arm : goal.returns-in-Arm
 returns-in-Arm g c = λ x deed timing.
     let lane = g.O.Ops.lane in
-    subst (λ y. DoesCall None y (lane c.args.ops.now) (lane c.arm.new.ops) c.arm.result)
+    subst (λ y. CallReturns None y (lane c.args.ops.now) (lane c.arm.new.ops) c.arm.result)
     (arm-call (names_at c.args.me c.args.lasting.now c.args.work.now) c.args.plain.now c.in-Arm.place c.in-Arm.ticks c.in-Arm.interval c.bits-n.result c.bits-i.result _ x c.in-Arm.is
     c.surroundings-env.ensures c.bits-n.ensures c.bits-i.ensures deed) c.arm.ensures
 
 pub returns-in-Rearm : goal.returns-in-Rearm
 returns-in-Rearm g c = λ x deed timing.
     let lane = g.O.Ops.lane in
-    subst (λ y. DoesCall None y (lane c.args.ops.now) (lane c.rearm.new.ops) c.rearm.result)
+    subst (λ y. CallReturns None y (lane c.args.ops.now) (lane c.rearm.new.ops) c.rearm.result)
     (rearm-call (names_at c.args.me c.args.lasting.now c.args.work.now) c.args.plain.now c.in-Rearm.place c.in-Rearm.ticks c.bits-n-in-Rearm.result _ x c.in-Rearm.is
     c.surroundings.ensures c.bits-n-in-Rearm.ensures deed) c.rearm.ensures
 
 pub returns-in-Disarm : goal.returns-in-Disarm
 returns-in-Disarm g c = λ x deed timing.
     let lane = g.O.Ops.lane in
-    subst (λ y. DoesCall None y (lane c.args.ops.now) (lane c.disarm.new.ops) c.disarm.result)
+    subst (λ y. CallReturns None y (lane c.args.ops.now) (lane c.disarm.new.ops) c.disarm.result)
     (disarm-call (names_at c.args.me c.args.lasting.now c.args.work.now) c.args.plain.now c.in-Disarm.place x c.in-Disarm.is deed) c.disarm.ensures
 
 pub returns-in_default : goal.returns-in_default

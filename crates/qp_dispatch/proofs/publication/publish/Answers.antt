@@ -8,8 +8,8 @@ use Rattle.qp_chart.specs.declared.actions.Plain.TheVariants as action
 use Rattle.qp_model.specs.Pieces.{Point}
 use Rattle.qp_calls.specs.Clauses.{event_of}
 use Rattle.qp_calls.specs.declared.did.Did.TheVariants as did
-use Rattle.qp_dispatch.specs.Lasts.{moment_of}
-use Rattle.qp_dispatch.specs.Parts.{Goes}
+use Rattle.qp_dispatch.specs.Lasts.{moment_of_work}
+use Rattle.qp_dispatch.specs.Parts.{PartGoes}
 use Rattle.qp_dispatch.proofs.Naming.{event-few, event-is, publish-event}
 use Rattle.qp_dispatch.proofs.PartLemmas.{cut-still}
 use Rattle.qp_dispatch.proofs.PublishLemmas.{asserts-publish, begun-did, begun-going, goes-publish, goes-refused, publish-deed}
@@ -30,7 +30,7 @@ publish_begin-requires-clause-event g c =
 pub returns-in-Err : goal.returns-in-Err
 returns-in-Err g c =
     rw c.requires.none
-    (cut-still c.args.me (moment_of c.args.work.now) (task.Do (action.Publish c.args.sig c.args.pars.now c.args.reserve) ∷ []) c.args.lasting.now None c.in-Err.fault _ _ c.in-Err.ensures)
+    (cut-still c.args.me (moment_of_work c.args.work.now) (task.Do (action.Publish c.args.sig c.args.pars.now c.args.reserve) ∷ []) c.args.lasting.now None c.in-Err.fault _ _ c.in-Err.ensures)
 
 pub returns-in-Ok-Did-Assert : goal.returns-in-Ok-Did-Assert
 returns-in-Ok-Did-Assert g c =
@@ -54,7 +54,7 @@ returns-in-Ok-Did-Value g c =
     c.requires.may.home.some c.args.ceiling.now a.n
     (begun-did (event_of c.event-ev.result) c.args.reserve c.args.ceiling.now a.field-0 a.field-0-0 (did.Value a.n) (lane c.args.ops.now) (lane c.publish_begin.new.ops) a.field-0-is a.field-0-0-is a.ensures) in
     rw c.requires.none
-    (subst (λ (z : ℤ). Goes c.args.me (moment_of c.args.work.now) (task.Do (action.Publish c.args.sig c.args.pars.now c.args.reserve) ∷ []) (Point ∷ []) c.args.ceiling.now c.args.ceiling.now c.args.lasting.now None
+    (subst (λ (z : ℤ). PartGoes c.args.me (moment_of_work c.args.work.now) (task.Do (action.Publish c.args.sig c.args.pars.now c.args.reserve) ∷ []) (Point ∷ []) c.args.ceiling.now c.args.ceiling.now c.args.lasting.now None
     (record c.args.lasting.now { ok = z }) None (lane c.args.ops.now) (lane c.publish_begin.new.ops)) (sym ok) done)
 
 pub returns-in-Ok-Going : goal.returns-in-Ok-Going

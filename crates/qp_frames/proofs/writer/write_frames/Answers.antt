@@ -4,7 +4,7 @@ use Rattle.qp_model.specs.declared.journals.Journal.{Journal}
 use Rattle.qp_model.specs.Output.{JournalItem, end_item, head_item, items_of_lanes}
 use Rattle.qp_model.specs.OutputFrames.{frame, frames_from}
 use Rattle.qp_text.proofs.PutsLemmas.{Puts-then, prefix-longer, prefix-then}
-use Rattle.qp_frames.specs.Sequence.{behind}
+use Rattle.qp_frames.specs.Sequence.{sequence_behind}
 use Rattle.qp_frames.proofs.FrameLemmas.{frames-append, frames-cut_first, frames-one}
 use Rattle.qp_frames.proofs.writer.write_frames.Goals as goal
 
@@ -37,9 +37,9 @@ pub returns : goal.returns
 returns g c =
     let form = c.args.form in
     let j = c.args.j.now in
-    let last = frame form (behind 2 (between j)) (end_item j) in
+    let last = frame form (sequence_behind 2 (between j)) (end_item j) in
     Puts-then c.put_end.result (frame form 1 (head_item form j)) (frames_from form 2 (between j ++ end_item j ∷ [])) _ _ _ _ _ _
     c.in_ok-put_head.ensures.0 c.in_ok-put_head.ensures.1
-    (rw (frames-append form 2 (between j) (end_item j ∷ []), frames-one form (behind 2 (between j)) (end_item j))
+    (rw (frames-append form 2 (between j) (end_item j ∷ []), frames-one form (sequence_behind 2 (between j)) (end_item j))
     (Puts-then c.put_end.result (frames_from form 2 (between j)) last _ _ _ _ _ _
     c.in_ok-next.ensures.puts.0 c.in_ok-next.ensures.puts.1 (rw c.in_ok-next.ensures.next at c.put_end.ensures)))

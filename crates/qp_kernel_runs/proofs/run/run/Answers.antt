@@ -5,7 +5,7 @@ use Rattle.qp_kernel_runs.specs.SimView.{sim_view}
 use Rattle.qp_dispatch.specs.declared.objects.Turn.TheVariants as turn
 use Rattle.qp_kernel.specs.ZeroEnds.{own_told}
 use Rattle.qp_kernel_runs.specs.Resting.{ObjectsShow, RestsAfter}
-use Rattle.qp_kernel_runs.specs.Running.{RunsTo}
+use Rattle.qp_kernel_runs.specs.Running.{KernelRunsTo}
 use Rattle.qp_kernel_runs.proofs.RestLemmas.{no-rests, rests-after}
 use Rattle.qp_kernel_runs.proofs.Ran.{start-stop_is, start-stop_on, turned}
 use Rattle.qp_kernel_runs.proofs.run.run.Goals as goal
@@ -25,8 +25,8 @@ returns-then-cooperative g c =
     let end = c.end_of_turn.ensures in
     record {
       goes =
-          subst (λ t. RunsTo sys (under c.args.cooperative c.args.budget) v w t) (sym end.turn)
-          (subst (λ b. RunsTo sys (under b c.args.budget) v w c.vanilla_turn-turn.result) (sym c.if-cooperative.true)
+          subst (λ t. KernelRunsTo sys (under c.args.cooperative c.args.budget) v w t) (sym end.turn)
+          (subst (λ b. KernelRunsTo sys (under b c.args.budget) v w c.vanilla_turn-turn.result) (sym c.if-cooperative.true)
           (turned sys terms refl c.requires.sound c.args.objects.now v c.requires.may.made c.requires.may.fresh c.start.new.self (sim_view c.start.new.ops) c.in-Done.ensures.goes
           _ _ refl refl c.vanilla_turn-turn.result c.vanilla_turn-turn.ensures.goes c.vanilla_turn-turn.ensures.order));
       rests =
@@ -44,8 +44,8 @@ returns-else-cooperative g c =
     let end = c.end_of_turn-else-cooperative.ensures in
     record {
       goes =
-          subst (λ t. RunsTo sys (under c.args.cooperative c.args.budget) v w t) (sym end.turn)
-          (subst (λ b. RunsTo sys (under b c.args.budget) v w c.kernel_turn-turn.result) (sym c.if-cooperative.false)
+          subst (λ t. KernelRunsTo sys (under c.args.cooperative c.args.budget) v w t) (sym end.turn)
+          (subst (λ b. KernelRunsTo sys (under b c.args.budget) v w c.kernel_turn-turn.result) (sym c.if-cooperative.false)
           (turned sys terms refl c.requires.sound c.args.objects.now v c.requires.may.made c.requires.may.fresh c.start.new.self (sim_view c.start.new.ops) c.in-Done.ensures.goes
           _ _ refl refl c.kernel_turn-turn.result c.kernel_turn-turn.ensures.goes c.kernel_turn-turn.ensures.order));
       rests =

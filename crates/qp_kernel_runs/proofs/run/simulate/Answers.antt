@@ -4,7 +4,7 @@ use Rattle.qp_kernel_turns.proofs.SoundObjects.{able}
 use Rattle.qp_kernel.specs.Turning.{under}
 use Rattle.qp_kernel_runs.specs.SimView.{sim_view}
 use Rattle.qp_kernel_runs.specs.Resting.{RestsAfter}
-use Rattle.qp_kernel_runs.specs.Running.{RunsTo}
+use Rattle.qp_kernel_runs.specs.Running.{KernelRunsTo}
 use Rattle.qp_kernel_runs.proofs.EndedWorlds.{left-of}
 use Rattle.qp_kernel_runs.proofs.Ends.{cut-of, may-run, seen-as}
 use Rattle.qp_kernel_runs.proofs.IdleRuns.{idle-lawful}
@@ -23,7 +23,7 @@ closed-journal-requires-clause-last g c =
     let terms = under c.args.cooperative c.args.budget in
     let sys = c.args.sys.now in
     let view = sim_view c.run-turn.new.world in
-    let ran = subst (λ t. RunsTo sys terms (sim_view c.in_ok-world.world) view t) c.in-Stopped.is c.run-turn.ensures.goes in
+    let ran = subst (λ t. KernelRunsTo sys terms (sim_view c.in_ok-world.world) view t) c.in-Stopped.is c.run-turn.ensures.goes in
     let left = left-of c.run-turn.new.world c.finish-in-Stopped.result sys c.args.stim.now (ran.0.of ∙ seen.0) (ran.0.plan ∙ seen.1) c.finish-in-Stopped.ensures in
     stopped-last sys c.args.stim.now c.finish-in-Stopped.result view left terms ran.1
 
@@ -33,7 +33,7 @@ returns-in-Idle g c =
     let terms = under c.args.cooperative c.args.budget in
     let sys = c.args.sys.now in
     let view = sim_view c.run-turn.new.world in
-    let ran = subst (λ t. RunsTo sys terms (sim_view c.in_ok-world.world) view t) c.in-Idle.is c.run-turn.ensures.goes in
+    let ran = subst (λ t. KernelRunsTo sys terms (sim_view c.in_ok-world.world) view t) c.in-Idle.is c.run-turn.ensures.goes in
     let rests = subst (λ t. RestsAfter sys view.told t c.run-turn.result.rests.items) c.in-Idle.is c.run-turn.ensures.rests in
     let left = left-of c.run-turn.new.world c.finish.result sys c.args.stim.now (ran.0.of ∙ seen.0) (ran.0.plan ∙ seen.1) c.finish.ensures in
     record {
@@ -51,7 +51,7 @@ returns-in-Stopped g c =
     let terms = under c.args.cooperative c.args.budget in
     let sys = c.args.sys.now in
     let view = sim_view c.run-turn.new.world in
-    let ran = subst (λ t. RunsTo sys terms (sim_view c.in_ok-world.world) view t) c.in-Stopped.is c.run-turn.ensures.goes in
+    let ran = subst (λ t. KernelRunsTo sys terms (sim_view c.in_ok-world.world) view t) c.in-Stopped.is c.run-turn.ensures.goes in
     let rests = subst (λ t. RestsAfter sys view.told t c.run-turn.result.rests.items) c.in-Stopped.is c.run-turn.ensures.rests in
     let closed = c.closed-journal.ensures in
     let left = left-of c.run-turn.new.world c.finish-in-Stopped.result sys c.args.stim.now (ran.0.of ∙ seen.0) (ran.0.plan ∙ seen.1) c.finish-in-Stopped.ensures in

@@ -1,11 +1,11 @@
 use Rattle.std.proofs.Common.{◌≡◌, ◌-◌, ◌+◌, drop, get_or, arith, refl}
 use Rattle.std.proofs.Math.Seq.{drop-length}
-use Rattle.qp_packed.specs.Packing.{marks}
+use Rattle.qp_packed.specs.Packing.{wide_marks}
 use Rattle.qp_packed.proofs.NumberLemmas.{marks-few, marks-drop, length-drop-few, wide-one}
 use Rattle.qp_packed.proofs.pushing.marks_of.Goals as goal
 
 pub loop-left-init : goal.loop-left-init
-unfolding marks
+unfolding wide_marks
 loop-left-init c = record { marked = rw (drop-length c.args.xs.now) refl; within = omega arith }
 
 pub overflow_mul-marked : goal.overflow_mul-marked

@@ -1,6 +1,6 @@
 use Rattle.std.proofs.Common.{◌≡◌}
-use Rattle.qp_plain.specs.Fresh.{made, first_pool}
+use Rattle.qp_plain.specs.Fresh.{tabulated, free_pool}
 use Rattle.qp_plain.proofs.tables.pools.Given as goal
 
 abbrev pub invariant-loop-k : goal.invariant-loop-k
-invariant-loop-k l = l.words.items ≡ made (first_pool l.sys) l.k
+invariant-loop-k l = l.words.items ≡ tabulated (free_pool l.sys) l.k

@@ -1,11 +1,11 @@
 use Rattle.std.proofs.Common.{◌++◌, ◌∷◌, [], ◌∙◌, ap}
 use Rattle.qp_plain_words.specs.Queue.{empty_line}
-use Rattle.qp_plain.specs.Fresh.{made, first_queue}
+use Rattle.qp_plain.specs.Fresh.{tabulated, first_queue}
 use Rattle.qp_plain.proofs.FreshLemmas.{made-more}
 use Rattle.qp_plain.proofs.tables.queues.Goals as goal
 
 pub loop-a-init : goal.loop-a-init
-unfolding made
+unfolding tabulated
 loop-a-init c = c.new-words.ensures.items
 
 pub loop-a-preserved : goal.loop-a-preserved

@@ -1,7 +1,7 @@
 use Rattle.std.proofs.Common.{◌≡◌}
-use Rattle.qp_plain.specs.Fresh.{made}
+use Rattle.qp_plain.specs.Fresh.{tabulated}
 use Rattle.qp_plain.specs.Tables.{no_signal}
 use Rattle.qp_plain.proofs.tables.signals.Given as goal
 
 abbrev pub invariant-loop : goal.invariant-loop
-invariant-loop l = l.words.items ≡ made (λ k. no_signal) l.counter
+invariant-loop l = l.words.items ≡ tabulated (λ k. no_signal) l.counter

@@ -1,11 +1,11 @@
 use Rattle.std.proofs.Common.{◌++◌, ◌∷◌, [], ◌∙◌, ap}
-use Rattle.qp_plain.specs.Fresh.{made}
+use Rattle.qp_plain.specs.Fresh.{tabulated}
 use Rattle.qp_plain.specs.Tables.{no_clock}
 use Rattle.qp_plain.proofs.FreshLemmas.{made-more}
 use Rattle.qp_plain.proofs.tables.timers.Goals as goal
 
 pub loop-init : goal.loop-init
-unfolding made
+unfolding tabulated
 loop-init c = c.new-words.ensures.items
 
 pub loop-preserved : goal.loop-preserved

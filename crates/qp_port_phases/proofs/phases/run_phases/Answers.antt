@@ -2,7 +2,7 @@ use Rattle.std.proofs.Common.{true, false, ◌∙◌, ap}
 use Rattle.qp_port_phases.specs.declared.phases.Next.TheVariants as next
 use Rattle.qp_port_phases.proofs.Counting.{few-more, kept-few, went-few}
 use Rattle.qp_port_phases.proofs.Floors.{floor-level, floor-then}
-use Rattle.qp_port_phases.specs.Staying.{Stays}
+use Rattle.qp_port_phases.specs.Staying.{WorkerStays}
 use Rattle.qp_port_phases.proofs.Keeping.{first-since, keep-ready, keep-same, objects-each, one-table, same-then, table-still, went-ready, went-same}
 use Rattle.qp_port_phases.proofs.phases.run_phases.Goals as goal
 
@@ -65,7 +65,7 @@ loop-preserved-in-Phase g c =
     let started = c.begin-manner.ensures in
     let kept = keep-same g.T.Worker.ready g.T.PhaseLane.same g.T.PhaseLane.waits g.T.PhaseLane.remains g.T.PhaseLane.numbers _ _ started.kept in
     let turned = c.run_lanes.ensures in
-    let Turned = Stays g.T.Worker.ready g.T.PhaseLane.same g.T.PhaseLane.view g.T.PhaseLane.numbers in
+    let Turned = WorkerStays g.T.Worker.ready g.T.PhaseLane.same g.T.PhaseLane.view g.T.PhaseLane.numbers in
     let went = went-same g.T.Worker.ready g.T.PhaseLane.same Turned (λ a b h. (h.ready, h.same)) _ _ turned in
     let so_far = same-then g.T.PhaseLane.same laws.same_still _ _ _ c.loop.invariant.3 (same-then g.T.PhaseLane.same laws.same_still _ _ _ c.between.ensures.same kept) in
     let now = same-then g.T.PhaseLane.same laws.same_still _ _ _ so_far went in

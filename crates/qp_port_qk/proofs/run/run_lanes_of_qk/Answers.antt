@@ -10,13 +10,13 @@ use Rattle.std.specs.List.{list_any}
 use Rattle.std.proofs.lemmas.List.{length-map}
 use Rattle.qp_port_phases.specs.Lanes.{AreOneTable, SameEach}
 use Rattle.qp_port_phases.specs.Stopping.{AnyStopped}
-use Rattle.qp_port_qk.specs.Ends.{HasRun, is_over}
+use Rattle.qp_port_qk.specs.Ends.{HasQkRun, has_ended_idle}
 use Rattle.qp_model_order.specs.SourceRun.{untold_all}
 use Rattle.qp_kernel.specs.Starts.{AreStarts}
 use Rattle.qp_port_phases.specs.Starting.{StartFirst}
-use Rattle.qp_port_qk.specs.Jobs.{JobIsAlone, starts_of}
+use Rattle.qp_port_qk.specs.Jobs.{QkJobIsAlone, qk_starts_of}
 use Rattle.qp_port_qk.specs.Rows.{AreSameLanes}
-use Rattle.qp_port_qk.specs.Workers.{FirstBegins, IsSameWorker, MayBegin, MayEnd, MayTurn, IsBlank, OthersAre}
+use Rattle.qp_port_qk.specs.Workers.{FirstBegins, IsSameQkWorker, QkMayBegin, QkMayEnd, QkMayTurn, IsBlank, OthersAre}
 use Rattle.qp_port_qk.proofs.Ending.{either-end}
 use Rattle.qp_port_qk.proofs.Rows.{ready-map}
 use Rattle.qp_port_qk.proofs.Beginning.{all-begin, new-many}
@@ -39,7 +39,7 @@ pub start_and_run-how-requires-clause-begins : goal.start_and_run-how-requires-c
 start_and_run-how-requires-clause-begins g c κs within =
     let all = all-begin g.W.World.acts c.requires.alone c.args.sys.now c.args.stim.now c.args.budget c.requires.sound c.requires.fit c.requires.few (λ w. w.sys.now) (λ w. w.budget) (λ w. w.turn) (λ w. w.job) (λ w. w.lane) g.W.Ops.lane
     c.args.lanes.items c.in_ok-workers.workers.items c.in_ok-workers.ensures c.requires.lanes in
-    subst (FirstBegins (λ w. MayBegin g.W.World.acts w.sys.now w.budget w.turn w.job (g.W.Ops.lane w.lane)) (λ w. MayTurn g.W.World.acts w.sys.now w.budget w.turn w.job (g.W.Ops.lane w.lane))) (sym c.as_mut_slice.ensures.value) all.begin
+    subst (FirstBegins (λ w. QkMayBegin g.W.World.acts w.sys.now w.budget w.turn w.job (g.W.Ops.lane w.lane)) (λ w. QkMayTurn g.W.World.acts w.sys.now w.budget w.turn w.job (g.W.Ops.lane w.lane))) (sym c.as_mut_slice.ensures.value) all.begin
 
 pub start_and_run-how-requires-clause-blank : goal.start_and_run-how-requires-clause-blank
 start_and_run-how-requires-clause-blank g c κs within =
@@ -61,9 +61,9 @@ returns-clause-lanes g c =
     let ys = c.start_and_run-how.new.workers in
     let all = all-begin g.W.World.acts c.requires.alone c.args.sys.now c.args.stim.now c.args.budget c.requires.sound c.requires.fit c.requires.few (λ w. w.sys.now) (λ w. w.budget) (λ w. w.turn) (λ w. w.job) (λ w. w.lane) g.W.Ops.lane
     c.args.lanes.items c.in_ok-workers.workers.items made c.requires.lanes in
-    let same = subst (λ us. SameEach (λ a b. IsSameWorker a.sys.now b.sys.now a.budget b.budget a.job b.job (g.W.Ops.lane a.lane) (g.W.Ops.lane b.lane)) us ys) c.as_mut_slice.ensures.value c.start_and_run-how.ensures.same in
+    let same = subst (λ us. SameEach (λ a b. IsSameQkWorker a.sys.now b.sys.now a.budget b.budget a.job b.job (g.W.Ops.lane a.lane) (g.W.Ops.lane b.lane)) us ys) c.as_mut_slice.ensures.value c.start_and_run-how.ensures.same in
     let a = c.as_mut_slice.ensures.len in
-    let b = each-long (λ a b. IsSameWorker a.sys.now b.sys.now a.budget b.budget a.job b.job (g.W.Ops.lane a.lane) (g.W.Ops.lane b.lane)) c.as_mut_slice.result.now ys c.start_and_run-how.ensures.same in
+    let b = each-long (λ a b. IsSameQkWorker a.sys.now b.sys.now a.budget b.budget a.job b.job (g.W.Ops.lane a.lane) (g.W.Ops.lane b.lane)) c.as_mut_slice.result.now ys c.start_and_run-how.ensures.same in
     let whole = taken-whole c.in_ok-workers.workers.len ys _ (omega (arith, a, b)) in
     ok-map (λ run. run.lanes.items ≡ map (λ w. w.lane) ys) (λ run. AreSameLanes (map g.W.Ops.lane c.args.lanes.items) (map g.W.Ops.lane run.lanes.items))
     (λ run h. lanes-left (λ w. w.lane) g.W.Ops.lane c.args.lanes.items run.lanes.items c.in_ok-workers.workers.items ys made.lanes_are h
@@ -78,18 +78,18 @@ returns-clause-run g c =
     let went = c.start_and_run-how.ensures in
     let all = all-begin g.W.World.acts c.requires.alone c.args.sys.now c.args.stim.now c.args.budget c.requires.sound c.requires.fit c.requires.few (λ w. w.sys.now) (λ w. w.budget) (λ w. w.turn) (λ w. w.job) (λ w. w.lane) g.W.Ops.lane
     c.args.lanes.items c.in_ok-workers.workers.items made c.requires.lanes in
-    let same = subst (λ us. SameEach (λ a b. IsSameWorker a.sys.now b.sys.now a.budget b.budget a.job b.job (g.W.Ops.lane a.lane) (g.W.Ops.lane b.lane)) us ys) c.as_mut_slice.ensures.value went.same in
+    let same = subst (λ us. SameEach (λ a b. IsSameQkWorker a.sys.now b.sys.now a.budget b.budget a.job b.job (g.W.Ops.lane a.lane) (g.W.Ops.lane b.lane)) us ys) c.as_mut_slice.ensures.value went.same in
     let a = c.as_mut_slice.ensures.len in
-    let b = each-long (λ a b. IsSameWorker a.sys.now b.sys.now a.budget b.budget a.job b.job (g.W.Ops.lane a.lane) (g.W.Ops.lane b.lane)) c.as_mut_slice.result.now ys c.start_and_run-how.ensures.same in
+    let b = each-long (λ a b. IsSameQkWorker a.sys.now b.sys.now a.budget b.budget a.job b.job (g.W.Ops.lane a.lane) (g.W.Ops.lane b.lane)) c.as_mut_slice.result.now ys c.start_and_run-how.ensures.same in
     let whole = taken-whole c.in_ok-workers.workers.len ys _ (omega (arith, a, b)) in
     let first =
-    subst (λ us. StartFirst (λ w. g.W.Ops.lane w.lane) (λ w. JobIsAlone w.sys.now w.turn w.job (g.W.Ops.lane w.lane)) (λ w. AreStarts (starts_of w.sys.now w.job) (untold_all (g.W.Ops.lane w.lane).told))
-    (λ a b. IsSameWorker a.sys.now b.sys.now a.budget b.budget a.job b.job (g.W.Ops.lane a.lane) (g.W.Ops.lane b.lane)) us ys) c.as_mut_slice.ensures.value went.first in
+    subst (λ us. StartFirst (λ w. g.W.Ops.lane w.lane) (λ w. QkJobIsAlone w.sys.now w.turn w.job (g.W.Ops.lane w.lane)) (λ w. AreStarts (qk_starts_of w.sys.now w.job) (untold_all (g.W.Ops.lane w.lane).told))
+    (λ a b. IsSameQkWorker a.sys.now b.sys.now a.budget b.budget a.job b.job (g.W.Ops.lane a.lane) (g.W.Ops.lane b.lane)) us ys) c.as_mut_slice.ensures.value went.first in
     ok-all (list_any (λ w. is_short w.turn) ys ≡ false) (λ run. run.lanes.items ≡ map (λ w. w.lane) ys) (λ run. AreLeft (λ w. w.job) c.start_and_run-how.result ys run.rests.items)
-    (λ run. run.done ≡ true → (c.start_and_run-how.result ≡ Some ended.Idle) × (list_all (λ w. is_idle w.turn) ys ≡ true)) (λ run. HasRun c.args.sys.now c.args.stim.now c.args.budget run.done run.rests.items (map g.W.Ops.lane run.lanes.items))
+    (λ run. run.done ≡ true → (c.start_and_run-how.result ≡ Some ended.Idle) × (list_all (λ w. is_idle w.turn) ys ≡ true)) (λ run. HasQkRun c.args.sys.now c.args.stim.now c.args.budget run.done run.rests.items (map g.W.Ops.lane run.lanes.items))
     (λ run lanes rests short idle. run-left (λ w. w.lane) g.W.Ops.lane c.args.sys.now c.args.stim.now c.args.budget run.done run.rests.items run.lanes.items ys lanes
     (ran g.W.World.acts c.requires.alone c.args.sys.now c.args.stim.now c.args.budget c.requires.sound c.requires.fit c.requires.few (λ w. w.sys.now) (λ w. w.budget) (λ w. w.turn) (λ w. w.job) (λ w. g.W.Ops.lane w.lane)
-    c.in_ok-workers.workers.items all ys same c.start_and_run-how.result run.done run.rests.items c.as_slice.result.now (c.as_slice.ensures.value ∙ c.in-Ok.ensures) (ready-map (λ w. MayTurn g.W.World.acts w.sys.now w.budget w.turn w.job (g.W.Ops.lane w.lane) ⊎ MayEnd w.sys.now w.budget w.turn w.job (g.W.Ops.lane w.lane)) (λ w. MayEnd w.sys.now w.budget w.turn w.job (g.W.Ops.lane w.lane))
+    c.in_ok-workers.workers.items all ys same c.start_and_run-how.result run.done run.rests.items c.as_slice.result.now (c.as_slice.ensures.value ∙ c.in-Ok.ensures) (ready-map (λ w. QkMayTurn g.W.World.acts w.sys.now w.budget w.turn w.job (g.W.Ops.lane w.lane) ⊎ QkMayEnd w.sys.now w.budget w.turn w.job (g.W.Ops.lane w.lane)) (λ w. QkMayEnd w.sys.now w.budget w.turn w.job (g.W.Ops.lane w.lane))
     (λ w h. either-end g.W.World.acts w.sys.now w.budget w.turn w.job (g.W.Ops.lane w.lane) h) ys went.each) went.ready went.rows went.idle rests short idle first))
     c.left_of.result (subst (λ us. IfOk c.left_of.result (λ run. run.lanes.items ≡ map (λ w. w.lane) us)) whole c.left_of.ensures.lanes)
     (subst (λ us. IfOk c.left_of.result (λ run. AreLeft (λ w. w.job) c.start_and_run-how.result us run.rests.items)) whole c.left_of.ensures.rests)
@@ -101,23 +101,23 @@ returns-clause-cause g c =
     let ys = c.start_and_run-how.new.workers in
     let went = c.start_and_run-how.ensures in
     let a = c.as_mut_slice.ensures.len in
-    let b = each-long (λ a b. IsSameWorker a.sys.now b.sys.now a.budget b.budget a.job b.job (g.W.Ops.lane a.lane) (g.W.Ops.lane b.lane)) c.as_mut_slice.result.now ys c.start_and_run-how.ensures.same in
+    let b = each-long (λ a b. IsSameQkWorker a.sys.now b.sys.now a.budget b.budget a.job b.job (g.W.Ops.lane a.lane) (g.W.Ops.lane b.lane)) c.as_mut_slice.result.now ys c.start_and_run-how.ensures.same in
     let whole = taken-whole c.in_ok-workers.workers.len ys _ (omega (arith, a, b)) in
     ok-all (list_any (λ w. is_short w.turn) ys ≡ false) (λ run. run.lanes.items ≡ map (λ w. w.lane) ys) (λ run. run.lanes.items ≡ map (λ w. w.lane) ys)
-    (λ run. run.done ≡ false → (is_over c.start_and_run-how.result ≡ false) ⊎ (list_all (λ w. is_idle w.turn) ys ≡ false)) (λ run. run.done ≡ false → AnyStopped (map g.W.Ops.lane run.lanes.items))
+    (λ run. run.done ≡ false → (has_ended_idle c.start_and_run-how.result ≡ false) ⊎ (list_all (λ w. is_idle w.turn) ys ≡ false)) (λ run. run.done ≡ false → AnyStopped (map g.W.Ops.lane run.lanes.items))
     (λ run lanes again short left. λ not_done. cause-left (λ w. w.lane) g.W.Ops.lane run.lanes.items ys lanes
     (cause g.W.World.acts (λ w. w.sys.now) (λ w. w.budget) (λ w. w.turn) (λ w. w.job) (λ w. g.W.Ops.lane w.lane) c.as_mut_slice.result.now ys c.start_and_run-how.result went.none went.stopped went.memory went.each short (left not_done)))
     c.left_of.result (subst (λ us. IfOk c.left_of.result (λ run. run.lanes.items ≡ map (λ w. w.lane) us)) whole c.left_of.ensures.lanes)
     (subst (λ us. IfOk c.left_of.result (λ run. run.lanes.items ≡ map (λ w. w.lane) us)) whole c.left_of.ensures.lanes)
     (subst (λ us. OnOk c.left_of.result (list_any (λ w. is_short w.turn) us ≡ false)) whole c.left_of.ensures.short)
-    (subst (λ us. IfOk c.left_of.result (λ run. run.done ≡ false → (is_over c.start_and_run-how.result ≡ false) ⊎ (list_all (λ w. is_idle w.turn) us ≡ false))) whole c.left_of.ensures.cause)
+    (subst (λ us. IfOk c.left_of.result (λ run. run.done ≡ false → (has_ended_idle c.start_and_run-how.result ≡ false) ⊎ (list_all (λ w. is_idle w.turn) us ≡ false))) whole c.left_of.ensures.cause)
 
 pub returns-clause-fed : goal.returns-clause-fed
 returns-clause-fed g c =
     let ys = c.start_and_run-how.new.workers in
     let went = c.start_and_run-how.ensures in
     let a = c.as_mut_slice.ensures.len in
-    let b = each-long (λ a b. IsSameWorker a.sys.now b.sys.now a.budget b.budget a.job b.job (g.W.Ops.lane a.lane) (g.W.Ops.lane b.lane)) c.as_mut_slice.result.now ys c.start_and_run-how.ensures.same in
+    let b = each-long (λ a b. IsSameQkWorker a.sys.now b.sys.now a.budget b.budget a.job b.job (g.W.Ops.lane a.lane) (g.W.Ops.lane b.lane)) c.as_mut_slice.result.now ys c.start_and_run-how.ensures.same in
     let whole = taken-whole c.in_ok-workers.workers.len ys _ (omega (arith, a, b)) in
     ok-both (list_any (λ w. is_short w.turn) ys ≡ false) (λ run. run.lanes.items ≡ map (λ w. w.lane) ys) (λ run. AllByRecursion IsFed (map g.W.Ops.lane run.lanes.items))
     (λ run lanes short. fed-left (λ w. w.lane) g.W.Ops.lane run.lanes.items ys lanes

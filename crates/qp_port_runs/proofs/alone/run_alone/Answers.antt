@@ -2,14 +2,14 @@ use Rattle.std.proofs.Common.{◌≡◌, false, map, sym, subst, ◌∙◌}
 use Rattle.std.specs.List.{AllByRecursion}
 use Rattle.qp_port_lanes.specs.Answers.{IsFed}
 use Rattle.qp_port_phases.specs.Stopping.{AnyStopped}
-use Rattle.qp_port_qk.specs.Ends.{HasRun}
-use Rattle.qp_port_qk.specs.Rows.{AreNewLanes, AreSameLanes}
+use Rattle.qp_port_qk.specs.Ends.{HasQkRun}
+use Rattle.qp_port_qk.specs.Rows.{AreNewQkLanes, AreSameLanes}
 use Rattle.qp_port_runs.proofs.Worlds.{ok-one, ok-three, ok-two, through}
 use Rattle.qp_port_runs.proofs.alone.run_alone.Goals as goal
 
 pub run_lanes_of_qk-requires-clause-lanes : goal.run_lanes_of_qk-requires-clause-lanes
 run_lanes_of_qk-requires-clause-lanes g c κs within =
-    subst (AreNewLanes c.args.sys.now c.args.stim.now) (through (λ w. w.lane) g.O.Ops.lane c.in-Ok.worlds.items c.args.lanes.items c.in-Ok.ensures) c.requires.lanes
+    subst (AreNewQkLanes c.args.sys.now c.args.stim.now) (through (λ w. w.lane) g.O.Ops.lane c.in-Ok.worlds.items c.args.lanes.items c.in-Ok.ensures) c.requires.lanes
 
 pub returns-clause-lanes : goal.returns-clause-lanes
 returns-clause-lanes g c =
@@ -23,10 +23,10 @@ pub returns-clause-run : goal.returns-clause-run
 returns-clause-run g c =
     let run = c.in_ok-run.run' in
     ok-three (λ x. x.lanes.items ≡ map (λ w. w.lane) run.lanes.items) (λ x. x.rests.items ≡ run.rests.items) (λ x. x.done ≡ run.done)
-    (λ x. HasRun c.args.sys.now c.args.stim.now c.args.budget x.done x.rests.items (map g.O.Ops.lane x.lanes.items))
-    (λ x lanes rests done. subst (λ b. HasRun c.args.sys.now c.args.stim.now c.args.budget b x.rests.items (map g.O.Ops.lane x.lanes.items)) (sym done)
-    (subst (λ rs. HasRun c.args.sys.now c.args.stim.now c.args.budget run.done rs (map g.O.Ops.lane x.lanes.items)) (sym rests)
-    (subst (HasRun c.args.sys.now c.args.stim.now c.args.budget run.done run.rests.items) (sym (through (λ w. w.lane) g.O.Ops.lane run.lanes.items x.lanes.items (sym lanes))) c.in_ok-run.ensures.run)))
+    (λ x. HasQkRun c.args.sys.now c.args.stim.now c.args.budget x.done x.rests.items (map g.O.Ops.lane x.lanes.items))
+    (λ x lanes rests done. subst (λ b. HasQkRun c.args.sys.now c.args.stim.now c.args.budget b x.rests.items (map g.O.Ops.lane x.lanes.items)) (sym done)
+    (subst (λ rs. HasQkRun c.args.sys.now c.args.stim.now c.args.budget run.done rs (map g.O.Ops.lane x.lanes.items)) (sym rests)
+    (subst (HasQkRun c.args.sys.now c.args.stim.now c.args.budget run.done run.rests.items) (sym (through (λ w. w.lane) g.O.Ops.lane run.lanes.items x.lanes.items (sym lanes))) c.in_ok-run.ensures.run)))
     c.run_done.result c.run_done.ensures.lanes c.run_done.ensures.rests c.run_done.ensures.done
 
 pub returns-clause-cause : goal.returns-clause-cause

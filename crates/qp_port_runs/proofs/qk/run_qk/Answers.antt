@@ -3,7 +3,7 @@ use Rattle.std.proofs.Common.{length, map, ap, arith, subst}
 use Rattle.std.specs.Prelude.{IfOk}
 use Rattle.qp_model.specs.Kernels.{qk}
 use Rattle.qp_port_law.specs.Sealed.{SealsLanes}
-use Rattle.qp_port_qk.specs.Rows.{AreNewLanes}
+use Rattle.qp_port_qk.specs.Rows.{AreNewQkLanes}
 use Rattle.qp_shared.specs.Lane.{lane_view}
 use Rattle.qp_shared.specs.WasSealed.{WasSealedFor}
 use Rattle.qp_shared.specs.Starting.{serves_all}
@@ -20,7 +20,7 @@ run_alone-requires-clause-lanes g c κs within =
     let sources = ap length c.stim.view_is in
     let a = c.len-count.ensures in
     let few = c.requires.fit.few in
-    subst (λ s. AreNewLanes s c.args.stim.now (map lane_view c.in_ok-lanes.lanes.items)) c.in_ok-shared.ensures.system
+    subst (λ s. AreNewQkLanes s c.args.stim.now (map lane_view c.in_ok-lanes.lanes.items)) c.in_ok-shared.ensures.system
     (new-lanes c.in_ok-shared.shared _ c.args.stim.now (map lane_view c.in_ok-lanes.lanes.items) (omega (arith, sources, a, few)) c.in_ok-lanes.ensures)
 
 pub seal-requires : goal.seal-requires

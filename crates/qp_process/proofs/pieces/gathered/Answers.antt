@@ -1,6 +1,6 @@
 use Rattle.std.proofs.Common.{◌+◌, ◌∙◌, ap, refl, subst, sym}
 use Rattle.qp_base.specs.Counts.{Rose}
-use Rattle.qp_base.specs.Gathering.{IsBegun, told}
+use Rattle.qp_base.specs.Gathering.{IsBegun, sink_told}
 use Rattle.qp_run_parts.specs.Verdict.{Count, Stream}
 use Rattle.qp_commands.specs.WordTable.{command_in, texts}
 use Rattle.qp_run_parts.proofs.CallLemmas.{memory-call}
@@ -21,8 +21,8 @@ returns-in-Ok-flush-clause-call g c =
     let p = c.in-Ok.pieces in
     let q = c.answer-status.new.out in
     let put : Stream = record {
-      before = told p.course (first + p.gone) p.held.items (written p.inner);
-      after = told q.course (first + q.gone) q.held.items (written q.inner);
+      before = sink_told p.course (first + p.gone) p.held.items (written p.inner);
+      after = sink_told q.course (first + q.gone) q.held.items (written q.inner);
     } in
     let out : Count = record { before = p.faults; after = q.faults } in
     let a = c.answer-status.ensures in
@@ -44,14 +44,14 @@ returns-in-Err-flush-clause-call g c =
     let below = c.into_inner-out-in-Err-flush.result in
     let b = c.into_inner-out-in-Err-flush.ensures in
     let put : Stream = record {
-      before = told p.course (first + p.gone) p.held.items (written p.inner);
-      after = told q.course (first + q.gone) q.held.items (written q.inner);
+      before = sink_told p.course (first + p.gone) p.held.items (written p.inner);
+      after = sink_told q.course (first + q.gone) q.held.items (written q.inner);
     } in
     part-call (g.F.Shelf.holds c.args.files.now) asked _ _ _ c.answer-status.result.status c.tell-status-in-Err-flush.result put
     first r.course (first + r.gone) r.held.items
     (first-told p.course (first + p.gone) p.held.items (written p.inner) c.in-Ok.ensures.going c.in-Ok.ensures.held ∙ ap written c.in-Ok.ensures.inner)
     c.requires.first_length b.grown
-    (ap (λ o. told r.course (first + r.gone) r.held.items (written o)) b.inner ∙ c.flush.ensures.told)
+    (ap (λ o. sink_told r.course (first + r.gone) r.held.items (written o)) b.inner ∙ c.flush.ensures.told)
     (subst (λ w. IsBegun (written below) w) c.flush.ensures.told b.begun)
     (subst (λ n. Rose n (g.O.Sink.faults below)) (sym c.requires.first_faults) (b.rose c.in-Err-flush.ensures.err))
     c.answer-status.ensures.out c.tell-status-in-Err-flush.ensures.answer (c.tell-status-in-Err-flush.ensures.notes asked)
@@ -67,8 +67,8 @@ returns-in-Ok-flush-clause-seal g c =
     let p = c.in-Ok.pieces in
     let q = c.answer-status.new.out in
     let put : Stream = record {
-      before = told p.course (first + p.gone) p.held.items (written p.inner);
-      after = told q.course (first + q.gone) q.held.items (written q.inner);
+      before = sink_told p.course (first + p.gone) p.held.items (written p.inner);
+      after = sink_told q.course (first + q.gone) q.held.items (written q.inner);
     } in
     rw c.kept_seal.ensures (whole-seals (g.F.Shelf.holds c.args.files.now) asked _ put _ c.answer-status.result.status c.report-status.result _
     (first-told p.course (first + p.gone) p.held.items (written p.inner) c.in-Ok.ensures.going c.in-Ok.ensures.held ∙ ap written c.in-Ok.ensures.inner)

@@ -1,5 +1,5 @@
 use Rattle.std.proofs.Common.{◌∙◌, length, get_or, ap, arith}
-use Rattle.qp_replay.specs.Remaining.{place}
+use Rattle.qp_replay.specs.Remaining.{record_place}
 use Rattle.qp_replay.proofs.Rerunning.{goes-to, is-made, is-sound, is-within, lane-within, may-repeat, place-within, record-read, remains, same-lanes, same-system}
 use Rattle.qp_replay.proofs.again.make.Goals as goal
 
@@ -25,7 +25,7 @@ place_for-requires c =
     let item = c.index.ensures ∙ ap (λ l. get_or l c.args.at.place c.index.result.now) c.lane.view_is in
     let is = c.copy_of-rec.ensures ∙ record-read c.args.lanes.now c.args.at.lane c.args.at.place goes.rec goes.there c.index-lane.result.now c.index.result.now lane item in
     let chosen = goes-to c.args.world.now c.go.new.self c.args.at.lane c.go.ensures.goes in
-    record { few = is-within c.args.lanes.now (place c.args.at.lane c.args.at.place) c.args.world.now goes c.copy_of-rec.result is c.go.new.self chosen }
+    record { few = is-within c.args.lanes.now (record_place c.args.at.lane c.args.at.place) c.args.world.now goes c.copy_of-rec.result is c.go.new.self chosen }
 
 pub repeat-requires-clause-sound : goal.repeat-requires-clause-sound
 repeat-requires-clause-sound c =
@@ -35,7 +35,7 @@ repeat-requires-clause-sound c =
     let is = c.copy_of-rec.ensures ∙ record-read c.args.lanes.now c.args.at.lane c.args.at.place goes.rec goes.there c.index-lane.result.now c.index.result.now lane item in
     let chosen = goes-to c.args.world.now c.go.new.self c.args.at.lane c.go.ensures.goes in
     let there = remains c.args.world.now c.go.new.self c.place_for.new.self c.args.at.lane chosen c.in_ok-place_for.ensures.keeps in
-    is-sound c.args.lanes.now (place c.args.at.lane c.args.at.place) c.args.world.now goes c.copy_of-rec.result is c.place_for.new.self there
+    is-sound c.args.lanes.now (record_place c.args.at.lane c.args.at.place) c.args.world.now goes c.copy_of-rec.result is c.place_for.new.self there
 
 pub repeat-requires-clause-next : goal.repeat-requires-clause-next
 repeat-requires-clause-next c =
@@ -45,7 +45,7 @@ repeat-requires-clause-next c =
     let is = c.copy_of-rec.ensures ∙ record-read c.args.lanes.now c.args.at.lane c.args.at.place goes.rec goes.there c.index-lane.result.now c.index.result.now lane item in
     let chosen = goes-to c.args.world.now c.go.new.self c.args.at.lane c.go.ensures.goes in
     let there = remains c.args.world.now c.go.new.self c.place_for.new.self c.args.at.lane chosen c.in_ok-place_for.ensures.keeps in
-    may-repeat c.args.lanes.now (place c.args.at.lane c.args.at.place) c.args.world.now goes c.copy_of-rec.result is c.place_for.new.self there
+    may-repeat c.args.lanes.now (record_place c.args.at.lane c.args.at.place) c.args.world.now goes c.copy_of-rec.result is c.place_for.new.self there
 
 pub returns-clause-made : goal.returns-clause-made
 returns-clause-made c =
@@ -55,7 +55,7 @@ returns-clause-made c =
     let is = c.copy_of-rec.ensures ∙ record-read c.args.lanes.now c.args.at.lane c.args.at.place goes.rec goes.there c.index-lane.result.now c.index.result.now lane item in
     let chosen = goes-to c.args.world.now c.go.new.self c.args.at.lane c.go.ensures.goes in
     let there = remains c.args.world.now c.go.new.self c.place_for.new.self c.args.at.lane chosen c.in_ok-place_for.ensures.keeps in
-    is-made c.args.lanes.now (place c.args.at.lane c.args.at.place) c.args.world.now goes c.copy_of-rec.result is c.place_for.new.self there c.repeat.new.self c.repeat.ensures
+    is-made c.args.lanes.now (record_place c.args.at.lane c.args.at.place) c.args.world.now goes c.copy_of-rec.result is c.place_for.new.self there c.repeat.new.self c.repeat.ensures
 
 pub returns-clause-sys : goal.returns-clause-sys
 returns-clause-sys c =
@@ -65,7 +65,7 @@ returns-clause-sys c =
     let is = c.copy_of-rec.ensures ∙ record-read c.args.lanes.now c.args.at.lane c.args.at.place goes.rec goes.there c.index-lane.result.now c.index.result.now lane item in
     let chosen = goes-to c.args.world.now c.go.new.self c.args.at.lane c.go.ensures.goes in
     let there = remains c.args.world.now c.go.new.self c.place_for.new.self c.args.at.lane chosen c.in_ok-place_for.ensures.keeps in
-    same-system c.args.lanes.now (place c.args.at.lane c.args.at.place) c.args.world.now goes c.copy_of-rec.result is c.place_for.new.self there c.repeat.new.self c.repeat.ensures
+    same-system c.args.lanes.now (record_place c.args.at.lane c.args.at.place) c.args.world.now goes c.copy_of-rec.result is c.place_for.new.self there c.repeat.new.self c.repeat.ensures
 
 pub returns-clause-lanes : goal.returns-clause-lanes
 returns-clause-lanes c =
@@ -75,4 +75,4 @@ returns-clause-lanes c =
     let is = c.copy_of-rec.ensures ∙ record-read c.args.lanes.now c.args.at.lane c.args.at.place goes.rec goes.there c.index-lane.result.now c.index.result.now lane item in
     let chosen = goes-to c.args.world.now c.go.new.self c.args.at.lane c.go.ensures.goes in
     let there = remains c.args.world.now c.go.new.self c.place_for.new.self c.args.at.lane chosen c.in_ok-place_for.ensures.keeps in
-    same-lanes c.args.lanes.now (place c.args.at.lane c.args.at.place) c.args.world.now goes c.copy_of-rec.result is c.place_for.new.self there c.repeat.new.self c.repeat.ensures
+    same-lanes c.args.lanes.now (record_place c.args.at.lane c.args.at.place) c.args.world.now goes c.copy_of-rec.result is c.place_for.new.self there c.repeat.new.self c.repeat.ensures

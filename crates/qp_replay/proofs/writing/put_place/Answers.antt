@@ -3,7 +3,7 @@ use Rattle.std.proofs.lemmas.List.{get_or_default}
 use Rattle.qp_model.specs.declared.record.Rec.{Rec}
 use Rattle.qp_model.specs.Output.{record_item}
 use Rattle.qp_model.specs.OutputText.{line_text}
-use Rattle.qp_replay.specs.Remaining.{place}
+use Rattle.qp_replay.specs.Remaining.{record_place}
 use Rattle.qp_replay.proofs.RemainingLemmas.{lane-of}
 use Rattle.qp_replay.specs.Text.{place_line}
 use Rattle.qp_replay.proofs.ReplayedLemmas.{found-at, found-is, found-range, place-line}
@@ -24,7 +24,7 @@ index-requires g c =
 
 pub make_placed-requires : goal.make_placed-requires
 make_placed-requires g c =
-    let x = place c.args.at.lane c.args.at.place in
+    let x = record_place c.args.at.lane c.args.at.place in
     let f = found-at c.args.lanes.now x c.requires.stands in
     let same = found-is c.args.lanes.now x f c.index-lane.result.now c.index.result.now
     (c.index-lane.ensures ∙ ap (λ l. get_or l c.args.at.lane c.index-lane.result.now) c.lanes.view_is)
@@ -33,7 +33,7 @@ make_placed-requires g c =
 
 pub returns : goal.returns
 returns g c =
-    let x = place c.args.at.lane c.args.at.place in
+    let x = record_place c.args.at.lane c.args.at.place in
     let f = found-at c.args.lanes.now x c.requires.stands in
     let same = found-is c.args.lanes.now x f c.index-lane.result.now c.index.result.now
     (c.index-lane.ensures ∙ ap (λ l. get_or l c.args.at.lane c.index-lane.result.now) c.lanes.view_is)

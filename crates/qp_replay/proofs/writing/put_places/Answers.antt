@@ -9,7 +9,7 @@ use Rattle.qp_model.specs.declared.record.Rec.{Rec}
 use Rattle.qp_model.specs.Places.{RecordPlace}
 use Rattle.qp_replay.specs.declared.marks.At.{At}
 use Rattle.qp_replay.specs.Orders.{is_record}
-use Rattle.qp_replay.specs.Remaining.{place}
+use Rattle.qp_replay.specs.Remaining.{record_place}
 use Rattle.qp_replay.specs.Text.{place_line}
 use Rattle.qp_text.proofs.PieceLemmas.{pieces-all}
 use Rattle.qp_text.proofs.PutsLemmas.{pieces-cut, pieces-put}
@@ -18,19 +18,19 @@ use Rattle.qp_replay.proofs.writing.put_places.Goals as goal
 
 -- the line of a place
 abbrev line : ℕ → List (List Rec) → At → List ℕ
-line form lanes x = place_line form lanes (place x.lane x.place)
+line form lanes x = place_line form lanes (record_place x.lane x.place)
 
-lines : (form : ℕ) (lanes : List (List Rec)) (xs : List At) → flat_map (place_line form lanes) (map (λ x. place x.lane x.place) xs) ≡ flat_map (line form lanes) xs
-lines form lanes xs = flat_map-map (place_line form lanes) (λ x. place x.lane x.place) xs
+lines : (form : ℕ) (lanes : List (List Rec)) (xs : List At) → flat_map (place_line form lanes) (map (λ x. record_place x.lane x.place) xs) ≡ flat_map (line form lanes) xs
+lines form lanes xs = flat_map-map (place_line form lanes) (λ x. record_place x.lane x.place) xs
 
 pub put_place-requires-clause-stands : goal.put_place-requires-clause-stands
 put_place-requires-clause-stands g c =
     let Stands : RecordPlace → Type 0 = λ x. IsTrue (is_record c.args.lanes.now x) in
-    let all : AllByRecursion Stands (map (λ (x : At). place x.lane x.place) c.places.inside.items.items) =
+    let all : AllByRecursion Stands (map (λ (x : At). record_place x.lane x.place) c.places.inside.items.items) =
     subst (AllByRecursion Stands) (sym c.places.view_is) c.requires.stand in
-    let read : AllByRecursion Stands (map (λ (x : At). place x.lane x.place) c.deref-at-items.result.now) =
-    subst (λ xs. AllByRecursion Stands (map (λ (x : At). place x.lane x.place) xs)) (sym c.deref-at-items.ensures.value) all in
-    image-at Stands (λ (x : At). place x.lane x.place) c.deref-at-items.result.now c.loop-at.at-index _ read c.loop-at-test.true
+    let read : AllByRecursion Stands (map (λ (x : At). record_place x.lane x.place) c.deref-at-items.result.now) =
+    subst (λ xs. AllByRecursion Stands (map (λ (x : At). record_place x.lane x.place) xs)) (sym c.deref-at-items.ensures.value) all in
+    image-at Stands (λ (x : At). record_place x.lane x.place) c.deref-at-items.result.now c.loop-at.at-index _ read c.loop-at-test.true
 
 pub returns-in_err-put_place : goal.returns-in_err-put_place
 returns-in_err-put_place g c =

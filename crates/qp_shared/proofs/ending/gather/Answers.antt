@@ -4,7 +4,7 @@ use Rattle.qp_table.specs.Counting.{Each}
 use Rattle.qp_table.specs.After.{views_joined}
 use Rattle.qp_side.specs.Told.{both_of}
 use Rattle.qp_shared_ends.specs.Joining.{side_of, table_of}
-use Rattle.qp_shared.specs.Ending.{IsOn, states}
+use Rattle.qp_shared.specs.Ending.{IsOn, lane_states}
 use Rattle.qp_shared.proofs.Handing.{each-mid, joined-more, both-more, recs-more}
 use Rattle.qp_shared.proofs.ending.gather.Goals as goal
 
@@ -14,7 +14,7 @@ take_in-its-requires-clause-on c =
     let all = at.invariant.0 ∙ c.into_iter-lane-iterator.ensures.into_iter_gives.0 in
     let steps : into_iter_items at.lane-iterator ≡ c.in-Some.lane ∷ into_iter_items c.next.new.self = c.in-Some.ensures.steps.0 in
     each-mid (IsOn c.args.words.now.shared.table_id c.args.side.now.shared.table_id) at.yielded c.in-Some.lane (into_iter_items c.next.new.self)
-    (subst (λ xs. Each (IsOn c.args.words.now.shared.table_id c.args.side.now.shared.table_id) (states xs)) (sym all ∙ ap (λ xs. at.yielded ++ xs) steps) c.requires.on)
+    (subst (λ xs. Each (IsOn c.args.words.now.shared.table_id c.args.side.now.shared.table_id) (lane_states xs)) (sym all ∙ ap (λ xs. at.yielded ++ xs) steps) c.requires.on)
 
 pub loop-lane-preserved : goal.loop-lane-preserved
 loop-lane-preserved c =

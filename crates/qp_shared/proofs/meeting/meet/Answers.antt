@@ -5,7 +5,7 @@ use Rattle.qp_calls_log.specs.Meeting.{Met}
 use Rattle.qp_side.specs.Told.{both_of, side_onlooker}
 use Rattle.qp_side.specs.declared.view.SideView.{SideView}
 use Rattle.qp_shared_lane.specs.Holds.{LaneHolds, side_mark, told_by}
-use Rattle.qp_shared_lane.specs.Lane.{standing, lane_with, world_in, state_view}
+use Rattle.qp_shared_lane.specs.Lane.{lane_context, lane_with, world_of_lane, state_view}
 use Rattle.qp_shared_lane.specs.declared.lane.LaneState.{LaneState}
 use Rattle.qp_shared_lane.proofs.Used.{ends-same}
 use Rattle.qp_shared_ends.specs.Seats.{IsOnePast}
@@ -40,7 +40,7 @@ invariant_of-lane c =
       rings_key = l.rings_key;
       ended = ends-same l.ends.at l.seat.me.0 c.know_past.new.seat.me.0 (ap (λ (z : View). z.used) u) l.ended;
       holds = subst (λ (p : View × SideView). LaneHolds l.sys.now l.count l.ceiling l.log l.numbers.list p.0 p.1) (λ i. (sym u i, sym z i))
-          (lane-keeps (world_in l) l.sys.now l.by l.count l.ceiling l.log l.numbers.list l.seat.me.0 o.seat.me.0 l.side.seat.me.0 o.side.seat.me.0 (standing (world_in o) o.sys.now o.by o.log o.seat.me.0 o.side.seat.me.0) (told_by o.log o.numbers.list o.seat.me.0) o.log.spare
+          (lane-keeps (world_of_lane l) l.sys.now l.by l.count l.ceiling l.log l.numbers.list l.seat.me.0 o.seat.me.0 l.side.seat.me.0 o.side.seat.me.0 (lane_context (world_of_lane o) o.sys.now o.by o.log o.seat.me.0 o.side.seat.me.0) (told_by o.log o.numbers.list o.seat.me.0) o.log.spare
           c.requires.sys (subst (λ k. IsOnePast k (met l.seat.me.0 o.seat.me.0)) l.key past) (λ x. ap (λ y. side_mark y o.side.seat.me.0 x) c.requires.sys) l.holds);
     }
 
@@ -51,6 +51,6 @@ returns-clause-meets c =
     let u = view-is l.seat.me.0 o.seat.me.0 c.look_on-seen.result.me.0 c.join_seats.new.seat.me.0 c.know_past.new.seat.me.0 c.look_on-seen.ensures.seat c.join_seats.ensures.both c.know_past.ensures.told.0 in
     let z = side-is l.side.seat.me.0 o.side.seat.me.0 c.look_on-heard.result.me.0 c.join_seats-2.new.seat.me.0 l.side.lane c.look_on-heard.ensures.seat c.join_seats-2.ensures.both in
     let past : IsOnePast l.words.now.shared.key (met l.seat.me.0 o.seat.me.0) = subst (IsOnePast l.words.now.shared.key) (sym c.know_past.ensures.told.0 ∙ u) c.know_past.ensures.told.1 in
-    subst (λ (p : View × SideView). Met (state_view l) (state_view o) (lane_with (world_in l) l.sys.now l.by l.log l.numbers.list p.0 p.1)) (λ i. (sym u i, sym z i))
-    (lane-meets (world_in l) l.sys.now l.by l.count l.ceiling l.log l.numbers.list l.seat.me.0 o.seat.me.0 l.side.seat.me.0 o.side.seat.me.0 (standing (world_in o) o.sys.now o.by o.log o.seat.me.0 o.side.seat.me.0) (told_by o.log o.numbers.list o.seat.me.0) o.log.spare
+    subst (λ (p : View × SideView). Met (state_view l) (state_view o) (lane_with (world_of_lane l) l.sys.now l.by l.log l.numbers.list p.0 p.1)) (λ i. (sym u i, sym z i))
+    (lane-meets (world_of_lane l) l.sys.now l.by l.count l.ceiling l.log l.numbers.list l.seat.me.0 o.seat.me.0 l.side.seat.me.0 o.side.seat.me.0 (lane_context (world_of_lane o) o.sys.now o.by o.log o.seat.me.0 o.side.seat.me.0) (told_by o.log o.numbers.list o.seat.me.0) o.log.spare
     c.requires.sys (subst (λ k. IsOnePast k (met l.seat.me.0 o.seat.me.0)) l.key past) (λ x. ap (λ y. side_mark y o.side.seat.me.0 x) c.requires.sys))

@@ -1,5 +1,5 @@
 use Rattle.std.proofs.Common.{◌+◌, ◌%◌, arith, sym, subst}
-use Rattle.qp_table.specs.After.{Steps}
+use Rattle.qp_table.specs.After.{WordSteps}
 use Rattle.qp_shared_blocks.specs.Ends.{AnotherTold}
 use Rattle.qp_shared_blocks.proofs.Ends.{another-tells}
 use Rattle.qp_shared_blocks.proofs.steps.another.Goals as goal
@@ -9,7 +9,7 @@ add-requires-clause-own c = let w = c.requires.wide in let at = c.block_at.ensur
 
 pub add-requires-clause-keeps : goal.add-requires-clause-keeps
 add-requires-clause-keeps c =
-    subst (λ w. Steps c.args.words.now.shared.key c.args.seat.now.id c.args.seat.now.me.0 w (λ n. (n + 4294967297) % 18446744073709551616) (AnotherTold c.args.words.now.shared.key c.args.by c.args.pool c.args.block c.args.seat.now.me.0)) (sym c.block_at.ensures)
+    subst (λ w. WordSteps c.args.words.now.shared.key c.args.seat.now.id c.args.seat.now.me.0 w (λ n. (n + 4294967297) % 18446744073709551616) (AnotherTold c.args.words.now.shared.key c.args.by c.args.pool c.args.block c.args.seat.now.me.0)) (sym c.block_at.ensures)
     (another-tells c.args.words.now.shared.key c.args.seat.now.id c.args.seat.now.me.0 c.requires.room c.args.by c.args.pool c.args.block c.args.name c.requires.place.0 c.requires.hand)
 
 pub returns-clause-told : goal.returns-clause-told

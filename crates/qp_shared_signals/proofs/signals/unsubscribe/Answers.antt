@@ -1,6 +1,6 @@
 use Rattle.std.proofs.Common.{◌==◌, refl, subst, ◌∙◌}
 use Rattle.qp_calls.specs.Clauses.{Unsubscribing}
-use Rattle.qp_side.specs.Calls.{Unsubscribes}
+use Rattle.qp_side.specs.Calls.{SideUnsubscribes}
 use Rattle.qp_shared_lane.specs.Lane.{state_view}
 use Rattle.qp_shared_signals.proofs.Calling.{spare-is, side-room, side-object, side-serves, side-signal, own-signal, own-object, unsubscribe-plain, unsubscribed, in-world}
 use Rattle.qp_shared_signals.proofs.signals.unsubscribe.Goals as goal
@@ -31,9 +31,9 @@ invariant_of-lane c = record {
   side_key = (λ i. (c.unsubscribe-rec.ensures.same.0 i).now.shared.key) ∙ c.args.lane.now.side_key;
   rings_key = c.args.lane.now.rings_key;
   ended = c.args.lane.now.ended;
-  holds = (unsubscribed c.args.lane.now c.unsubscribe-rec.new.self.seat.me.0 c.put.new.log c.put.new.numbers.list c.unsubscribe-rec.result 0 c.put.ensures.put c.put.ensures.spare c.args.sig (own-signal c.args.lane.now c.args.sig c.requires.signal) (own-object c.args.lane.now c.requires.serves) (c.unsubscribe-rec.result.kind == 32) refl (subst (λ k. Unsubscribes k c.args.lane.now.by c.args.sig c.args.lane.now.side.seat.me.0 c.unsubscribe-rec.result c.unsubscribe-rec.new.self.seat.me.0) c.args.lane.now.side_key c.unsubscribe-rec.ensures.unsubscribes)).0;
+  holds = (unsubscribed c.args.lane.now c.unsubscribe-rec.new.self.seat.me.0 c.put.new.log c.put.new.numbers.list c.unsubscribe-rec.result 0 c.put.ensures.put c.put.ensures.spare c.args.sig (own-signal c.args.lane.now c.args.sig c.requires.signal) (own-object c.args.lane.now c.requires.serves) (c.unsubscribe-rec.result.kind == 32) refl (subst (λ k. SideUnsubscribes k c.args.lane.now.by c.args.sig c.args.lane.now.side.seat.me.0 c.unsubscribe-rec.result c.unsubscribe-rec.new.self.seat.me.0) c.args.lane.now.side_key c.unsubscribe-rec.ensures.unsubscribes)).0;
 }
 
 pub returns : goal.returns
 returns c = in-world c.args.lane.now c.unsubscribe-rec.new.self.seat.me.0 c.put.new.log c.put.new.numbers.list c.unsubscribe-rec.result 0 c.put.ensures.put c.put.ensures.spare (λ v. Unsubscribing c.args.sig (state_view c.args.lane.now) v (c.unsubscribe-rec.result.kind == 32)) c.unsubscribe-rec.new.self.words.now.shared.table_id (λ i. (c.unsubscribe-rec.ensures.same.0 i).now.shared.table_id)
-    (unsubscribed c.args.lane.now c.unsubscribe-rec.new.self.seat.me.0 c.put.new.log c.put.new.numbers.list c.unsubscribe-rec.result 0 c.put.ensures.put c.put.ensures.spare c.args.sig (own-signal c.args.lane.now c.args.sig c.requires.signal) (own-object c.args.lane.now c.requires.serves) (c.unsubscribe-rec.result.kind == 32) refl (subst (λ k. Unsubscribes k c.args.lane.now.by c.args.sig c.args.lane.now.side.seat.me.0 c.unsubscribe-rec.result c.unsubscribe-rec.new.self.seat.me.0) c.args.lane.now.side_key c.unsubscribe-rec.ensures.unsubscribes)).1
+    (unsubscribed c.args.lane.now c.unsubscribe-rec.new.self.seat.me.0 c.put.new.log c.put.new.numbers.list c.unsubscribe-rec.result 0 c.put.ensures.put c.put.ensures.spare c.args.sig (own-signal c.args.lane.now c.args.sig c.requires.signal) (own-object c.args.lane.now c.requires.serves) (c.unsubscribe-rec.result.kind == 32) refl (subst (λ k. SideUnsubscribes k c.args.lane.now.by c.args.sig c.args.lane.now.side.seat.me.0 c.unsubscribe-rec.result c.unsubscribe-rec.new.self.seat.me.0) c.args.lane.now.side_key c.unsubscribe-rec.ensures.unsubscribes)).1

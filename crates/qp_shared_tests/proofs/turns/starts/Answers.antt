@@ -1,11 +1,11 @@
 use Rattle.std.proofs.Common.{subst, sym}
-use Rattle.qp_port_lanes.specs.At.{HasEmptyLane, IsMade}
+use Rattle.qp_port_lanes.specs.At.{HasEmptyLane, IsUnstartedHome}
 use Rattle.qp_wait.specs.Handed.{bell_view}
 use Rattle.qp_shared_tests.proofs.LampLemmas.{parked-grown, started-grown}
 use Rattle.qp_shared_tests.proofs.turns.starts.Goals as goal
 
 pub start-requires-clause-made : goal.start-requires-clause-made
-start-requires-clause-made c = let made = c.requires.made in subst (λ p. IsMade c.args.sys.now p c.args.home.now) (sym made.me) made
+start-requires-clause-made c = let made = c.requires.made in subst (λ p. IsUnstartedHome c.args.sys.now p c.args.home.now) (sym made.me) made
 
 pub start-requires-clause-empty : goal.start-requires-clause-empty
 start-requires-clause-empty c = subst (λ p. HasEmptyLane c.args.sys.now p (bell_view c.args.lane.now)) (sym c.requires.made.me) c.requires.empty

@@ -1,5 +1,5 @@
 use Rattle.std.proofs.Common.{arith, sym, subst}
-use Rattle.qp_table.specs.After.{Steps}
+use Rattle.qp_table.specs.After.{WordSteps}
 use Rattle.qp_table.specs.Told.{EyeTold}
 use Rattle.qp_table.proofs.StepLawLemmas.{eyes_tell}
 use Rattle.qp_shared_words.proofs.queues.look_before_post.Goals as goal
@@ -8,5 +8,5 @@ pub look-requires-clause-own : goal.look-requires-clause-own
 look-requires-clause-own c = let w = c.requires.wide in let at = c.queue_at.ensures in (c.requires.own, omega arith)
 
 pub look-requires-clause-keeps : goal.look-requires-clause-keeps
-look-requires-clause-keeps c = subst (λ w. Steps c.args.words.now.shared.key c.args.seat.now.id c.args.seat.now.me.0 w (λ n. n) (EyeTold c.args.words.now.shared.key c.args.object c.args.by c.args.margin c.args.seat.now.me.0)) (sym c.queue_at.ensures)
+look-requires-clause-keeps c = subst (λ w. WordSteps c.args.words.now.shared.key c.args.seat.now.id c.args.seat.now.me.0 w (λ n. n) (EyeTold c.args.words.now.shared.key c.args.object c.args.by c.args.margin c.args.seat.now.me.0)) (sym c.queue_at.ensures)
     (eyes_tell c.args.words.now.shared.key c.args.seat.now.id c.args.seat.now.me.0 c.requires.room c.args.object c.requires.object c.args.by c.args.margin)

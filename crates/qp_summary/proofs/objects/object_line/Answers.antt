@@ -8,7 +8,7 @@ use Rattle.qp_model.specs.Knowing.{records_of}
 use Rattle.qp_model.specs.Lawful.{dispatched, facts_of}
 use Rattle.qp_model.specs.OutputSummary.{IsStateText, count_events_taken}
 use Rattle.qp_model.specs.Told.{Told}
-use Rattle.qp_check_knowledge.specs.Knowledge.{facts_in}
+use Rattle.qp_check_knowledge.specs.Knowledge.{known_facts}
 use Rattle.qp_summary.specs.Coming.{HasCome}
 use Rattle.qp_summary.specs.declared.coming.Came.{Came}
 use Rattle.qp_summary.proofs.ComingLemmas.{records-home}
@@ -25,7 +25,7 @@ returns-in_ok-text-in-Some c =
     let d = c.args.d.now in
     let k = c.args.knowledge.now in
     let o = d.priority in
-    let all = records_of (facts_in k) o 0 (lane_items c.lane_at.result.now) in
+    let all = records_of (known_facts k) o 0 (lane_items c.lane_at.result.now) in
     let same = records-home k.sys.now sys k.journal.now j o c.home_lane-home.result c.lane_at.result.now c.requires.known.1 c.requires.known.2 c.home_lane-home.ensures c.lane_at.ensures in
     let on = subst (λ (x : Option Came). HasCome sys d all x) c.in-Some.is c.in_ok-read.ensures in
     let follow = course-follows sys j d (dispatched all) (ap dispatched same) c.requires.course in
@@ -47,7 +47,7 @@ returns-in-None c =
     let j = c.args.j.now in
     let d = c.args.d.now in
     let k = c.args.knowledge.now in
-    let all = records_of (facts_in k) d.priority 0 (lane_items c.lane_at.result.now) in
+    let all = records_of (known_facts k) d.priority 0 (lane_items c.lane_at.result.now) in
     let same = records-home k.sys.now sys k.journal.now j d.priority c.home_lane-home.result c.lane_at.result.now c.requires.known.1 c.requires.known.2 c.home_lane-home.ensures c.lane_at.ensures in
     let none = subst (λ (x : Option Came). HasCome sys d all x) c.in-None.is c.in_ok-read.ensures in
     absurd (none (course-follows sys j d (dispatched all) (ap dispatched same) c.requires.course))

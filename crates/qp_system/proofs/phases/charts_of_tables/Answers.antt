@@ -2,7 +2,7 @@ use Rattle.std.proofs.Common.{◌≤◌, length, map}
 use Rattle.std.proofs.lemmas.List.{length-map}
 use Rattle.std.proofs.lemmas.Result.{err_from_is_err_and}
 use Rattle.qp_system.specs.Later.{later_of}
-use Rattle.qp_system.specs.Within.{signal_name, object_name, names_of}
+use Rattle.qp_system.specs.Within.{signal_name, object_name, outer_names}
 use Rattle.qp_system.proofs.PassLemmas.{first-head, first-tail, readable-all}
 use Rattle.qp_chart_names.proofs.FaultLemmas.{none-next, none-last}
 use Rattle.qp_system.proofs.phases.charts_of_tables.Goals as goal
@@ -11,7 +11,7 @@ pub checked_charts-requires-clause-readable : goal.checked_charts-requires-claus
 checked_charts-requires-clause-readable c =
     let signals : length (map signal_name c.args.signals.now) ≤ 200 = rw (length-map c.args.signals.now signal_name) c.requires.signals in
     let objects : length (map object_name c.args.objects.now) ≤ 32 = rw (length-map c.args.objects.now object_name) c.requires.objects in
-    rw c.in_ok-names.ensures (readable-all (names_of c.args.signals.now c.args.objects.now) c.args.charts.now signals objects c.requires.each)
+    rw c.in_ok-names.ensures (readable-all (outer_names c.args.signals.now c.args.objects.now) c.args.charts.now signals objects c.requires.each)
 
 pub returns-in_err-tables_pass-clause-passes : goal.returns-in_err-tables_pass-clause-passes
 unfolding later_of

@@ -1,6 +1,6 @@
 use Rattle.std.proofs.Common.{◌∙◌, refl, arith}
 use Rattle.std.proofs.lemmas.Result.{err_from_is_err_and}
-use Rattle.qp_system.specs.Between.{placing_fault, timers_of}
+use Rattle.qp_system.specs.Between.{placing_fault, timer_count_of}
 use Rattle.qp_system.proofs.PassLemmas.{clear-none, clear-one, clear-all, first-at}
 use Rattle.qp_system.proofs.PlacingLemmas.{sum-more}
 use Rattle.qp_system.proofs.placing.objects_placed.Goals as goal
@@ -20,7 +20,7 @@ loop-i-preserved c = record {
   clear = clear-one (placing_fault c.args.charts.now) c.args.objects.now c.loop-i.i c.index-objects-i.result c.loop-i.invariant.clear
       c.loop-i-test.true c.index-objects-i.is c.in_ok-timers.ensures.passes;
   total = c.in_ok-timers.ensures.total.0
-      ∙ sum-more (timers_of c.args.charts.now) c.args.objects.now c.loop-i.i c.index-objects-i.result c.loop-i.timers
+      ∙ sum-more (timer_count_of c.args.charts.now) c.args.objects.now c.loop-i.i c.index-objects-i.result c.loop-i.timers
       c.loop-i-test.true c.index-objects-i.is c.loop-i.invariant.total;
   few = c.in_ok-timers.ensures.total.1;
 }

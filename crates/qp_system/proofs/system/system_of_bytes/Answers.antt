@@ -2,7 +2,7 @@ use Rattle.std.proofs.Common.{◌∙◌, refl}
 use Rattle.std.proofs.lemmas.Result.{err_from_is_err_and}
 use Rattle.qp_chart.specs.ChartOf.{IsChartOf}
 use Rattle.qp_chart.proofs.LegalLemmas.{Corresponds-length}
-use Rattle.qp_system.specs.Within.{names_of}
+use Rattle.qp_system.specs.Within.{outer_names}
 use Rattle.qp_system.proofs.PassedLemmas.{passed-from}
 use Rattle.qp_system.proofs.SoundLemmas.{read-few, system-is_sound}
 use Rattle.qp_system.proofs.SystemLemmas.{refuses-system, all-have_charts, all-within, objects-of}
@@ -31,7 +31,7 @@ timer_defs-requires c =
     let ordered = c.deref-2.ensures.value ∙ c.ordered.view_is in
     let charts = c.deref-3.ensures.value ∙ c.charts.view_is in
     let objects = c.deref-4.ensures.value ∙ c.objects.view_is in
-    let count = Corresponds-length (IsChartOf (names_of c.in_ok-raw.raw.signals c.in_ok-raw.raw.objects)) c.in_ok-raw.raw.charts c.in_ok-raw.charts c.in_ok-raw.ensures.ok.made in
+    let count = Corresponds-length (IsChartOf (outer_names c.in_ok-raw.raw.signals c.in_ok-raw.raw.objects)) c.in_ok-raw.raw.charts c.in_ok-raw.charts c.in_ok-raw.ensures.ok.made in
     rw (charts, objects) (all-within c.in_ok-raw.raw.charts c.in_ok-raw.charts c.by_priority-ordered.result c.in_ok-objects.objects count (rw (tables, ordered) at c.in_ok-objects.ensures))
 
 pub returns-clause-ok : goal.returns-clause-ok

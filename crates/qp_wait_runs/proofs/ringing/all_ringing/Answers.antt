@@ -5,7 +5,7 @@ use Rattle.qp_model.specs.declared.systems.System.{System}
 use Rattle.qp_model.proofs.ListLemmas.{nothing-left}
 use Rattle.qp_port_runs.specs.Handed.{lane_view}
 use Rattle.qp_wait.specs.Handed.{AreBellsOf}
-use Rattle.qp_wait_runs.specs.Places.{ParksFor, object_at}
+use Rattle.qp_wait_runs.specs.Places.{ParksFor, object_in_place}
 use Rattle.qp_wait_runs.proofs.Places.{parks-next}
 use Rattle.qp_wait_runs.proofs.ringing.all_ringing.Goals as goal
 
@@ -40,7 +40,7 @@ loop-lane-preserved c =
       fresh.1,
       let listed = c.deref.ensures.value ∙ ap (λ (s : System). s.objects) c.sys.view_is in
           let parks = c.in_ok-add.ensures.parks in
-          rw parks.are (parks-next c.args.sys.now.objects at.ringing.items parks.one at.invariant.6 (subst (λ (me : ℕ). ParksFor me parks.one) (c.object_at-me.ensures ∙ ap (λ ds. object_at ds c.len.result) listed ∙ ap (object_at c.args.sys.now.objects) (c.len.ensures ∙ at.ringing.ok.0)) parks.its)),
+          rw parks.are (parks-next c.args.sys.now.objects at.ringing.items parks.one at.invariant.6 (subst (λ (me : ℕ). ParksFor me parks.one) (c.object_at-me.ensures ∙ ap (λ ds. object_in_place ds c.len.result) listed ∙ ap (object_in_place c.args.sys.now.objects) (c.len.ensures ∙ at.ringing.ok.0)) parks.its)),
     )
 
 pub returns-clause-lanes : goal.returns-clause-lanes

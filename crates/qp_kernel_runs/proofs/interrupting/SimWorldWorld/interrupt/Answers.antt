@@ -9,7 +9,7 @@ use Rattle.qp_plain.specs.NewWorld.{log_in}
 use Rattle.qp_plain.specs.WorldView.{world_view}
 use Rattle.qp_calls_stimulus.specs.declared.doing.Stimulated.{Stimulated}
 use Rattle.qp_calls.specs.Clauses.{Stopped}
-use Rattle.qp_kernel.specs.Happenings.{told_by}
+use Rattle.qp_kernel.specs.Happenings.{told_by_source}
 use Rattle.qp_plain.specs.declared.world.PlainWorld.{PlainWorld}
 use Rattle.qp_kernel_runs.specs.Acting.{HasActed}
 use Rattle.qp_kernel_runs.specs.SimHolds.{SimHolds}
@@ -110,7 +110,7 @@ returns-in-Done g c =
     let before = ap (seated w.stim.now w.done.list) found.0 in (
       refl,
       happens-once c.args.look c.args.base (sim_view w) (sim_view c.act.new.self) (subst (λ (x : LaneView). Happens c.args.look c.args.base x (sim_view c.act.new.self)) before
-          (done-acted here c.args.sys.now made c.args.base c.if-base.rests resting live c.in-Some.j c.args.look c.act.new.self c.act.result few is acted (subst (λ (x : Stimulated). Amounts c.args.sys.now a.s (get_or w.begun.items c.in-Some.j 0 + 1) c.args.look (length (told_by (c.in-Some.j + 1) w.done.list)) a.g (world_view c.stopped.new.self) (world_view c.act.new.self.plain) x) c.in-Done.is a.amounts))),
+          (done-acted here c.args.sys.now made c.args.base c.if-base.rests resting live c.in-Some.j c.args.look c.act.new.self c.act.result few is acted (subst (λ (x : Stimulated). Amounts c.args.sys.now a.s (get_or w.begun.items c.in-Some.j 0 + 1) c.args.look (length (told_by_source (c.in-Some.j + 1) w.done.list)) a.g (world_view c.stopped.new.self) (world_view c.act.new.self.plain) x) c.in-Done.is a.amounts))),
     )
 
 pub returns-in-Memory : goal.returns-in-Memory
@@ -151,7 +151,7 @@ returns-in-Stopped g c =
     let before = ap (seated w.stim.now w.done.list) found.0 in (
       refl,
       stopped-once c.args.look c.args.base (sim_view w) (seated c.act.new.self.stim.now c.act.new.self.done.list (world_view c.stopped-in-Stopped.new.self)) (subst (λ (x : LaneView). IsStopped c.args.look c.args.base x (seated c.act.new.self.stim.now c.act.new.self.done.list (world_view c.stopped-in-Stopped.new.self))) before
-          (stopped-acted here c.args.sys.now made c.args.base c.if-base.rests resting live c.in-Some.j c.args.look c.act.new.self c.act.result few is acted c.stopped-in-Stopped.new.self c.stopped-in-Stopped.result c.stopped-in-Stopped.ensures (subst (λ (x : Stimulated). Amounts c.args.sys.now a.s (get_or w.begun.items c.in-Some.j 0 + 1) c.args.look (length (told_by (c.in-Some.j + 1) w.done.list)) a.g (world_view c.stopped.new.self) (world_view c.act.new.self.plain) x) c.in-Stopped.is a.amounts))),
+          (stopped-acted here c.args.sys.now made c.args.base c.if-base.rests resting live c.in-Some.j c.args.look c.act.new.self c.act.result few is acted c.stopped-in-Stopped.new.self c.stopped-in-Stopped.result c.stopped-in-Stopped.ensures (subst (λ (x : Stimulated). Amounts c.args.sys.now a.s (get_or w.begun.items c.in-Some.j 0 + 1) c.args.look (length (told_by_source (c.in-Some.j + 1) w.done.list)) a.g (world_view c.stopped.new.self) (world_view c.act.new.self.plain) x) c.in-Stopped.is a.amounts))),
     )
 
 pub invariant_of-self-in-Stopped : goal.invariant_of-self-in-Stopped

@@ -4,7 +4,7 @@ use Rattle.qp_model.specs.declared.stimulus.Stim.{Stim}
 use Rattle.qp_model.specs.Told.{for_object}
 use Rattle.qp_calls.specs.LaneView.{Happening}
 use Rattle.qp_calls.specs.Notes.{spills_told}
-use Rattle.qp_kernel.specs.Happenings.{told_by}
+use Rattle.qp_kernel.specs.Happenings.{told_by_source}
 use Rattle.qp_plain.specs.NewWorld.{chosen}
 use Rattle.qp_plain.specs.WorldView.{world_view}
 use Rattle.qp_kernel_runs.specs.declared.world.SimWorld.{SimWorld}
@@ -22,8 +22,8 @@ home : (w : SimWorld) → chosen w.plain ≡ 0
 home w = sym (lane-is w.plain) ∙ w.holds.home
 
 -- the lane of the source in this place has as many records as it tells
-had : (w : SimWorld) (j : ℕ) → j < length w.stim.now → length (get_or (world_view w.plain).aside.told (j + 1) []) ≡ length (told_by (j + 1) w.done.list)
-had w j lt = ap length (w.holds.sources (j + 1) (omega arith) (omega (arith, lt))) ∙ length-map (told_by (j + 1) w.done.list) (for_object 0)
+had : (w : SimWorld) (j : ℕ) → j < length w.stim.now → length (get_or (world_view w.plain).aside.told (j + 1) []) ≡ length (told_by_source (j + 1) w.done.list)
+had w j lt = ap length (w.holds.sources (j + 1) (omega arith) (omega (arith, lt))) ∙ length-map (told_by_source (j + 1) w.done.list) (for_object 0)
 
 few : (w : SimWorld) (j n : ℕ) → w.halted ≡ false → j < length w.stim.now → n ≡ get_or w.begun.items j 0 → n ≤ 1000001
 few w j n live lt is =
@@ -92,7 +92,7 @@ returns g c =
       leaves = visit.leaves;
       happened = visit.more_are;
       amounts =
-          subst (λ (k : ℕ). Amounts c.args.sys.now c.index-s.result.now (k + 1) c.args.look (length (told_by (c.args.j + 1) w.done.list)) visit.g (world_view w.plain) (world_view c.visit-answer.new.plain) c.visit-answer.result.0) n.number
+          subst (λ (k : ℕ). Amounts c.args.sys.now c.index-s.result.now (k + 1) c.args.look (length (told_by_source (c.args.j + 1) w.done.list)) visit.g (world_view w.plain) (world_view c.visit-answer.new.plain) c.visit-answer.result.0) n.number
           (subst (λ (k : ℕ). Amounts c.args.sys.now c.index-s.result.now (c.index-at.result.now + 1) c.args.look k visit.g (world_view w.plain) (world_view c.visit-answer.new.plain) c.visit-answer.result.0)
           (had w c.args.j c.requires.place) visit.amounts);
       plan = refl;

@@ -1,7 +1,7 @@
 use Rattle.std.proofs.Common.{refl}
-use Rattle.qp_packed.specs.Packing.{packed, records_in}
+use Rattle.qp_packed.specs.Packing.{packed, records_read}
 use Rattle.qp_packed.proofs.packed_lane.PackedLane.with_room.Goals as goal
 
 pub invariant_of-result : goal.invariant_of-result
-unfolding packed records_in
+unfolding packed records_read
 invariant_of-result c = record { packed = record { words = c.in_ok-with_capacity.ensures.items; count = refl; fit = tt }; last_is = refl; last_but_one_is = refl }

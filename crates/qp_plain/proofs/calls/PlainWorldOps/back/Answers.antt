@@ -5,7 +5,7 @@ use Rattle.qp_model.specs.WordLaw.{is_pool}
 use Rattle.qp_plain.specs.declared.book.Book.{Book}
 use Rattle.qp_plain.specs.declared.world.PlainWorld.{PlainWorld}
 use Rattle.qp_plain.specs.Book.{lists_of}
-use Rattle.qp_plain.specs.Tables.{place}
+use Rattle.qp_plain.specs.Tables.{block_place}
 use Rattle.qp_plain.specs.World.{WorldHolds}
 use Rattle.qp_plain.proofs.Calling.{stop-stays, pool-at, block-at}
 use Rattle.qp_plain.proofs.Few.{pool-few}
@@ -52,11 +52,11 @@ add-requires-clause-room c = c.requires.room
 
 pub invariant_of-self : goal.invariant_of-self
 invariant_of-self c = record {
-  holds = put c.args.self.now c.add.new.self c.args.f.pool c.from.result c.put.new.self (c.from.ensures ∙ c.pool-2.ensures) (block.back-holds c.args.self.now c.add.new.self c.back.result c.add.ensures.gains c.args.f c.ops-n.result c.from-to.result c.index_mut-word.result.now (pool-at c.args.self.now c.args.f.pool c.from.result c.index_mut-word.result.now (block-pool c.args.self.now.sys.now c.args.f.pool c.args.f.block (fresh-block c.args.self.now c.args.f c.requires.stands)).0 (c.from.ensures ∙ c.pool-2.ensures) c.index_mut-word.ensures.value) c.ops-n.ensures (c.from-to.ensures ∙ (block-at c.args.self.now c.args.f.pool c.args.f.block c.place.result c.index.result.now (fresh-block c.args.self.now c.args.f c.requires.stands) (c.place.ensures.value ∙ ap (λ x. place x c.block.result) c.pool.ensures ∙ ap (place c.args.f.pool) c.block.ensures) c.index.ensures).ops) c.requires.stands c.requires.used (c.back.ensures ∙ ap (λ x. record { of = c.args.self.now.by; body = Back x c.ops-n.result c.block-3.result c.from-to.result }) c.pool-3.ensures
+  holds = put c.args.self.now c.add.new.self c.args.f.pool c.from.result c.put.new.self (c.from.ensures ∙ c.pool-2.ensures) (block.back-holds c.args.self.now c.add.new.self c.back.result c.add.ensures.gains c.args.f c.ops-n.result c.from-to.result c.index_mut-word.result.now (pool-at c.args.self.now c.args.f.pool c.from.result c.index_mut-word.result.now (block-pool c.args.self.now.sys.now c.args.f.pool c.args.f.block (fresh-block c.args.self.now c.args.f c.requires.stands)).0 (c.from.ensures ∙ c.pool-2.ensures) c.index_mut-word.ensures.value) c.ops-n.ensures (c.from-to.ensures ∙ (block-at c.args.self.now c.args.f.pool c.args.f.block c.place.result c.index.result.now (fresh-block c.args.self.now c.args.f c.requires.stands) (c.place.ensures.value ∙ ap (λ x. block_place x c.block.result) c.pool.ensures ∙ ap (block_place c.args.f.pool) c.block.ensures) c.index.ensures).ops) c.requires.stands c.requires.used (c.back.ensures ∙ ap (λ x. record { of = c.args.self.now.by; body = Back x c.ops-n.result c.block-3.result c.from-to.result }) c.pool-3.ensures
       ∙ ap (λ x. record { of = c.args.self.now.by; body = Back c.args.f.pool c.ops-n.result x c.from-to.result }) c.block-3.ensures) c.put.new.self (c.put.ensures ∙ ap (λ x. record { count = c.index_mut-word.result.now.count + 1; free = with_number x c.index_mut-word.result.now.free }) c.block-2.ensures));
   stops = stop-stays c.args.self.now.stop c.args.self.now.book c.add.new.self c.add.ensures.gains.stays c.args.self.now.stops;
 }
 
 pub returns : goal.returns
-returns c = block.back-it c.args.self.now c.add.new.self c.back.result c.add.ensures.gains c.args.f c.ops-n.result c.from-to.result c.index_mut-word.result.now (pool-at c.args.self.now c.args.f.pool c.from.result c.index_mut-word.result.now (block-pool c.args.self.now.sys.now c.args.f.pool c.args.f.block (fresh-block c.args.self.now c.args.f c.requires.stands)).0 (c.from.ensures ∙ c.pool-2.ensures) c.index_mut-word.ensures.value) c.ops-n.ensures (c.from-to.ensures ∙ (block-at c.args.self.now c.args.f.pool c.args.f.block c.place.result c.index.result.now (fresh-block c.args.self.now c.args.f c.requires.stands) (c.place.ensures.value ∙ ap (λ x. place x c.block.result) c.pool.ensures ∙ ap (place c.args.f.pool) c.block.ensures) c.index.ensures).ops) c.requires.stands c.requires.used (c.back.ensures ∙ ap (λ x. record { of = c.args.self.now.by; body = Back x c.ops-n.result c.block-3.result c.from-to.result }) c.pool-3.ensures
+returns c = block.back-it c.args.self.now c.add.new.self c.back.result c.add.ensures.gains c.args.f c.ops-n.result c.from-to.result c.index_mut-word.result.now (pool-at c.args.self.now c.args.f.pool c.from.result c.index_mut-word.result.now (block-pool c.args.self.now.sys.now c.args.f.pool c.args.f.block (fresh-block c.args.self.now c.args.f c.requires.stands)).0 (c.from.ensures ∙ c.pool-2.ensures) c.index_mut-word.ensures.value) c.ops-n.ensures (c.from-to.ensures ∙ (block-at c.args.self.now c.args.f.pool c.args.f.block c.place.result c.index.result.now (fresh-block c.args.self.now c.args.f c.requires.stands) (c.place.ensures.value ∙ ap (λ x. block_place x c.block.result) c.pool.ensures ∙ ap (block_place c.args.f.pool) c.block.ensures) c.index.ensures).ops) c.requires.stands c.requires.used (c.back.ensures ∙ ap (λ x. record { of = c.args.self.now.by; body = Back x c.ops-n.result c.block-3.result c.from-to.result }) c.pool-3.ensures
     ∙ ap (λ x. record { of = c.args.self.now.by; body = Back c.args.f.pool c.ops-n.result x c.from-to.result }) c.block-3.ensures) c.add.ensures.spare

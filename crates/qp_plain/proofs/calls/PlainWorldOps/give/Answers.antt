@@ -7,7 +7,7 @@ use Rattle.qp_model.specs.WordLaw.{is_pool}
 use Rattle.qp_plain.specs.declared.book.Book.{Book}
 use Rattle.qp_plain.specs.declared.world.PlainWorld.{PlainWorld}
 use Rattle.qp_plain.specs.Book.{lists_of}
-use Rattle.qp_plain.specs.Tables.{place}
+use Rattle.qp_plain.specs.Tables.{block_place}
 use Rattle.qp_plain.specs.World.{WorldHolds}
 use Rattle.qp_plain.specs.WorldView.{world_view}
 use Rattle.qp_plain.proofs.Calling.{view_with, stop-stays, pool-at, block-at, lent-same}
@@ -27,8 +27,8 @@ kept : (w : PlainWorld) (b : Book) (k : ℕ) (q : Pool) → q ≡ get_or w.pools
     → WorldHolds w.sys.now (lists_of b) b.order.items (slice_set w.pools.items (k - 1) q) w.blocks.items w.cells.items w.queues.items w.signals.items w.timers.items
 kept w b k q e h = subst (λ z. WorldHolds w.sys.now (lists_of b) b.order.items z w.blocks.items w.cells.items w.queues.items w.signals.items w.timers.items) (sym (lent-same w.pools.items (k - 1) q e)) h
 
-put : (w : PlainWorld) (b : Book) (p k c at : ℕ) (x : Pool) (e : Ev) → k ≡ p → at ≡ place p c
-    → WorldHolds w.sys.now (lists_of b) b.order.items (slice_set w.pools.items (p - 1) x) w.blocks.items (slice_set w.cells.items (place p c) e) w.queues.items w.signals.items w.timers.items
+put : (w : PlainWorld) (b : Book) (p k c at : ℕ) (x : Pool) (e : Ev) → k ≡ p → at ≡ block_place p c
+    → WorldHolds w.sys.now (lists_of b) b.order.items (slice_set w.pools.items (p - 1) x) w.blocks.items (slice_set w.cells.items (block_place p c) e) w.queues.items w.signals.items w.timers.items
     → WorldHolds w.sys.now (lists_of b) b.order.items (slice_set w.pools.items (k - 1) x) w.blocks.items (slice_set w.cells.items at e) w.queues.items w.signals.items w.timers.items
 put w b p k c at x e kp ap_is h =
     subst (λ z. WorldHolds w.sys.now (lists_of b) b.order.items (slice_set w.pools.items (z - 1) x) w.blocks.items (slice_set w.cells.items at e) w.queues.items w.signals.items w.timers.items) (sym kp)

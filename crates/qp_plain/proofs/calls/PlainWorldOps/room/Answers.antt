@@ -7,7 +7,7 @@ use Rattle.qp_plain.specs.World.{WorldHolds}
 use Rattle.qp_plain.specs.WorldView.{world_view}
 use Rattle.qp_plain.proofs.Calling.{view_with, stop-stays, purses-same}
 use Rattle.qp_calls.specs.LaneView.{Roomier}
-use Rattle.qp_plain.specs.Book.{Keeps, IsRoomFault}
+use Rattle.qp_plain.specs.Book.{BookKeeps, IsRoomFault}
 use Rattle.qp_calls_log.specs.LaneLaws.{told-items}
 use Rattle.qp_plain.proofs.NoteCalls.{here-tells}
 use Rattle.qp_calls.specs.declared.answers.RoomFault.{RoomFault}
@@ -21,12 +21,12 @@ use Rattle.qp_model.proofs.RecordLemmas.{lane-length}
 told-here : (w : PlainWorld) → length (world_view w).told ≡ length w.book.here.recs.items
 told-here w = told-items w.book.here (world_view w) (here-tells w) ∙ lane-length w.book.here.recs.items
 
-moved : (w : PlainWorld) (b : Book) → Keeps w.book b → WorldHolds w.sys.now (lists_of b) b.order.items w.pools.items w.blocks.items w.cells.items w.queues.items w.signals.items w.timers.items
+moved : (w : PlainWorld) (b : Book) → BookKeeps w.book b → WorldHolds w.sys.now (lists_of b) b.order.items w.pools.items w.blocks.items w.cells.items w.queues.items w.signals.items w.timers.items
 moved w b keeps =
     subst (λ ls. WorldHolds w.sys.now ls b.order.items w.pools.items w.blocks.items w.cells.items w.queues.items w.signals.items w.timers.items) (sym keeps.lists)
     (subst (λ xs. WorldHolds w.sys.now (lists_of w.book) xs w.pools.items w.blocks.items w.cells.items w.queues.items w.signals.items w.timers.items) (sym keeps.order) w.holds)
 
-same-view : (w : PlainWorld) (b : Book) → Keeps w.book b → view_with w b ≡ view_of w.sys.now (lists_of w.book) w.book.order.items w.book.at b.here.spare w.by w.book.here.stops.list w.book.here.answered.list (purses_of w.book)
+same-view : (w : PlainWorld) (b : Book) → BookKeeps w.book b → view_with w b ≡ view_of w.sys.now (lists_of w.book) w.book.order.items w.book.at b.here.spare w.by w.book.here.stops.list w.book.here.answered.list (purses_of w.book)
 same-view w b keeps =
     ap (λ x. view_of w.sys.now x b.order.items b.at b.here.spare w.by b.here.stops.list b.here.answered.list (purses_of b)) keeps.lists
     ∙ ap (λ x. view_of w.sys.now (lists_of w.book) x b.at b.here.spare w.by b.here.stops.list b.here.answered.list (purses_of b)) keeps.order
@@ -35,11 +35,11 @@ same-view w b keeps =
     ∙ ap (λ x. view_of w.sys.now (lists_of w.book) w.book.order.items w.book.at b.here.spare w.by w.book.here.stops.list x (purses_of b)) keeps.stays.answered
     ∙ ap (λ x. view_of w.sys.now (lists_of w.book) w.book.order.items w.book.at b.here.spare w.by w.book.here.stops.list w.book.here.answered.list x) (purses-same w.book b keeps.stays.others keeps.stays.at)
 
-roomier : (w : PlainWorld) (b : Book) → Keeps w.book b → w.book.here.spare ≤ b.here.spare → Roomier (world_view w) (view_with w b)
+roomier : (w : PlainWorld) (b : Book) → BookKeeps w.book b → w.book.here.spare ≤ b.here.spare → Roomier (world_view w) (view_with w b)
 unfolding view_of
 roomier w b keeps more = subst (λ v. Roomier (world_view w) v) (sym (same-view w b keeps)) (record { same = refl; more = more })
 
-refused : (w : PlainWorld) (b : Book) (r : Result (Unit {0}) RoomFault) → Keeps w.book b → OnErr r (b.here.spare ≡ w.book.here.spare) → OnErr r (view_with w b ≡ world_view w)
+refused : (w : PlainWorld) (b : Book) (r : Result (Unit {0}) RoomFault) → BookKeeps w.book b → OnErr r (b.here.spare ≡ w.book.here.spare) → OnErr r (view_with w b ≡ world_view w)
 refused w b (Ok u) keeps same = tt
 refused w b (Err f) keeps same =
     same-view w b keeps

@@ -10,21 +10,21 @@ use Rattle.qp_plain_words.specs.Queue.{Queue}
 use Rattle.qp_plain_sound.specs.Log.{log_of}
 use Rattle.qp_plain.specs.declared.book.Book.{Book}
 use Rattle.qp_plain.specs.Book.{lists_of}
-use Rattle.qp_plain.specs.Fresh.{made, first_pool, first_queue, IsNewBook}
-use Rattle.qp_plain.specs.Tables.{no_block, no_signal, no_clock}
+use Rattle.qp_plain.specs.Fresh.{tabulated, free_pool, first_queue, IsNewBook}
+use Rattle.qp_plain.specs.Tables.{free_block, no_signal, no_clock}
 use Rattle.qp_plain.specs.World.{WorldHolds}
 use Rattle.qp_plain.proofs.FreshLemmas.{blocks-few, stop-new, view-new, world-new}
 use Rattle.qp_plain.proofs.world.PlainWorld.new.Goals as goal
 
 whole : (sys : System) (n : ℕ) (b : Book) (pools : List Pool) (blocks : List BlockWord) (cells : List Ev) (queues : List Queue) (signals : List SignalWord) (timers : List Clock)
-    → IsSound sys → IsNewBook n b → pools ≡ made (first_pool sys) (length sys.pools) → blocks ≡ replicate 480 no_block → length cells ≡ 480 → queues ≡ made (first_queue sys) 33
-    → signals ≡ made (λ k. no_signal) (length sys.signals) → timers ≡ made (λ k. no_clock) (length sys.timers)
+    → IsSound sys → IsNewBook n b → pools ≡ tabulated (free_pool sys) (length sys.pools) → blocks ≡ replicate 480 free_block → length cells ≡ 480 → queues ≡ tabulated (first_queue sys) 33
+    → signals ≡ tabulated (λ k. no_signal) (length sys.signals) → timers ≡ tabulated (λ k. no_clock) (length sys.timers)
     → WorldHolds sys (lists_of b) b.order.items pools blocks cells queues signals timers
 whole sys n b pools blocks cells queues signals timers sound new ps bs cs qs ss ts =
     subst (λ z. WorldHolds sys (lists_of b) b.order.items z blocks cells queues signals timers) (sym ps)
-    (subst (λ z. WorldHolds sys (lists_of b) b.order.items (made (first_pool sys) (length sys.pools)) blocks cells z signals timers) (sym qs)
-    (subst (λ z. WorldHolds sys (lists_of b) b.order.items (made (first_pool sys) (length sys.pools)) blocks cells (made (first_queue sys) 33) z timers) (sym ss)
-    (subst (λ z. WorldHolds sys (lists_of b) b.order.items (made (first_pool sys) (length sys.pools)) blocks cells (made (first_queue sys) 33) (made (λ k. no_signal) (length sys.signals)) z) (sym ts)
+    (subst (λ z. WorldHolds sys (lists_of b) b.order.items (tabulated (free_pool sys) (length sys.pools)) blocks cells z signals timers) (sym qs)
+    (subst (λ z. WorldHolds sys (lists_of b) b.order.items (tabulated (free_pool sys) (length sys.pools)) blocks cells (tabulated (first_queue sys) 33) z timers) (sym ss)
+    (subst (λ z. WorldHolds sys (lists_of b) b.order.items (tabulated (free_pool sys) (length sys.pools)) blocks cells (tabulated (first_queue sys) 33) (tabulated (λ k. no_signal) (length sys.signals)) z) (sym ts)
     (world-new sys n b blocks cells sound new bs cs))))
 
 no-log : (n : ℕ) (b : Book) → IsNewBook n b → log_of (lists_of b) b.order.items ≡ []

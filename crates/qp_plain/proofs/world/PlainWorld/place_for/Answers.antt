@@ -4,7 +4,7 @@ use Rattle.qp_model.specs.Ends.{is_spill}
 use Rattle.qp_model.specs.Record.{body_of, item_of}
 use Rattle.qp_plain.specs.declared.book.Book.{Book}
 use Rattle.qp_plain.specs.declared.world.PlainWorld.{PlainWorld}
-use Rattle.qp_plain.specs.Book.{Keeps, lists_of}
+use Rattle.qp_plain.specs.Book.{BookKeeps, lists_of}
 use Rattle.qp_plain.specs.World.{WorldHolds}
 use Rattle.qp_plain.proofs.Calling.{stop-stays}
 use Rattle.qp_plain.proofs.RepeatFacts.{few-here}
@@ -15,7 +15,7 @@ spill-is : (r : Rec) (b x : Bool) → b ≡ is_spill (body_of r) → b ≡ x →
 unfolding item_of
 spill-is r b x is e = sym is ∙ e
 
-moved : (w : PlainWorld) (b : Book) → Keeps w.book b → WorldHolds w.sys.now (lists_of b) b.order.items w.pools.items w.blocks.items w.cells.items w.queues.items w.signals.items w.timers.items
+moved : (w : PlainWorld) (b : Book) → BookKeeps w.book b → WorldHolds w.sys.now (lists_of b) b.order.items w.pools.items w.blocks.items w.cells.items w.queues.items w.signals.items w.timers.items
 moved w b keeps =
     subst (λ ls. WorldHolds w.sys.now ls b.order.items w.pools.items w.blocks.items w.cells.items w.queues.items w.signals.items w.timers.items) (sym keeps.lists)
     (subst (λ xs. WorldHolds w.sys.now (lists_of w.book) xs w.pools.items w.blocks.items w.cells.items w.queues.items w.signals.items w.timers.items) (sym keeps.order) w.holds)

@@ -1,10 +1,10 @@
 use Rattle.std.proofs.Common.{◌≡◌, ◌+◌, ◌<◌, ◌≤◌, ap, sym, refl, ◌∙◌, length, ℕ, arith, true}
 use Rattle.qp_model.specs.Lists.{is_first}
-use Rattle.qp_plain_words.specs.Places.{places}
+use Rattle.qp_plain_words.specs.Places.{bit_places}
 use Rattle.qp_plain_words.proofs.PlaceLemmas.{Lowest, lowest, some-bit, places-clear, length-clear}
 use Rattle.qp_plain_words.proofs.pool.PoolWord.take.Goals as goal
 
-lowest-of : (bits : ℕ) → 0 < length (places bits) → bits < 4294967296 → Lowest bits
+lowest-of : (bits : ℕ) → 0 < length (bit_places bits) → bits < 4294967296 → Lowest bits
 lowest-of bits some few = lowest bits (some-bit bits some) few
 
 pub overflow_shl-self : goal.overflow_shl-self

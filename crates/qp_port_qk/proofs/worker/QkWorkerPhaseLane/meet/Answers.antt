@@ -2,7 +2,7 @@ use Rattle.std.proofs.Common.{ap, refl, subst, sym}
 use Rattle.qp_calls.specs.LaneView.{LaneView}
 use Rattle.qp_port_lanes.proofs.Seeing.{seen-met}
 use Rattle.qp_port_qk.specs.Numbers.{numbers_of}
-use Rattle.qp_port_qk.specs.Workers.{IsSameWorker, MayTurn, same-itself}
+use Rattle.qp_port_qk.specs.Workers.{IsSameQkWorker, QkMayTurn, qk-same-itself}
 use Rattle.qp_port_qk.proofs.Seeing.{may-turn_still, numbers-still, same-worker}
 use Rattle.qp_port_qk.proofs.worker.QkWorkerPhaseLane.meet.Goals as goal
 
@@ -25,8 +25,8 @@ returns-clause-other_kept g c =
     let y = c.args.other.now in
     let v : LaneView = g.W.Ops.lane y.lane in
     record {
-      ready = subst (λ (u : LaneView). MayTurn g.W.World.acts y.sys.now y.budget y.turn y.job u) (sym c.meet.ensures.other) c.requires.other_ready;
-      same = subst (λ (u : LaneView). IsSameWorker y.sys.now y.sys.now y.budget y.budget y.job y.job v u) (sym c.meet.ensures.other) (same-itself y.sys.now y.budget y.job v);
+      ready = subst (λ (u : LaneView). QkMayTurn g.W.World.acts y.sys.now y.budget y.turn y.job u) (sym c.meet.ensures.other) c.requires.other_ready;
+      same = subst (λ (u : LaneView). IsSameQkWorker y.sys.now y.sys.now y.budget y.budget y.job y.job v u) (sym c.meet.ensures.other) (qk-same-itself y.sys.now y.budget y.job v);
       waits_still = refl;
       remains_still = refl;
       numbers_still = ap (λ (u : LaneView). numbers_of y.sys.now y.budget y.turn y.job u) c.meet.ensures.other;

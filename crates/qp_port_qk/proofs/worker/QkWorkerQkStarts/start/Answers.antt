@@ -1,7 +1,7 @@
 use Rattle.std.proofs.Common.{sym, ◌∙◌}
 use Rattle.qp_port_qk.proofs.Ending.{starts-end}
 use Rattle.qp_port_qk.proofs.Turning.{may-start}
-use Rattle.qp_port_qk.specs.Alone.{idle-started, start-alone}
+use Rattle.qp_port_qk.specs.Alone.{qk-idle-started, qk-start-alone}
 use Rattle.qp_port_qk.proofs.worker.QkWorkerQkStarts.start.Goals as goal
 
 pub returns-clause-ended : goal.returns-clause-ended
@@ -14,10 +14,10 @@ returns-clause-ended g c =
     }
 
 pub returns-clause-alone : goal.returns-clause-alone
-returns-clause-alone g c = start-alone c.args.self.now.sys.now c.start_job-self.result c.start_job-self.new.job (g.W.Ops.lane c.start_job-self.new.ops) c.start_job-self.ensures.alone
+returns-clause-alone g c = qk-start-alone c.args.self.now.sys.now c.start_job-self.result c.start_job-self.new.job (g.W.Ops.lane c.start_job-self.new.ops) c.start_job-self.ensures.alone
 
 pub returns-clause-started : goal.returns-clause-started
-returns-clause-started g c said = idle-started c.args.self.now.sys.now c.start_job-self.result c.start_job-self.new.job (g.W.Ops.lane c.start_job-self.new.ops) c.start_job-self.ensures.alone (sym c.is_idle.ensures ∙ said)
+returns-clause-started g c said = qk-idle-started c.args.self.now.sys.now c.start_job-self.result c.start_job-self.new.job (g.W.Ops.lane c.start_job-self.new.ops) c.start_job-self.ensures.alone (sym c.is_idle.ensures ∙ said)
 
 pub returns-clause-ready : goal.returns-clause-ready
 returns-clause-ready g c said =

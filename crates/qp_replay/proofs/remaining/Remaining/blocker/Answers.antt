@@ -4,7 +4,7 @@ use Rattle.std.proofs.lemmas.Bool.Decides.{nat_tests}
 use Rattle.qp_model.specs.Touches.{as_word}
 use Rattle.qp_model.specs.History.{Draws, Shows}
 use Rattle.qp_replay.specs.Marks.{has_mark}
-use Rattle.qp_replay.specs.Remaining.{IsRemaining, Standing}
+use Rattle.qp_replay.specs.Remaining.{IsRemaining, LaneFronts}
 use Rattle.qp_replay.proofs.RemainingLemmas.{draw-blocks, draw-free, match-map, none-free, show-blocks, show-free}
 use Rattle.qp_replay.proofs.remaining.Remaining.blocker.Goals as goal
 
@@ -12,7 +12,7 @@ pub returns-in-Some : goal.returns-in-Some
 returns-in-Some c =
     let draws = c.self.inside.draws in
     let shows = c.self.inside.shows in
-    let remaining = subst (λ (s : Standing). IsRemaining s.lanes s.fronts draws shows) c.self.view_is c.self.invariant in
+    let remaining = subst (λ (s : LaneFronts). IsRemaining s.lanes s.fronts draws shows) c.self.view_is c.self.invariant in
     let v = as_word c.in-Draws.word in
     let x = c.in-Some.x in
     let found = c.in-Some.ensures in
@@ -25,7 +25,7 @@ returns-in-None c =
     let st = c.args.self.now in
     let draws = c.self.inside.draws in
     let shows = c.self.inside.shows in
-    let remaining = subst (λ (s : Standing). IsRemaining s.lanes s.fronts draws shows) c.self.view_is c.self.invariant in
+    let remaining = subst (λ (s : LaneFronts). IsRemaining s.lanes s.fronts draws shows) c.self.view_is c.self.invariant in
     let v = as_word c.in-Draws.word in
     let mark = c.in-Draws.mark in
     match-map c.below-in-None.result _ _ _ _ c.below-in-None.ensures
@@ -42,7 +42,7 @@ returns-in-Shows c =
     let st = c.args.self.now in
     let draws = c.self.inside.draws in
     let shows = c.self.inside.shows in
-    let remaining = subst (λ (s : Standing). IsRemaining s.lanes s.fronts draws shows) c.self.view_is c.self.invariant in
+    let remaining = subst (λ (s : LaneFronts). IsRemaining s.lanes s.fronts draws shows) c.self.view_is c.self.invariant in
     let v = as_word c.in-Shows.word in
     let mark = c.in-Shows.mark in
     match-map c.within.result _ _ _ _ c.within.ensures

@@ -1,6 +1,6 @@
 use Rattle.std.proofs.Common.{◌≡◌, ◌∙◌, ◌<◌, [], length, get_or, ap, arith}
 use Rattle.std.proofs.lemmas.List.{get_or_default}
-use Rattle.qp_replay.specs.Remaining.{front, place}
+use Rattle.qp_replay.specs.Remaining.{front, record_place}
 use Rattle.qp_replay.proofs.RemainingLemmas.{lane-of, lane-small}
 use Rattle.qp_replay.proofs.remaining.Remaining.head.Goals as goal
 
@@ -28,4 +28,4 @@ returns c =
     let found = lane-of st.lanes c.args.lane (front st c.args.lane) c.requires in
     let within : c.args.lane < length c.self.inside.fronts.items = omega (arith, found.0, ap (λ s. length s.lanes) c.self.view_is, c.self.invariant.each) in
     let at : c.index-front.result.now ≡ front st c.args.lane = c.index-front.ensures ∙ get_or_default c.self.inside.fronts.items c.args.lane c.index-front.result.now 0 within ∙ ap (λ s. front s c.args.lane) c.self.view_is in
-    ap (place c.args.lane) at
+    ap (record_place c.args.lane) at

@@ -4,7 +4,7 @@ use Rattle.qp_model.specs.Record.{Item}
 use Rattle.qp_model.specs.Places.{item_at, touch_at}
 use Rattle.qp_check_lanes.specs.Keys.{key_of}
 use Rattle.qp_replay.specs.Marks.{has_mark}
-use Rattle.qp_replay.specs.Remaining.{draws_mark, place, record_in, shows_mark}
+use Rattle.qp_replay.specs.Remaining.{draws_mark, record_place, record_in, shows_mark}
 use Rattle.qp_replay.proofs.RemainingLemmas.{lane-next, length-fronts, one-front-more, no-lane, none-passed}
 use Rattle.qp_replay.proofs.remaining.Remaining.of.Goals as goal
 
@@ -27,9 +27,9 @@ loop-n-preserved c =
     record {
       fronts = one-front-more at c.loop-n.fronts.items _ c.loop-n.invariant.fronts c.in_ok-push.ensures.items;
       draws = λ w m i k. let f : Option Item → Bool = λ o. draws_mark w m (touch_at o) in
-          lane-next f refl front lane i k _ _ (c.loop-n.invariant.draws w m i k) (c.in_ok-put_lane.ensures.draws w m i k ∙ ap (λ a. has_mark c.loop-n.draws (key_of w) (m, i, k) || ((a == i) && f (record_in lane k))) (sym long)) ∙ ap (λ l. f (item_at l (place i k))) (sym next);
+          lane-next f refl front lane i k _ _ (c.loop-n.invariant.draws w m i k) (c.in_ok-put_lane.ensures.draws w m i k ∙ ap (λ a. has_mark c.loop-n.draws (key_of w) (m, i, k) || ((a == i) && f (record_in lane k))) (sym long)) ∙ ap (λ l. f (item_at l (record_place i k))) (sym next);
       shows = λ w m i k. let f : Option Item → Bool = λ o. shows_mark w m (touch_at o) in
-          lane-next f refl front lane i k _ _ (c.loop-n.invariant.shows w m i k) (c.in_ok-put_lane.ensures.shows w m i k ∙ ap (λ a. has_mark c.loop-n.shows (key_of w) (m, i, k) || ((a == i) && f (record_in lane k))) (sym long)) ∙ ap (λ l. f (item_at l (place i k))) (sym next);
+          lane-next f refl front lane i k _ _ (c.loop-n.invariant.shows w m i k) (c.in_ok-put_lane.ensures.shows w m i k ∙ ap (λ a. has_mark c.loop-n.shows (key_of w) (m, i, k) || ((a == i) && f (record_in lane k))) (sym long)) ∙ ap (λ l. f (item_at l (record_place i k))) (sym next);
     }
 
 pub invariant_of-result : goal.invariant_of-result
@@ -40,7 +40,7 @@ invariant_of-result c =
       small = c.requires;
       each = ap length c.loop-n.invariant.fronts ∙ length-fronts c.loop-n.n ∙ omega (arith, c.loop-n-test.false, c.loop-n.auto.n-end, ap length same);
       draws_are = λ w m i k.
-          c.loop-n.invariant.draws w m i k ∙ ap (λ l. draws_mark w m (touch_at (item_at l (place i k)))) all ∙ none-passed c.loop-n.n i k _ ∙ ap (λ fs. nat_le (get_or fs i 0) k && draws_mark w m (touch_at (item_at c.args.lanes.now (place i k)))) (sym c.loop-n.invariant.fronts);
+          c.loop-n.invariant.draws w m i k ∙ ap (λ l. draws_mark w m (touch_at (item_at l (record_place i k)))) all ∙ none-passed c.loop-n.n i k _ ∙ ap (λ fs. nat_le (get_or fs i 0) k && draws_mark w m (touch_at (item_at c.args.lanes.now (record_place i k)))) (sym c.loop-n.invariant.fronts);
       shows_are = λ w m i k.
-          c.loop-n.invariant.shows w m i k ∙ ap (λ l. shows_mark w m (touch_at (item_at l (place i k)))) all ∙ none-passed c.loop-n.n i k _ ∙ ap (λ fs. nat_le (get_or fs i 0) k && shows_mark w m (touch_at (item_at c.args.lanes.now (place i k)))) (sym c.loop-n.invariant.fronts);
+          c.loop-n.invariant.shows w m i k ∙ ap (λ l. shows_mark w m (touch_at (item_at l (record_place i k)))) all ∙ none-passed c.loop-n.n i k _ ∙ ap (λ fs. nat_le (get_or fs i 0) k && shows_mark w m (touch_at (item_at c.args.lanes.now (record_place i k)))) (sym c.loop-n.invariant.fronts);
     }

@@ -1,7 +1,7 @@
 use Rattle.std.proofs.Common.{ap, arith, length, subst, sym, ◌∙◌, ◌+◌}
 use Rattle.qp_shared.specs.Lane.{lane_view}
 use Rattle.qp_shared.specs.LaneLaws.{keeps-limit}
-use Rattle.qp_wait_rings.specs.Cords.{Settles, has_cord}
+use Rattle.qp_wait_rings.specs.Cords.{SettlesClaim, has_cord}
 use Rattle.qp_wait_rings.specs.Rung.{HasRung}
 use Rattle.qp_wait_rings.proofs.CordLemmas.{cord-there, few-claims, few-refusals, claim-settled, settled-added, settled-long, settled-taken, whole}
 use Rattle.qp_wait_rings.proofs.ops.RingingLaneOps.claim.Goals as goal
@@ -39,5 +39,5 @@ invariant_of-self g c =
           subst (λ cs. HasRung c.open_one.new.opened c.settle.new.refused cs (lane_view c.claim-claim.new.self)) (sym (whole l.cords.len c.settle.new.cords l.cords.items len long))
           (claim-settled l.opened l.refused l.cords.items (lane_view l.lane) (lane_view c.claim-claim.new.self) l.rung (keeps-limit l.lane) c.requires.room c.open_one.new.opened c.open_one.ensures.opened
           c.settle.new.cords c.settle.new.refused c.open_one.new.seat.me.0 c.settle.new.seat.me.0 c.args.to c.args.e c.args.margin c.claim-claim.result c.claim-claim.ensures.claims
-          (subst (λ cs. Settles c.args.to cs c.settle.new.cords l.refused c.settle.new.refused c.open_one.new.seat.me.0 c.settle.new.seat.me.0 c.claim-claim.result) c.as_mut_slice.ensures.value c.settle.ensures.settles));
+          (subst (λ cs. SettlesClaim c.args.to cs c.settle.new.cords l.refused c.settle.new.refused c.open_one.new.seat.me.0 c.settle.new.seat.me.0 c.claim-claim.result) c.as_mut_slice.ensures.value c.settle.ensures.settles));
     }

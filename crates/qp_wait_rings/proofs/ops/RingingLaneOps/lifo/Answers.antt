@@ -3,7 +3,7 @@ use Rattle.qp_shared.specs.Lane.{lane_view}
 use Rattle.qp_shared.specs.LaneLaws.{keeps-limit}
 use Rattle.qp_model.specs.WordLaw.{is_object}
 use Rattle.qp_calls.specs.Clauses.{ClaimsFront}
-use Rattle.qp_wait_rings.specs.Cords.{Settles, has_cord}
+use Rattle.qp_wait_rings.specs.Cords.{SettlesClaim, has_cord}
 use Rattle.qp_wait_rings.specs.Rung.{HasRung}
 use Rattle.qp_wait_rings.proofs.CordLemmas.{cord-there, few-claims, few-refusals, front-settled, settled-added, settled-long, settled-taken, whole}
 use Rattle.qp_wait_rings.proofs.ops.RingingLaneOps.lifo.Goals as goal
@@ -44,5 +44,5 @@ invariant_of-self g c =
           (front-settled l.opened l.refused l.cords.items (lane_view l.lane) (lane_view c.lifo-claim.new.self) l.rung (keeps-limit l.lane) c.requires.room c.open_one.new.opened c.open_one.ensures.opened
           c.settle.new.cords c.settle.new.refused c.open_one.new.seat.me.0 c.settle.new.seat.me.0 c.object_of-me.result c.args.e c.lifo-claim.result c.object_of-me.ensures.object
           (subst (λ u. ClaimsFront c.args.e u (lane_view c.lifo-claim.new.self) c.lifo-claim.result) c.object_of-me.ensures.stays c.lifo-claim.ensures.claims)
-          (subst (λ cs. Settles c.object_of-me.result cs c.settle.new.cords l.refused c.settle.new.refused c.open_one.new.seat.me.0 c.settle.new.seat.me.0 c.lifo-claim.result) c.as_mut_slice.ensures.value c.settle.ensures.settles));
+          (subst (λ cs. SettlesClaim c.object_of-me.result cs c.settle.new.cords l.refused c.settle.new.refused c.open_one.new.seat.me.0 c.settle.new.seat.me.0 c.lifo-claim.result) c.as_mut_slice.ensures.value c.settle.ensures.settles));
     }
