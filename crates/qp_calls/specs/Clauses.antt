@@ -16,7 +16,7 @@ use Rattle.qp_model.specs.declared.bodies.Body.TheVariants.{Nil, Seen, Short, In
 use Rattle.qp_model.specs.Record.{entry}
 use Rattle.qp_model.specs.Told.{Told, ToldItem, Event, plain, told_took, told_new, dropped, same_in}
 use Rattle.qp_model.specs.Sites.{ring_of}
-use Rattle.qp_model.specs.Parts.{is_static, room_before, sizes_of, members}
+use Rattle.qp_model.specs.Parts.{is_static, room_before, sizes_of, members, params_of}
 use Rattle.qp_model.specs.WordLaw.{is_object}
 use Rattle.qp_calls.specs.declared.tokens.Fresh.{Fresh}
 use Rattle.qp_calls.specs.declared.tokens.HeldEntry.{HeldEntry}
@@ -61,10 +61,6 @@ EntryStands (token.Pool h) v = StandsHold h v
 
 abbrev pub event_of : Ev → Event
 event_of ev = record { sig = ev.sig; pars = ev.pars.items }
-
--- how many parameters an event of the signal has
-abbrev pub params_of : System → ℕ → ℕ
-params_of sys sig = option_map_or (λ d. d.params) (slice_get sys.signals (sig - 4)) 0
 
 -- an event of the system
 pub record IsEvent (sys : System) (ev : Event) : Type 0 where

@@ -17,7 +17,8 @@ use Rattle.qp_calls.specs.declared.answers.Counts as counts
 use Rattle.qp_calls.specs.LaneView.{Shown, Counts, NotShown}
 use Rattle.qp_calls.specs.Clauses.{nil_by}
 use Rattle.qp_calls.specs.Notes.{stop_code}
-use Rattle.qp_calls_log.specs.Lane.{is_plain, nil_of, last_nil_in, is_caused_in}
+use Rattle.qp_calls_log.specs.Lane.{is_plain, nil_of, last_nil_in}
+use Rattle.qp_calls.specs.LaneLaws.{is_caused_in}
 
 abbrev pub regular : List Item → ℕ
 regular items = count_by (λ i. not (is_spill i.body)) items

@@ -14,7 +14,8 @@ use Rattle.qp_calls.specs.LaneView.{LaneView, handled_in, ceiling_in}
 use Rattle.qp_calls.specs.Notes.{IsNote, MayNote, MayStop, note_told, told_note, spare_after, stop_code, last_code}
 use Rattle.qp_calls.specs.Tokens.{Token, handles, hands_by, hands_after}
 use Rattle.qp_calls_log.specs.declared.log.Log.{Log}
-use Rattle.qp_calls_log.specs.Lane.{is_plain, is_caused_in, spill_place}
+use Rattle.qp_calls_log.specs.Lane.{is_plain, spill_place}
+use Rattle.qp_calls.specs.LaneLaws.{is_caused_in}
 use Rattle.qp_calls_log.specs.LaneLaws.{TellsLog, told-any}
 use Rattle.qp_calls_log.proofs.LogLemmas.{no-spills}
 

@@ -28,7 +28,3 @@ nil_of None = NotShown
 unfoldable pub last_nil_in : ℕ → Shown → List Item → Shown
 last_nil_in me x [] = x
 last_nil_in me x (i ∷ is) = last_nil_in me (nil_by me x i.of i.body) is
-
--- the code is 7, or that of a record
-abbrev pub is_caused_in : List Item → ℕ → Bool
-is_caused_in items code = (code == 7) || (nat_lt 0 code && list_any (λ i. stop_code i.body == code) items)

@@ -8,45 +8,41 @@ use Rattle.qp_model.specs.declared.bodies.Body.{Body}
 use Rattle.qp_model.specs.Record.{Item}
 use Rattle.qp_model.specs.Ends.{is_spill}
 use Rattle.qp_model.specs.History.{lane_items}
-use Rattle.qp_model.specs.Told.{ToldItem}
+use Rattle.qp_model.specs.Told.{ToldItem, untold}
 use Rattle.qp_calls.specs.LaneView.{LaneView, Shown}
 use Rattle.qp_calls.specs.Clauses.{last_nil, nil_by}
-use Rattle.qp_calls.specs.LaneLaws.{IsWithinLimit, HasCauses, is_caused}
+use Rattle.qp_calls.specs.LaneLaws.{IsWithinLimit, HasCauses, is_caused, is_caused_in}
 use Rattle.qp_calls.specs.Notes.{stop_code}
 use Rattle.qp_calls_log.specs.declared.log.Log.{Log}
-use Rattle.qp_calls_log.specs.Lane.{is_caused_in, last_nil_in}
-
--- a record without what is known beside it
-abbrev pub item_told : ToldItem → Item
-item_told t = record { of = t.of; body = t.told.body }
+use Rattle.qp_calls_log.specs.Lane.{last_nil_in}
 
 -- The lane tells the records of the log in their order. Its spare and the codes that it handed in are the log's.
 pub record TellsLog (g : Log) (v : LaneView) : Type 0 where
-  pub told : map item_told v.told ≡ lane_items g.recs.items
+  pub told : map untold v.told ≡ lane_items g.recs.items
   pub spare : v.spare ≡ g.spare
   pub stops : v.stops ≡ g.stops.list
 
 -- a test of what is told is one of the records
-pub told-count : (p : Body → Bool) (ts : List ToldItem) → count_by (λ t. p t.told.body) ts ≡ count_by (λ i. p i.body) (map item_told ts)
+pub told-count : (p : Body → Bool) (ts : List ToldItem) → count_by (λ t. p t.told.body) ts ≡ count_by (λ i. p i.body) (map untold ts)
 told-count p [] = refl
 told-count p (t ∷ ts) =
     sum_by-cons (λ u. cond (p u.told.body) 1 0) t ts
     ∙ ap (λ n. cond (p t.told.body) 1 0 + n) (told-count p ts)
-    ∙ sym (sum_by-cons (λ j. cond (p j.body) 1 0) (item_told t) (map item_told ts))
+    ∙ sym (sum_by-cons (λ j. cond (p j.body) 1 0) (untold t) (map untold ts))
 
-pub told-any : (p : Body → Bool) (ts : List ToldItem) → list_any (λ t. p t.told.body) ts ≡ list_any (λ i. p i.body) (map item_told ts)
+pub told-any : (p : Body → Bool) (ts : List ToldItem) → list_any (λ t. p t.told.body) ts ≡ list_any (λ i. p i.body) (map untold ts)
 told-any p [] = refl
 told-any p (t ∷ ts) = ap (λ b. p t.told.body || b) (told-any p ts)
 
 -- so is the last `nil` of a queue
-pub told-nil : (a : ℕ) (x : Shown) (ts : List ToldItem) → last_nil a x ts ≡ last_nil_in a x (map item_told ts)
+pub told-nil : (a : ℕ) (x : Shown) (ts : List ToldItem) → last_nil a x ts ≡ last_nil_in a x (map untold ts)
 unfolding last_nil last_nil_in
 told-nil a x [] = refl
 told-nil a x (t ∷ ts) = told-nil a (nil_by a x t.of t.told.body) ts
 
 module _ (g : Log) (v : LaneView) (tells : TellsLog g v) where
   pub told-items : length v.told ≡ length (lane_items g.recs.items)
-  told-items = sym (length-map v.told item_told) ∙ ap length tells.told
+  told-items = sym (length-map v.told untold) ∙ ap length tells.told
 
   pub keeps-limit : IsWithinLimit v
   keeps-limit =

@@ -9,7 +9,8 @@ ghost use Rattle.qp_model.specs.Ends.{is_spill};
 ghost use Rattle.qp_model.specs.History.{lane_items};
 ghost use Rattle.qp_calls.specs.LaneView.{NotShown};
 ghost use Rattle.qp_calls.specs.Clauses.{same_counts};
-ghost use Rattle.qp_calls_log.specs.Lane.{is_caused_in, is_plain, last_nil_in, nil_of, spill_place};
+ghost use Rattle.qp_calls_log.specs.Lane.{is_plain, last_nil_in, nil_of, spill_place};
+ghost use Rattle.qp_calls.specs.LaneLaws.{is_caused_in};
 
 use crate::codes::Codes;
 use qp_base::Memory;

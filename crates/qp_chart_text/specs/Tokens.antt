@@ -1,7 +1,7 @@
 -- The tokens of a text.
-use Rattle.std.specs.Prelude.{ℕ, ◌+◌, ◌-◌, ◌*◌, ℤ, pos, zero, suc, nat_eq, nat_le, ◌==◌, ◌||◌, ◌&&◌, not, Bool, List, [], ◌∷◌, length, take, drop, slice_index, Option, Some, None, codes, if◌then◌else◌}
+use Rattle.std.specs.Prelude.{ℕ, ◌+◌, ◌-◌, ◌*◌, ℤ, pos, zero, suc, nat_eq, nat_le, ◌==◌, ◌||◌, ◌&&◌, not, Bool, List, [], ◌∷◌, length, take, drop, slice_index, Option, Some, None, codes, if◌then◌else◌, false}
 use Rattle.std.specs.Char.{is_ascii_digit, is_ascii_alphabetic}
-use Rattle.std.specs.List.{prefix_len}
+use Rattle.std.specs.List.{prefix_len, list_all}
 use Rattle.std.specs.Cmp.Lexicographic.{pointwise}
 use Rattle.qp_chart_text.specs.declared.operators.Binary.{Binary}
 use Rattle.qp_chart_text.specs.declared.operators.Binary.TheVariants as binary
@@ -191,3 +191,8 @@ unfolding tokens_of
 tokens_of_text text =
     if is_space (slice_index text 0) || is_space (slice_index text (length text - 1)) then None
     else tokens_of (length text) text
+
+-- a letter or `_`, then letters, digits and `_`, however many
+unfoldable pub is_identifier : List ℕ → Bool
+is_identifier [] = false
+is_identifier (b ∷ bs) = is_letter b && list_all (λ c. is_letter c || is_ascii_digit c) bs

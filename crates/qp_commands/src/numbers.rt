@@ -1,7 +1,8 @@
 //! Numbers among the words of a call.
 
 ghost use Rattle.std.specs.Prelude.{◌≡◌};
-ghost use Rattle.qp_text.specs.Numbers.{fitting, number_of_decimal, value_after};
+ghost use Rattle.qp_text.specs.Numbers.{fitting, number_of_decimal};
+ghost use Rattle.qp_chart_text.specs.Tokens.{value_after};
 
 use itoa::Buffer;
 

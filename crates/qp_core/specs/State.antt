@@ -126,12 +126,6 @@ Applies s n o s' = (i : ℕ) × (x : Seat) × (position (stands_as n) s.seats �
 
 -- What is seen of it
 
-abbrev pub shown_by : List ℕ → Word → ℕ
-shown_by words (word.Pool p) = slice_index words (pool_at p)
-shown_by words (word.Block p b) = slice_index words (block_at p b)
-shown_by words (word.Queue a) = slice_index words (queue_at a)
-shown_by words _ = 0
-
 -- the records of a lane
 abbrev pub lane_records : ℕ → List SeatLog → List Rec
 lane_records n [] = []

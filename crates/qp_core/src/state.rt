@@ -4,7 +4,8 @@ ghost use Rattle.std.specs.Prelude.{◌≡◌, ℕ, ◌<◌, ◌≤◌, ◌++◌
 ghost use Rattle.std.specs.List.{position};
 ghost use Rattle.qp_model.specs.Sound.{IsSound};
 ghost use Rattle.qp_table.specs.First.{first_word, first_serve, first_serves};
-ghost use Rattle.qp_core.specs.State.{stands_as, bare_seat, shown_by, lane_records, records_at, SetsBy};
+ghost use Rattle.qp_core.specs.State.{stands_as, bare_seat, lane_records, records_at, SetsBy};
+ghost use Rattle.qp_core_steps.specs.Looks.{word_in};
 ghost use Rattle.qp_core.specs.Runs.{HoldsOf, IsFirstState, first_seat};
 
 use crate::splits::add_seat;
@@ -191,7 +192,7 @@ impl<'a> CoreState<'a> {
 
     /// What a pool's, a block's or a queue's word shows; 0 for the words of other tables.
     pub fn word(&self, w: Word) -> u64
-        ensures { result ≡ shown_by self.now.words w }
+        ensures { result ≡ word_in self.now.words w }
     {
         match w {
             Word::Pool(p) => self.words.get(pool_at(p)),

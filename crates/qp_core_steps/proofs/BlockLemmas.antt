@@ -14,7 +14,8 @@ use Rattle.qp_model.specs.declared.bodies.Body.TheVariants.{Back, New}
 use Rattle.qp_model.specs.Sites.{blocks_of}
 use Rattle.qp_model.specs.WordLaw.{is_pool, is_block}
 use Rattle.qp_table.specs.Counting.{Each, sum_over, many, without}
-use Rattle.qp_table.specs.Rule.{pool_at, block_at, event_word_at, bits_value, is_ref, is_spot, gives_of, fills_of, params_of, IsContent, Tells, Holds}
+use Rattle.qp_table.specs.Rule.{pool_at, block_at, event_word_at, bits_value, is_ref, is_spot, gives_of, fills_of, IsContent, Tells, Holds}
+use Rattle.qp_model.specs.Parts.{params_of}
 use Rattle.qp_table.specs.After.{spot, ref, reference_dropped, began, doubled, gave, filled, put_back}
 use Rattle.qp_table.specs.declared.view.Glance.{Glance}
 use Rattle.qp_table.specs.declared.view.Spot.{Spot}
@@ -26,7 +27,8 @@ use Rattle.qp_table.proofs.Bounds.{Ascends, pool-ascends, pool-count, map-small,
 use Rattle.qp_table.proofs.Steps.{pool-of, begins, doubles, drops, gives, puts_back, block-below, x-count, y-is}
 use Rattle.qp_table.proofs.Contents.{fills_in}
 use Rattle.qp_core_steps.specs.Seats.{as_view, seat_may_act, may_add, glance, noting}
-use Rattle.qp_core_steps.specs.Blocks.{added, number_of_word, low_in, lowest, bit_of, block_size, fits, has_left, is_unfinished, may_give, SeatGives, with_give, asks_for, may_fill, Fills, is_ref_to, is_give_over, has_ready, may_make, with_ref, SeatMakes, may_drop, without_ref, SeatDrops, may_back, Backs}
+use Rattle.qp_core_steps.specs.Blocks.{added, number_of_word, low_in, lowest, bit_of, block_size, fits, has_left, may_give, SeatGives, with_give, asks_for, may_fill, Fills, is_ref_to, is_give_over, has_ready, may_make, with_ref, SeatMakes, may_drop, without_ref, SeatDrops, may_back, Backs}
+use Rattle.qp_table.specs.Asked.{is_unfinished}
 use Rattle.qp_core_steps.specs.Keeps.{StepKeeps}
 use Rattle.qp_core_steps.specs.declared.seats.Seat.{Seat}
 use Rattle.qp_core_steps.proofs.ListLemmas.{any-many, none-many}

@@ -23,7 +23,8 @@ use Rattle.qp_table.specs.QueueLaws.{f_in, l_in, m_in}
 use Rattle.qp_table.proofs.Looks.{looks, looks_from, shows-short, shows-no_block, shows-seen, shows-nil, shows-full, shows-no_entry, shows-no_lifo}
 use Rattle.qp_core_steps.specs.Seats.{as_view, noting}
 use Rattle.qp_core_steps.specs.Blocks.{number_of_word, low_in}
-use Rattle.qp_core_steps.specs.Looks.{is_word, ones, counts_match, entry_count, states_pool, states_queue, states, shown, may_state, may_look, looked}
+use Rattle.qp_core_steps.specs.Looks.{ones, counts_match, entry_count, states_pool, states_queue, states, shown, may_state, may_look, looked}
+use Rattle.qp_table.specs.Words.{is_here}
 use Rattle.qp_core_steps.specs.Keeps.{StepKeeps}
 use Rattle.qp_core_steps.specs.declared.seats.Seat.{Seat}
 use Rattle.qp_core_steps.proofs.Standing.{has-room}
@@ -133,7 +134,7 @@ module _ (sys : System) (lanes : ℕ) (words : List ℕ) (x : Seat) (own : nat_l
   pub rest-keeps : StepKeeps sys words x words x
   rest-keeps views id holds at_id = subst (Holds sys words) (sym (set_again views id (as_view x) at_id)) holds
 
-  look-with : (w : Word) (r : Rec) → is_word sys w ≡ true → may_state sys lanes words x w (Some r) ≡ true → StepKeeps sys words x words (noting r (shown words w) x)
+  look-with : (w : Word) (r : Rec) → is_here sys w ≡ true → may_state sys lanes words x w (Some r) ≡ true → StepKeeps sys words x words (noting r (shown words w) x)
   look-with (word.Pool q) r there h views id holds at_id =
       let t = adds lanes x (states sys words (word.Pool q) x.by r) h in
       pool-shown sys lanes words x own views id holds at_id r t.0 q there (body_of r) refl t.1
@@ -144,7 +145,7 @@ module _ (sys : System) (lanes : ℕ) (words : List ℕ) (x : Seat) (own : nat_l
   look-with (word.Signal q) r there h views id holds at_id = cc
   look-with (word.Timer q) r there h views id holds at_id = cc
 
-  look-without : (w : Word) → is_word sys w ≡ true → StepKeeps sys words x words (looked words x w None)
+  look-without : (w : Word) → is_here sys w ≡ true → StepKeeps sys words x words (looked words x w None)
   look-without (word.Pool q) there views id holds at_id =
       let z = (holds.fitting.small q there).0 in looks sys words views holds id (as_view x) at_id (pool_at q) (omega arith)
   look-without (word.Queue q) there views id holds at_id =
@@ -156,5 +157,5 @@ module _ (sys : System) (lanes : ℕ) (words : List ℕ) (x : Seat) (own : nat_l
   look-without (word.Timer q) there views id holds at_id = cc
 
   pub look-keeps : (w : Word) (rec : Option Rec) → may_look sys lanes words x w rec ≡ true → StepKeeps sys words x words (looked words x w rec)
-  look-keeps w None h = look-without w (and_parts (is_word sys w) (may_state sys lanes words x w None) h).0
-  look-keeps w (Some r) h = let t = and_parts (is_word sys w) (may_state sys lanes words x w (Some r)) h in look-with w r t.0 t.1
+  look-keeps w None h = look-without w (and_parts (is_here sys w) (may_state sys lanes words x w None) h).0
+  look-keeps w (Some r) h = let t = and_parts (is_here sys w) (may_state sys lanes words x w (Some r)) h in look-with w r t.0 t.1

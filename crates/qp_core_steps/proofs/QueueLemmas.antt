@@ -26,7 +26,8 @@ use Rattle.qp_table.proofs.Cells.{lays, empties}
 use Rattle.qp_table.proofs.QueueSteps.{claims, frees, lifos}
 use Rattle.qp_core_steps.specs.Seats.{as_view, seat_may_act, may_add, glance, noting}
 use Rattle.qp_core_steps.specs.Blocks.{added}
-use Rattle.qp_core_steps.specs.Queues.{bumped, entry_for, in_hand, has_free_entry as has_free, operations_in, serves_it, may_claim, with_claim, SeatClaims, older, oldest_claim, code_of_entry, is_claimed, may_lay, Lays, front_at, before_at, decoded_entry, may_empty, SeatEmpties, may_free, Frees, may_lifo, Lifos}
+use Rattle.qp_core_steps.specs.Queues.{bumped, entry_for, in_hand, has_free_entry as has_free, operations_in, serves_it, may_claim, with_claim, SeatClaims, oldest_claim, code_of_entry, is_claimed, may_lay, Lays, front_at, before_at, decoded_entry, may_empty, SeatEmpties, may_free, Frees, may_lifo, Lifos}
+use Rattle.qp_table.specs.Asked.{older}
 use Rattle.qp_core_steps.specs.Keeps.{StepKeeps}
 use Rattle.qp_core_steps.specs.declared.seats.Seat.{Seat}
 use Rattle.qp_core_steps.proofs.ListLemmas.{any-many, none-many}

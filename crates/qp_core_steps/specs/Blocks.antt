@@ -9,13 +9,15 @@ use Rattle.qp_model.specs.declared.bodies.Body.TheVariants.{Inc, Dec, Back, New}
 use Rattle.qp_model.specs.Record.{item_of}
 use Rattle.qp_model.specs.WordLaw.{is_pool, is_block}
 use Rattle.qp_table.specs.Counting.{without}
-use Rattle.qp_table.specs.Rule.{pool_at, block_at, event_word_at, is_ref, is_spot, gives_of, fills_of, fills_with, params_of}
+use Rattle.qp_table.specs.Rule.{pool_at, block_at, event_word_at, is_ref, is_spot, gives_of, fills_of, fills_with}
+use Rattle.qp_model.specs.Parts.{params_of}
 use Rattle.qp_table.specs.After.{spot, ref, begun_give, fills_for}
 use Rattle.qp_table.specs.declared.view.PendingGive.{PendingGive}
 use Rattle.qp_table.specs.declared.view.Fill.{Fill}
 use Rattle.qp_table.specs.declared.view.Glance.{Glance}
 use Rattle.qp_core_steps.specs.Seats.{seat_may_act, may_add, glance, noting}
 use Rattle.qp_core_steps.specs.declared.seats.Seat.{Seat}
+use Rattle.qp_table.specs.Asked.{is_unfinished}
 
 -- an addition to a word
 abbrev pub added : ℕ → ℕ → ℕ
@@ -48,9 +50,6 @@ fits sys p sig pars = nat_le 4 sig && nat_lt sig (length sys.signals + 4) && (le
 -- a give is finished where the beginning of the life was read and no word is left to be written
 abbrev pub has_left : List Fill → PendingGive → Bool
 has_left fills g = list_any (fills_of g.pool g.block) fills
-
-abbrev pub is_unfinished : List Fill → PendingGive → Bool
-is_unfinished fills g = not g.read || has_left fills g
 
 -- Give
 

@@ -19,26 +19,13 @@ use Rattle.qp_core_steps.specs.Seats.{seat_may_act, may_add, glance, seat_seeing
 use Rattle.qp_core_steps.specs.Blocks.{number_of_word, low_in, block_size, is_ref_to}
 use Rattle.qp_core_steps.specs.Queues.{serves_it}
 use Rattle.qp_core_steps.specs.declared.seats.Seat.{Seat}
-
--- a word of the event table that the system has, and what it shows
-abbrev pub is_word : System → Word → Bool
-is_word sys (word.Pool p) = is_pool sys p
-is_word sys (word.Block p b) = is_block sys p b
-is_word sys (word.Queue a) = is_object sys a
-is_word sys _ = false
+use Rattle.qp_table.specs.Words.{is_here, place_of}
 
 abbrev pub word_in : List ℕ → Word → ℕ
 word_in words (word.Pool p) = slice_index words (pool_at p)
 word_in words (word.Block p b) = slice_index words (block_at p b)
 word_in words (word.Queue a) = slice_index words (queue_at a)
 word_in words _ = 0
-
--- and where it stands
-abbrev pub place_in : Word → ℕ
-place_in (word.Pool p) = pool_at p
-place_in (word.Block p b) = block_at p b
-place_in (word.Queue a) = queue_at a
-place_in _ = 0
 
 -- how many of so many bits are 1
 abbrev pub ones : ℕ → ℕ → ℕ
@@ -79,11 +66,11 @@ may_state sys lanes words x w None = true
 may_state sys lanes words x w (Some r) = may_add lanes x && states sys words w x.by r
 
 abbrev pub may_look : System → ℕ → List ℕ → Seat → Word → Option Rec → Bool
-may_look sys lanes words x w rec = is_word sys w && may_state sys lanes words x w rec
+may_look sys lanes words x w rec = is_here sys w && may_state sys lanes words x w rec
 
 -- what the word shows
 abbrev pub shown : List ℕ → Word → Glance
-shown words w = glance (place_in w) (word_in words w)
+shown words w = glance (place_of w) (word_in words w)
 
 -- a look at a block's word reads where the life of a fresh block begins
 abbrev pub looked : List ℕ → Seat → Word → Option Rec → Seat

@@ -20,6 +20,7 @@ use Rattle.qp_table.specs.QueueLaws.{f_in, l_in, m_in}
 use Rattle.qp_core_steps.specs.Seats.{seat_may_act, may_add, glance, noting}
 use Rattle.qp_core_steps.specs.Blocks.{added}
 use Rattle.qp_core_steps.specs.declared.seats.Seat.{Seat}
+use Rattle.qp_table.specs.Asked.{older}
 
 -- the entry that a step names: pool 0 means the static signal `name`
 abbrev pub entry_for : ℕ → ℕ → ℕ → Entry
@@ -62,11 +63,6 @@ SeatClaims sys words x a p b k words' x' =
     × (x' ≡ with_claim x r (glance (queue_at a) (added w 1)) a (f_in w % (ring_of sys a + 1)) (entry_for p b k) (operations_in (added w 1)))
 
 -- Lay
-
--- the one that was claimed first
-abbrev pub older : CellPlace → Option CellPlace → CellPlace
-older x None = x
-older x (Some y) = if nat_le x.number y.number then x else y
 
 abbrev pub oldest_claim : ℕ → List CellPlace → Option CellPlace
 oldest_claim a [] = None

@@ -6,7 +6,8 @@ ghost use Rattle.qp_table.specs.After.{reading};
 ghost use Rattle.qp_core_steps.specs.Words.{StepsAs};
 ghost use Rattle.qp_table.specs.QueueLaws.{f_in, l_in, m_in};
 ghost use Rattle.qp_core_steps.specs.Seats.{may_add, noting};
-ghost use Rattle.qp_core_steps.specs.Looks.{is_word, ones, counts_match, entry_count, states_pool, states_queue, states, shown, may_look, looked, may_read, may_peek};
+ghost use Rattle.qp_core_steps.specs.Looks.{ones, counts_match, entry_count, states_pool, states_queue, states, shown, may_look, looked, may_read, may_peek};
+ghost use Rattle.qp_table.specs.Words.{is_here};
 
 use crate::asked::{has_block, has_object, has_pool, size_of};
 use crate::blocks::ONE;
@@ -23,7 +24,7 @@ use std::alloc::Global;
 
 /// Whether it is a word of the event table that the system has.
 pub fn is_word(sys: &System, word: Word) -> bool
-    ensures { result ≡ is_word sys.now word }
+    ensures { result ≡ is_here sys.now word }
 {
     match word {
         Word::Pool(p) => has_pool(sys, p),

@@ -2,7 +2,8 @@
 
 ghost use Rattle.std.specs.Prelude.{◌≡◌, ◌==◌, ◌++◌, [], ◌∷◌, ◌&&◌, nat_lt, length, slice_index, OnOk, OnErr};
 ghost use Rattle.std.specs.List.{list_any, position};
-ghost use Rattle.qp_core_steps.specs.Blocks.{has_left, is_unfinished};
+ghost use Rattle.qp_core_steps.specs.Blocks.{has_left};
+ghost use Rattle.qp_table.specs.Asked.{is_unfinished};
 ghost use Rattle.qp_table.specs.Counting.{sum_over, without};
 ghost use Rattle.qp_table.specs.Rule.{is_ref, is_spot, gives_of, fills_with};
 ghost use Rattle.qp_table.specs.declared.view.SeatLog.{SeatLog};

@@ -24,7 +24,8 @@ use Rattle.qp_model.proofs.StepLemmas.{advances-reaches, goes_on-done, goes_on-f
 use Rattle.qp_calls.specs.declared.tokens.HeldEntry.{HeldEntry}
 use Rattle.qp_calls.specs.Tokens.{Token, hands_after, hands_by}
 use Rattle.qp_calls.specs.LaneView.{LaneView, Grows, GrowsOf}
-use Rattle.qp_calls.specs.Clauses.{Stops, entry_of, event_of, params_of}
+use Rattle.qp_calls.specs.Clauses.{Stops, entry_of, event_of}
+use Rattle.qp_model.specs.Parts.{params_of}
 use Rattle.qp_calls.specs.Entries.{Released}
 use Rattle.qp_calls.specs.Deferring.{ChangeAlike, StandAll, is_named, kept_in, tokens_in}
 use Rattle.qp_calls.specs.Counting.{times, count_of}

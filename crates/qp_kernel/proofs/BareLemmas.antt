@@ -9,7 +9,7 @@ use Rattle.qp_model.specs.declared.systems.System.{System}
 use Rattle.qp_model.specs.declared.systems.ObjectDef.{ObjectDef}
 use Rattle.qp_model.specs.declared.bodies.Body.{Body}
 use Rattle.qp_model.specs.declared.bodies.Body.TheVariants as body
-use Rattle.qp_model.specs.Told.{Told, ToldItem, plain}
+use Rattle.qp_model.specs.Told.{Told, ToldItem, plain, untold}
 use Rattle.qp_model.specs.Knowing.{told_alone}
 use Rattle.qp_model.specs.Pieces.{Tell, Point, records_in}
 use Rattle.qp_model.specs.Ends.{is_assert, is_turn_mark, is_end}
@@ -20,7 +20,6 @@ use Rattle.qp_model.specs.ObjectShape.{HasShape, CutGroups, ObjectGroups, Ends, 
 use Rattle.qp_model.specs.Course.{Cut, Whole, Stopped, FollowsTo}
 use Rattle.qp_model.proofs.GroupLemmas.{bare-append}
 use Rattle.qp_model.proofs.LastLemmas.{follows-shape}
-use Rattle.qp_model_order.specs.SourceRun.{untold}
 use Rattle.qp_kernel.specs.LaneZero.{told_pieces_at, told_pieces}
 use Rattle.qp_kernel.specs.ZeroEnds.{own_told}
 

@@ -3,13 +3,12 @@ use Rattle.std.proofs.Common.{◌≡◌, ℕ, ◌+◌, ◌<◌, ◌==◌, Bool, 
 use Rattle.std.specs.Prelude.{◌≢◌}
 use Rattle.std.specs.List.{list_any}
 use Rattle.qp_model.specs.Lawful.{spill_cuts}
-use Rattle.qp_model_order.specs.SourceRun.{untold}
 use Rattle.qp_chart.specs.declared.checked.Chart.{Chart}
 use Rattle.qp_model.specs.declared.systems.System.{System}
 use Rattle.qp_model.specs.declared.systems.ObjectDef.{ObjectDef}
 use Rattle.qp_model.specs.declared.bodies.Entry.{Entry}
 use Rattle.qp_model.specs.declared.bodies.Body.TheVariants as body
-use Rattle.qp_model.specs.Told.{Told, ToldItem, Event, for_object, plain}
+use Rattle.qp_model.specs.Told.{Told, ToldItem, Event, for_object, plain, untold}
 use Rattle.qp_model.specs.Pieces.{Piece, Point, tell}
 use Rattle.qp_model.specs.KernelLane.{Reading, Ended}
 use Rattle.qp_model.specs.Sites.{object_at}

@@ -17,12 +17,12 @@ use Rattle.qp_model.specs.Home.{lane_at}
 use Rattle.qp_model.specs.Ends.{is_spent, spills_in, spills_cut, ends_last}
 use Rattle.qp_model.specs.End.{spills_state}
 use Rattle.qp_model.specs.Sources.{AllDone, BeforeStimulus, InStimulus, SourceRuns, IsSourceLane, source_records, entry_seen, none_twice, may_end}
-use Rattle.qp_model.specs.OneOrder.{looks_right, IsOneOrder}
+use Rattle.qp_model.specs.OneOrder.{looks_right, IsOneOrder, items_placed}
 use Rattle.qp_model.specs.Places.{in_order}
 use Rattle.qp_model.specs.Lawful.{facts_of, lanes_before, KernelHolds, SourceLanes, SpillStands, SpillsStand, one_thread, OrderHolds, SourcesHold, EndHolds, Lawful}
 use Rattle.qp_model.proofs.TakenLemmas.{drop-head}
-use Rattle.qp_model_order.specs.RunOrder.{items_ordered}
-use Rattle.qp_model_order.specs.SourceRun.{untold, cut_at, SourceEnds}
+use Rattle.qp_model_order.specs.SourceRun.{cut_at, SourceEnds}
+use Rattle.qp_model.specs.Told.{untold}
 use Rattle.qp_kernel.specs.Run.{SourcesEnd, IsRun}
 use Rattle.qp_kernel.proofs.AlikeKernels.{one-order_kernel, one-order_no-port, runs-alike}
 use Rattle.qp_model_order.proofs.SourceLanes.{untold-lane}
@@ -116,8 +116,8 @@ module _ (sys : System) (stimuli : List (List Stim)) (j : Journal) (run : IsRun 
       record {
         placed = run.order.stand;
         turns = ap (looks_right (one_thread sys stimuli j run.cuts) []) merged ∙ run.order.turns;
-        numbers = ap (λ xs. in_order [] (items_ordered xs)) merged ∙ run.numbers;
-        ends = ap (λ xs. ends_last (items_ordered xs)) merged ∙ run.order.ends;
+        numbers = ap (λ xs. in_order [] (items_placed xs)) merged ∙ run.numbers;
+        ends = ap (λ xs. ends_last (items_placed xs)) merged ∙ run.order.ends;
         free = run.order.free;
       }
 

@@ -8,7 +8,7 @@ use Rattle.qp_model.specs.declared.stimulus.Stim.{Stim}
 use Rattle.qp_model.specs.declared.systems.System.{System}
 use Rattle.qp_model.specs.declared.bodies.Body.TheVariants as body
 use Rattle.qp_model.specs.Record.{Item}
-use Rattle.qp_model.specs.Told.{Told, ToldItem, plain, for_object}
+use Rattle.qp_model.specs.Told.{Told, ToldItem, plain, for_object, untold}
 use Rattle.qp_model.specs.Kernels.{sim}
 use Rattle.qp_model.specs.Knowing.{told_alone}
 use Rattle.qp_model.specs.Ends.{is_end, may_cut, ends_last}
@@ -18,7 +18,7 @@ use Rattle.qp_model.proofs.KnowingLemmas.{told-source}
 use Rattle.qp_calls.specs.LaneView.{LaneView, Gains, Happening}
 use Rattle.qp_model_order.specs.RunOrder.{placed, has_stim, RunsInOrder, EndsInOrder}
 use Rattle.qp_model_order.specs.Placing.{all_placed, look_item, spill_item, LooksNone}
-use Rattle.qp_model_order.specs.SourceRun.{untold, untold_all, SourceGoes, SourceEnds}
+use Rattle.qp_model_order.specs.SourceRun.{untold_all, SourceGoes, SourceEnds}
 use Rattle.qp_model_order.specs.Stimulus.{source_items}
 use Rattle.qp_model_order.proofs.OrderLaws.{zero_comes_last, free_look_comes_last, stimulus_comes_last, order_ends_in_zero, order_ends_in_stimulus, order_ends_in_full_lane, stimuli_are_their_own, one_look_changes}
 use Rattle.qp_model_order.proofs.SourceLanes.{source_lane_goes_on, source_lane_is_whole, source_lane_stops}

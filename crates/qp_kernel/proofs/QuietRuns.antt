@@ -18,7 +18,7 @@ use Rattle.qp_model.specs.End.{end_of}
 use Rattle.qp_model.specs.Lawful.{facts_of, source_lanes}
 use Rattle.qp_model.proofs.TakenLemmas.{drop-head}
 use Rattle.qp_model_order.specs.RunOrder.{has_stim, EndsInOrder}
-use Rattle.qp_model_order.specs.SourceRun.{untold}
+use Rattle.qp_model.specs.Told.{untold}
 use Rattle.qp_model_order.proofs.CalmLemmas.{calm-no_assert}
 use Rattle.qp_model_order.proofs.StimLemmas.{any-both}
 use Rattle.qp_model_order.proofs.RunLemmas.{ends-zero}

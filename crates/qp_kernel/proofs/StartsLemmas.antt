@@ -7,9 +7,9 @@ use Rattle.qp_model.specs.declared.words.Word.{Word}
 use Rattle.qp_model.specs.History.{marks}
 use Rattle.qp_model.specs.KernelLane.{role_of}
 use Rattle.qp_model.specs.Record.{Item}
-use Rattle.qp_model.specs.Told.{Told, ToldItem, for_object, plain}
+use Rattle.qp_model.specs.Told.{Told, ToldItem, for_object, plain, untold}
 use Rattle.qp_model.proofs.KernelRowLemmas.{IsOwnRole}
-use Rattle.qp_model_order.specs.SourceRun.{untold, untold_all}
+use Rattle.qp_model_order.specs.SourceRun.{untold_all}
 use Rattle.qp_kernel.specs.Turning.{spill_told}
 use Rattle.qp_kernel.proofs.ToldPieces.{AreOwn}
 use Rattle.qp_kernel.specs.Starts.{AreStarts, IsStartAlone, behind_starts, dones, up_to}

@@ -5,13 +5,12 @@ use Rattle.std.specs.Option.{unwrap_or, option_and_then}
 use Rattle.std.proofs.lemmas.Bool.Decides.{nat_tests}
 use Rattle.qp_model.specs.declared.bodies.Body.{Body}
 use Rattle.qp_model.specs.declared.bodies.Body.TheVariants as body
-use Rattle.qp_model.specs.Told.{Told, ToldItem, for_object}
+use Rattle.qp_model.specs.Told.{Told, ToldItem, for_object, untold}
 use Rattle.qp_model.specs.Pieces.{Piece, Tell, Point, tell}
 use Rattle.qp_model.specs.KernelLane.{Setting, Reading, Upcoming, Inside, lane_next, lane_on, ceiling_of, role_of}
 use Rattle.qp_model.specs.Points.{is_look, begins_row}
 use Rattle.qp_model.specs.Ends.{is_turn_mark}
 use Rattle.qp_model.proofs.KernelRowLemmas.{own-next, start-next, IsOwnRole, IsWithin, no-row}
-use Rattle.qp_model_order.specs.SourceRun.{untold}
 use Rattle.qp_kernel.specs.LaneZero.{told_pieces_at, told_pieces, owed_point, row_of}
 
 -- the pieces of a lane and of more records

@@ -10,7 +10,7 @@ use Rattle.qp_model.specs.declared.systems.System.{System}
 use Rattle.qp_model.specs.declared.bodies.Entry.{Entry}
 use Rattle.qp_model.specs.declared.bodies.Body.{Body}
 use Rattle.qp_model.specs.declared.bodies.Body.TheVariants as item
-use Rattle.qp_model.specs.Told.{Told, Event, plain, for_object}
+use Rattle.qp_model.specs.Told.{Told, Event, plain, for_object, untold}
 use Rattle.qp_model.specs.Calls.{Granted, AtQueue}
 use Rattle.qp_model.specs.Sites.{ring_of}
 use Rattle.qp_model.specs.Shapes.{Drops, Releases, releases_by, MakesAgain, again_by, Posts, PostsOne, PublishesLast, restoring}
@@ -23,7 +23,6 @@ use Rattle.qp_model.specs.Ends.{is_turn_mark, is_end, is_assert, ends_last}
 use Rattle.qp_model.specs.OneOrder.{stim_of}
 use Rattle.qp_model.proofs.GroupLemmas.{bare-append, bare-tell}
 use Rattle.qp_model.proofs.KernelRowLemmas.{IsOwnRole}
-use Rattle.qp_model_order.specs.SourceRun.{untold}
 use Rattle.std.proofs.lemmas.List.{map-append}
 use Rattle.qp_model_order.proofs.CalmLemmas.{calm-ends_last}
 use Rattle.qp_kernel.specs.Stages.{closes}

@@ -11,7 +11,7 @@ use Rattle.qp_model.specs.declared.bodies.Entry.{Entry}
 use Rattle.qp_model.specs.declared.bodies.Body.{Body}
 use Rattle.qp_model.specs.declared.bodies.Body.TheVariants as body
 use Rattle.qp_model.specs.Record.{Item}
-use Rattle.qp_model.specs.Told.{Told, ToldItem, Event, for_object, plain}
+use Rattle.qp_model.specs.Told.{Told, ToldItem, Event, for_object, plain, untold}
 use Rattle.qp_model.specs.Pieces.{Piece, Point, tell}
 use Rattle.qp_model.specs.KernelLane.{Setting, Reading, Upcoming, Looking, Chosen, Ended, Over, Halted, lane_next, lane_on, unread, role_of, role_next, Drops}
 use Rattle.std.specs.Option.{unwrap_or, option_and_then}
@@ -27,7 +27,6 @@ use Rattle.qp_model.specs.Lawful.{spill_cuts}
 use Rattle.qp_model.proofs.KernelRowLemmas.{lane_on-then, spent-next, IsOwnRole, IsWithin, seen-entry, no-row}
 use Rattle.qp_kernel.specs.Stages as stage
 use Rattle.qp_kernel.specs.Stages.{Stage, ComesTo, may_wait, is_resting}
-use Rattle.qp_model_order.specs.SourceRun.{untold}
 use Rattle.qp_kernel.specs.LaneZero.{told_pieces_at, told_pieces, Agree, setting, owed_point, HasOneRow, HasRows, LaneZero}
 use Rattle.qp_model.specs.ObjectShape.{HasShape}
 use Rattle.qp_kernel.specs.ZeroEnds.{cut_in, may_stand, is_spent_right, own_told, most_rows, ZeroEnds}

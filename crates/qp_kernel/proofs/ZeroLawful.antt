@@ -13,7 +13,7 @@ use Rattle.qp_model.specs.declared.journals.Journal.{Journal}
 use Rattle.qp_model.specs.declared.bodies.Body.{Body}
 use Rattle.qp_model.specs.declared.bodies.Body.TheVariants as body
 use Rattle.qp_model.specs.Record.{Item}
-use Rattle.qp_model.specs.Told.{ToldItem}
+use Rattle.qp_model.specs.Told.{ToldItem, untold}
 use Rattle.qp_model.specs.History.{all_items, lane_items}
 use Rattle.qp_model.specs.Knowing.{Facts, told_lane, records_of}
 use Rattle.qp_model.specs.Laws.{Ascend}
@@ -35,7 +35,6 @@ use Rattle.qp_model.proofs.FitsLemmas.{is_deferral}
 use Rattle.qp_model.proofs.HomeLemmas.{home_records-kernel}
 use Rattle.qp_model.proofs.KnowingLemmas.{records_of-told}
 use Rattle.qp_model_order.specs.RunOrder.{has_stim}
-use Rattle.qp_model_order.specs.SourceRun.{untold}
 use Rattle.qp_kernel.specs.LaneZero.{told_pieces, setting}
 use Rattle.qp_kernel.specs.ZeroEnds.{cut_in, may_stand, is_spent_right, own_told, ZeroEnds}
 use Rattle.qp_kernel.proofs.BareLemmas.{bare-told}

@@ -10,7 +10,7 @@ use Rattle.qp_model.specs.declared.systems.ObjectDef.{ObjectDef}
 use Rattle.qp_model.specs.declared.bodies.Entry.{Entry}
 use Rattle.qp_model.specs.declared.bodies.Body.{Body}
 use Rattle.qp_model.specs.declared.bodies.Body.TheVariants as body
-use Rattle.qp_model.specs.Told.{Told, ToldItem, Event, for_object, plain, told_took}
+use Rattle.qp_model.specs.Told.{Told, ToldItem, Event, for_object, plain, told_took, untold}
 use Rattle.qp_model.specs.Pieces.{Piece, Point, tell}
 use Rattle.qp_model.specs.KernelLane.{Setting, Reading, Inside, Looking, Chosen, Ended, Resting, floor_in, above, base_ended, looking_at, lane_next, lane_on, unread, role_of, Drops}
 use Rattle.qp_model.specs.Points.{is_look}
@@ -24,7 +24,6 @@ use Rattle.qp_model.specs.Acts.{Config}
 use Rattle.qp_model.proofs.KernelRowLemmas.{lane_on-then, look-next, seen-empty, seen-entry, rest-next, took-next, done-next, release-next, started-next, MayLook, IsOwnRole, IsWithin}
 use Rattle.qp_kernel.specs.Stages as stage
 use Rattle.qp_kernel.specs.Stages.{Stage, IsReady, ComesTo}
-use Rattle.qp_model_order.specs.SourceRun.{untold}
 use Rattle.qp_model_order.proofs.StimLemmas.{any-both}
 use Rattle.qp_kernel.specs.LaneZero.{told_pieces, Agree, setting, owed_point, row_of, HasRows, LaneZero}
 use Rattle.qp_kernel.specs.Turning.{AreNumbered, AreAble, IsWithinStep, moved, having}

@@ -6,7 +6,7 @@ use Rattle.qp_chart.specs.declared.checked.Chart.{Chart}
 use Rattle.qp_model.specs.declared.systems.System.{System}
 use Rattle.qp_model.specs.declared.systems.ObjectDef.{ObjectDef}
 use Rattle.qp_model.specs.declared.bodies.Entry.{Entry}
-use Rattle.qp_model.specs.Told.{ToldItem}
+use Rattle.qp_model.specs.Told.{ToldItem, untold}
 use Rattle.qp_model.specs.Pieces.{Piece, Tell, Point}
 use Rattle.qp_model.specs.Ends.{is_turn_mark, is_end}
 use Rattle.qp_model.specs.End.{took_count}
@@ -15,7 +15,6 @@ use Rattle.qp_model.specs.Kernels.{qk}
 use Rattle.qp_model.specs.KernelLane.{Setting, Upcoming, Inside, Over, Reading, lane_next, lane_on, unread}
 use Rattle.qp_model.specs.Points.{is_look, begins_row}
 use Rattle.qp_model.specs.Course.{actor, first_config, chart_at}
-use Rattle.qp_model_order.specs.SourceRun.{untold}
 use Rattle.qp_kernel.specs.Stages.{Stage, ComesTo}
 
 -- what a told record is to the course of o: its own record but for `nil` and `spent`, or a point where a row begins

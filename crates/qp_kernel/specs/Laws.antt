@@ -9,7 +9,7 @@ use Rattle.qp_model.specs.declared.systems.ObjectDef.{ObjectDef}
 use Rattle.qp_model.specs.declared.journals.Journal.{Journal}
 use Rattle.qp_model.specs.declared.bodies.Entry.{Entry}
 use Rattle.qp_model.specs.declared.bodies.Body.TheVariants as body
-use Rattle.qp_model.specs.Told.{Told, Event, for_object, plain, told_took}
+use Rattle.qp_model.specs.Told.{Told, Event, for_object, plain, told_took, untold}
 use Rattle.qp_model.specs.Pieces.{Piece, Point, tell}
 use Rattle.qp_model.specs.Acts.{Config}
 use Rattle.qp_model.specs.Step.{Remainder, StepGoesOn, whole_step}
@@ -23,7 +23,6 @@ use Rattle.qp_model.specs.Home.{lane_at}
 use Rattle.qp_model.specs.Knowing.{told_lane}
 use Rattle.qp_model.specs.Sound.{IsSound}
 use Rattle.qp_model.specs.Lawful.{Lawful, facts_of, deferred_of, spill_cuts}
-use Rattle.qp_model_order.specs.SourceRun.{untold}
 use Rattle.qp_kernel.specs.Stages as stage
 use Rattle.qp_kernel.specs.Stages.{IsReady, may_wait, is_resting}
 use Rattle.qp_kernel.specs.LaneZero.{Agree, setting, row_of}

@@ -12,12 +12,12 @@ use Rattle.qp_model.specs.KernelLane.{Over}
 use Rattle.qp_model.specs.WordLaw.{Words}
 use Rattle.qp_model.specs.Sound.{IsSound}
 use Rattle.qp_model.specs.Places.{in_order}
-use Rattle.qp_model.specs.OneOrder.{Placed}
+use Rattle.qp_model.specs.OneOrder.{Placed, items_placed}
 use Rattle.qp_model.specs.Sites.{object_at}
 use Rattle.qp_model.specs.Ends.{quiet}
 use Rattle.qp_model.specs.End.{has_room, lines_empty, blocks_rest}
 use Rattle.qp_model.specs.Lawful.{facts_of, source_lanes, deferred_of}
-use Rattle.qp_model_order.specs.RunOrder.{items_ordered, has_stim, RunsInOrder}
+use Rattle.qp_model_order.specs.RunOrder.{has_stim, RunsInOrder}
 use Rattle.qp_kernel.specs.Stages.{is_resting}
 use Rattle.qp_kernel.specs.LaneZero.{Agree}
 use Rattle.qp_kernel.specs.Run.{SourcesGo}
@@ -35,7 +35,7 @@ pub record IsQuietRun (sys : System) (stimuli : List (List Stim)) (j : Journal) 
   pub count : length j.lanes ≡ 1 + length stimuli
   pub room : list_all (λ lane. has_room (lane_items lane)) j.lanes ≡ true
   pub log : List Placed
-  pub numbers : in_order [] (items_ordered log) ≡ true
+  pub numbers : in_order [] (items_placed log) ≡ true
   -- the kernel's state tells of lane 0 of the journal, and of the stimuli in its looks
   pub told : told_lane (facts_of sys j) 0 (lane_items (lane_at j 0)) ≡ s.told
   pub now : Agree s.upto (has_stim (source_lanes sys j)) s.now

@@ -11,11 +11,11 @@ use Rattle.qp_model.specs.Kernels.{sim, has_one_order}
 use Rattle.qp_model.specs.WordLaw.{Words}
 use Rattle.qp_model.specs.Sound.{IsSound}
 use Rattle.qp_model.specs.Places.{in_order}
-use Rattle.qp_model.specs.OneOrder.{Placed}
+use Rattle.qp_model.specs.OneOrder.{Placed, items_placed}
 use Rattle.qp_model.specs.Ends.{quiet}
 use Rattle.qp_model.specs.End.{end_of, has_room, lines_empty, blocks_rest}
 use Rattle.qp_model.specs.Lawful.{facts_of, source_lanes, deferred_of}
-use Rattle.qp_model_order.specs.RunOrder.{items_ordered, has_stim, EndsInOrder}
+use Rattle.qp_model_order.specs.RunOrder.{has_stim, EndsInOrder}
 use Rattle.qp_model_order.specs.SourceRun.{SourceGoes, SourceEnds}
 use Rattle.qp_kernel.specs.ZeroEnds.{ZeroEnds}
 
@@ -42,7 +42,7 @@ pub record IsRun (sys : System) (stimuli : List (List Stim)) (j : Journal) : Typ
   pub count : length j.lanes ≡ 1 + length stimuli
   pub room : list_all (λ lane. has_room (lane_items lane)) j.lanes ≡ true
   pub log : List Placed
-  pub numbers : in_order [] (items_ordered log) ≡ true
+  pub numbers : in_order [] (items_placed log) ≡ true
   -- the kernel's lane, the sources, and the order of both
   pub zero : ZeroEnds sys j.kernel j.budget j.end 1 (told_lane (facts_of sys j) 0 (lane_items (lane_at j 0))) (has_stim (source_lanes sys j))
   pub cuts : Bool

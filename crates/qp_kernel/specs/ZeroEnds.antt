@@ -5,7 +5,7 @@ use Rattle.qp_chart.specs.declared.checked.Chart.{Chart}
 use Rattle.qp_model.specs.declared.systems.System.{System}
 use Rattle.qp_model.specs.declared.systems.ObjectDef.{ObjectDef}
 use Rattle.qp_model.specs.Record.{Item}
-use Rattle.qp_model.specs.Told.{Told, ToldItem}
+use Rattle.qp_model.specs.Told.{Told, ToldItem, untold}
 use Rattle.qp_model.specs.Knowing.{told_alone}
 use Rattle.qp_model.specs.ObjectShape.{HasShape}
 use Rattle.qp_model.specs.Ends.{is_assert, is_spent, may_cut, spills_cut, ends_last}
@@ -15,7 +15,6 @@ use Rattle.qp_model.specs.Kernels.{qk}
 use Rattle.qp_model.specs.KernelLane.{Reading, lane_on, unread, is_whole_reading}
 use Rattle.qp_model.specs.Course.{Cut, Whole, Stopped, Anywhere, FollowsTo, chart_at}
 use Rattle.qp_model.specs.Lawful.{spill_cuts}
-use Rattle.qp_model_order.specs.SourceRun.{untold}
 use Rattle.qp_kernel.specs.LaneZero.{told_pieces, setting}
 
 -- how the list of an object may be cut: by a `spill` right behind its record anywhere, else where a lane may stop

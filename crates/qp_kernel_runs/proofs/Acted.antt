@@ -8,7 +8,7 @@ use Rattle.std.proofs.lemmas.List.{map-append, append-nil, length-map, length-se
 use Rattle.qp_model.specs.declared.stimulus.Stim.{Stim}
 use Rattle.qp_model.specs.declared.systems.System.{System}
 use Rattle.qp_model.specs.declared.bodies.Body.TheVariants as body
-use Rattle.qp_model.specs.Told.{Told, ToldItem, plain, for_object}
+use Rattle.qp_model.specs.Told.{Told, ToldItem, plain, for_object, untold}
 use Rattle.qp_model.specs.History.{lane_items}
 use Rattle.qp_model.specs.Ends.{is_spill}
 use Rattle.qp_model.specs.OneOrder.{stim_of}
@@ -17,7 +17,7 @@ use Rattle.qp_model.specs.Kernels.{sim}
 use Rattle.qp_calls.specs.LaneView.{LaneView, Happening, placed_by}
 use Rattle.qp_calls.specs.Notes.{spills_told}
 use Rattle.qp_model_order.specs.Placing.{AreBehind}
-use Rattle.qp_model_order.specs.SourceRun.{untold, untold_all}
+use Rattle.qp_model_order.specs.SourceRun.{untold_all}
 use Rattle.qp_model_order.specs.Stimulus.{source_items}
 use Rattle.qp_model_order.proofs.OrderLaws.{stimuli_are_their_own}
 use Rattle.qp_kernel.specs.Happenings.{run_order, rises, told_by_source, lane_told, begun_by}

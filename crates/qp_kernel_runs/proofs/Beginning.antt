@@ -8,7 +8,8 @@ use Rattle.qp_model.specs.History.{lane_items}
 use Rattle.qp_model.specs.Knowing.{told_lane}
 use Rattle.qp_model_order.specs.SourceRun.{untold_all}
 use Rattle.qp_kernel.specs.Happenings.{run_order, rises, told_by_source, begun_by}
-use Rattle.qp_plain_sound.specs.Log.{lane_recs, items_placed}
+use Rattle.qp_plain_sound.specs.Log.{lane_recs}
+use Rattle.qp_model.specs.OneOrder.{items_placed}
 use Rattle.qp_plain_sound.specs.Sound.{facts_in}
 use Rattle.qp_plain_sound.specs.View.{view_of}
 use Rattle.qp_plain_sound.proofs.Logs.{lanes-log}

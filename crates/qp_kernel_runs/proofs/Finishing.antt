@@ -17,7 +17,7 @@ use Rattle.qp_plain.specs.declared.world.PlainWorld.{PlainWorld}
 use Rattle.qp_plain.specs.Book.{lists_of, logs_of}
 use Rattle.qp_plain.specs.Books.{log_recs}
 use Rattle.qp_plain.specs.Ended.{IsEnded}
-use Rattle.qp_calls_log.specs.Lane.{is_caused_in}
+use Rattle.qp_calls.specs.LaneLaws.{is_caused_in}
 use Rattle.qp_plain.specs.World.{was_handed, StopIs}
 use Rattle.qp_plain.proofs.Stopping.{nothing-handed, all-answered}
 use Rattle.qp_kernel_runs.specs.declared.world.SimWorld.{SimWorld}

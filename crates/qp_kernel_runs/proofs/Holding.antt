@@ -4,9 +4,9 @@ use Rattle.std.specs.List.{list_all}
 use Rattle.std.proofs.lemmas.List.{map-append, append-nil, length-map}
 use Rattle.qp_model.specs.declared.stimulus.Stim.{Stim}
 use Rattle.qp_model.specs.declared.words.Word.{Word}
-use Rattle.qp_model.specs.Told.{ToldItem}
+use Rattle.qp_model.specs.Told.{ToldItem, untold}
 use Rattle.qp_calls.specs.LaneView.{LaneView, Happening, Shown, Gains, Looks, placed_by, is_codeless}
-use Rattle.qp_model_order.specs.SourceRun.{untold, untold_all}
+use Rattle.qp_model_order.specs.SourceRun.{untold_all}
 use Rattle.qp_kernel.specs.Happenings.{run_order, rises}
 use Rattle.qp_kernel_runs.specs.SimHolds.{SimHolds}
 use Rattle.qp_kernel.proofs.HappeningLemmas.{order-more, rises-more}

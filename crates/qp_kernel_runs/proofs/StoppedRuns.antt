@@ -17,7 +17,8 @@ use Rattle.qp_model.specs.Sound.{IsSound}
 use Rattle.qp_model.specs.Ends.{may_cut, quiet}
 use Rattle.qp_model.specs.End.{end_of, has_room}
 use Rattle.qp_calls.specs.LaneView.{LaneView}
-use Rattle.qp_model_order.specs.RunOrder.{items_ordered, has_stim, EndsInOrder}
+use Rattle.qp_model_order.specs.RunOrder.{has_stim, EndsInOrder}
+use Rattle.qp_model.specs.OneOrder.{items_placed}
 use Rattle.qp_model_order.specs.SourceRun.{SourceEnds, untold_all}
 use Rattle.qp_plain_sound.proofs.LawLemmas.{log-numbered, by-the_book}
 use Rattle.qp_kernel.specs.ZeroEnds.{ZeroEnds}
@@ -34,8 +35,8 @@ module _ (sys : System) (stimuli : List (List Stim)) (lanes : List (List Rec)) (
   pub words-hold : Words sys j.lanes
   words-hold = subst (Words sys) (sym at) (by-the_book sys lanes left.order 0 0 0 [] [] [] left.world).words
 
-  pub numbers-are : in_order [] (items_ordered (lane_order v)) ≡ true
-  numbers-are = subst (λ log. in_order [] (items_ordered log) ≡ true) left.log (log-numbered sys lanes left.order left.world)
+  pub numbers-are : in_order [] (items_placed (lane_order v)) ≡ true
+  numbers-are = subst (λ log. in_order [] (items_placed log) ≡ true) left.log (log-numbered sys lanes left.order left.world)
 
   pub lanes-roomy : list_all (λ lane. has_room (lane_items lane)) j.lanes ≡ true
   lanes-roomy = subst (λ (ls : List (List Rec)). list_all (λ lane. has_room (lane_items lane)) ls ≡ true) (sym at) left.room

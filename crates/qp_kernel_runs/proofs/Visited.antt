@@ -17,7 +17,7 @@ use Rattle.qp_model.specs.WordLaw.{is_object}
 use Rattle.qp_calls.specs.LaneView.{LaneView, Happening, Counts, Gains, Grows, placed_by, is_codeless, no_code}
 use Rattle.qp_calls.specs.Clauses.{Stops}
 use Rattle.qp_calls.proofs.Growing.{gains-then}
-use Rattle.qp_plain_sound.specs.Log.{items_placed}
+use Rattle.qp_model.specs.OneOrder.{items_placed}
 use Rattle.qp_plain_sound.specs.View.{view_of}
 use Rattle.qp_plain_sound.proofs.LogTotals.{total-log}
 use Rattle.qp_plain.specs.declared.world.PlainWorld.{PlainWorld}

@@ -8,14 +8,14 @@ use Rattle.qp_model.specs.declared.systems.System.{System}
 use Rattle.qp_model.specs.declared.systems.ObjectDef.{ObjectDef}
 use Rattle.qp_model.specs.Laws.{Ascend}
 use Rattle.qp_model.specs.Sound.{IsSound}
-use Rattle.qp_model.specs.Told.{ToldItem}
+use Rattle.qp_model.specs.Told.{ToldItem, untold}
 use Rattle.qp_calls.specs.LaneView.{Gains, LaneView}
 use Rattle.qp_calls.specs.Notes.{last_code}
 use Rattle.qp_calls.proofs.Growing.{gains-none, gains-then}
 use Rattle.qp_dispatch.specs.declared.steps.Step.{Step}
 use Rattle.qp_dispatch.specs.declared.steps.Step.TheVariants as step
 use Rattle.std.proofs.lemmas.List.{map-append}
-use Rattle.qp_model_order.specs.SourceRun.{untold, untold_all}
+use Rattle.qp_model_order.specs.SourceRun.{untold_all}
 use Rattle.qp_kernel.specs.Starts.{AreStarts, IsStartAlone}
 use Rattle.qp_kernel.proofs.StartsLemmas.{alone-then, starts-none, starts-then}
 use Rattle.qp_kernel.specs.Happenings.{IsInOrder, has_no_stim}

@@ -10,7 +10,7 @@ use Rattle.qp_model.specs.Kernels.{qk, qv}
 use Rattle.qp_model.specs.Sound.{IsSound}
 use Rattle.qp_model.specs.KernelLane.{Again, Over, Reading, Resting, Setting, above, base_ended, found_none, lane_on, lane_read, looking_at, unread}
 use Rattle.qp_model_order.specs.RunOrder.{has_stim}
-use Rattle.qp_model_order.specs.SourceRun.{untold}
+use Rattle.qp_model.specs.Told.{untold}
 use Rattle.qp_calls.specs.LaneView.{LaneView}
 use Rattle.qp_kernel.specs.Happenings.{lanes_of}
 use Rattle.qp_kernel.specs.LaneZero.{setting}

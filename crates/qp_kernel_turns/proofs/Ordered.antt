@@ -14,10 +14,10 @@ use Rattle.qp_model.specs.declared.bodies.Body.TheVariants as body
 use Rattle.qp_model.specs.declared.words.Word.TheVariants as word
 use Rattle.qp_model.specs.Ends.{ends_last, is_end}
 use Rattle.qp_model.specs.OneOrder.{acts_next, stim_of}
-use Rattle.qp_model.specs.Told.{Told, ToldItem, for_object, plain}
+use Rattle.qp_model.specs.Told.{Told, ToldItem, for_object, plain, untold}
 use Rattle.qp_model_order.specs.Placing.{LooksNone}
 use Rattle.qp_model_order.specs.RunOrder.{placed}
-use Rattle.qp_model_order.specs.SourceRun.{untold, untold_all}
+use Rattle.qp_model_order.specs.SourceRun.{untold_all}
 use Rattle.qp_calls.specs.Clauses.{Sees, Stops, TakesIt}
 use Rattle.qp_calls.specs.declared.tokens.HeldEntry.{HeldEntry}
 use Rattle.qp_calls.specs.Halting.{HaltsDry, HaltsFull}

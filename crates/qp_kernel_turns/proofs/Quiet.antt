@@ -10,10 +10,10 @@ use Rattle.qp_model.specs.Course.{Starts}
 use Rattle.qp_model.specs.Ends.{ends_last, is_end}
 use Rattle.qp_model.specs.Pieces.{tell}
 use Rattle.qp_model.specs.Points.{is_look}
-use Rattle.qp_model.specs.Told.{Told, ToldItem, for_object, plain}
+use Rattle.qp_model.specs.Told.{Told, ToldItem, for_object, plain, untold}
 use Rattle.qp_model.specs.OneOrder.{look_of}
 use Rattle.qp_model_order.specs.Placing.{LooksNone}
-use Rattle.qp_model_order.specs.SourceRun.{untold, untold_all}
+use Rattle.qp_model_order.specs.SourceRun.{untold_all}
 use Rattle.qp_calls.specs.Clauses.{Stops}
 use Rattle.qp_calls.specs.LaneView.{Gains, LaneView, is_known}
 use Rattle.qp_dispatch.specs.Objects.{works_for}

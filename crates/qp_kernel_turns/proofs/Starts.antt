@@ -14,9 +14,8 @@ use Rattle.qp_model.specs.Lawful.{spill_cuts}
 use Rattle.qp_model.specs.Pieces.{Piece, Tell, tell}
 use Rattle.qp_model.specs.Sites.{object_at}
 use Rattle.qp_model.specs.Sound.{IsSound}
-use Rattle.qp_model.specs.Told.{Told, for_object}
+use Rattle.qp_model.specs.Told.{Told, for_object, untold}
 use Rattle.qp_model_order.specs.RunOrder.{has_stim}
-use Rattle.qp_model_order.specs.SourceRun.{untold}
 use Rattle.qp_calls.specs.Clauses.{Stops, entry_of}
 use Rattle.qp_calls.specs.Counting.{times}
 use Rattle.qp_calls.specs.Deferring.{ChangeAlike, StandAll, is_named}

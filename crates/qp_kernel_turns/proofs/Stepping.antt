@@ -19,9 +19,9 @@ use Rattle.qp_model.specs.Pieces.{Piece, Point, tell}
 use Rattle.qp_model.specs.Sites.{object_at}
 use Rattle.qp_model.specs.Sound.{IsSound}
 use Rattle.qp_model.specs.Step.{StepGoesOn, Remainder, moment, publishing_left, tasks_left}
-use Rattle.qp_model.specs.Told.{Event, Told, ToldItem, for_object, plain}
+use Rattle.qp_model.specs.Told.{Event, Told, ToldItem, for_object, plain, untold}
 use Rattle.qp_model_order.specs.RunOrder.{has_stim}
-use Rattle.qp_model_order.specs.SourceRun.{untold, untold_all}
+use Rattle.qp_model_order.specs.SourceRun.{untold_all}
 use Rattle.qp_calls.specs.Clauses.{entry_of}
 use Rattle.qp_calls.specs.Deferring.{StandAll, is_named, kept_in}
 use Rattle.qp_calls.specs.LaneView.{Gains, Grows, LaneView, ceiling_in}

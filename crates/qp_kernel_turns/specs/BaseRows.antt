@@ -4,7 +4,7 @@ use Rattle.std.specs.Option.{unwrap_or}
 use Rattle.qp_model.specs.declared.systems.System.{System}
 use Rattle.qp_model.specs.KernelLane.{Reading, lane_read, looking_at, unread}
 use Rattle.qp_model_order.specs.RunOrder.{has_stim}
-use Rattle.qp_model_order.specs.SourceRun.{untold}
+use Rattle.qp_model.specs.Told.{untold}
 use Rattle.qp_calls.specs.LaneView.{LaneView}
 use Rattle.qp_kernel.specs.Happenings.{lanes_of}
 use Rattle.qp_kernel.specs.LaneZero.{setting}

@@ -6,9 +6,8 @@ use Rattle.std.specs.Option.{option_map_or}
 use Rattle.qp_model.specs.declared.systems.System.{System}
 use Rattle.qp_model.specs.Ends.{may_cut}
 use Rattle.qp_model.specs.KernelLane.{Over, above, floor_in, lane_read, threshold_of}
-use Rattle.qp_model.specs.Told.{ToldItem}
+use Rattle.qp_model.specs.Told.{ToldItem, untold}
 use Rattle.qp_model_order.specs.RunOrder.{has_stim}
-use Rattle.qp_model_order.specs.SourceRun.{untold}
 use Rattle.qp_calls.specs.LaneView.{LaneView}
 use Rattle.qp_calls.specs.Notes.{last_code}
 use Rattle.qp_dispatch.specs.declared.objects.Turn.{Turn}

@@ -189,3 +189,7 @@ pub record IsOneOrder (r : OneThread) : Type 0 where
   pub numbers : IsTrue (in_order [] (map (λ x. x.item) (order r.cuts r.lane0 r.sources)))
   pub ends : IsTrue (ends_last (map (λ x. x.item) (order r.cuts r.lane0 r.sources)))
   pub free : IsTrue (r.cuts || not (list_any spills_in r.sources) || last_is_free r (look_numbers r.lane0))
+
+-- the records of these, without their lanes
+abbrev pub items_placed : List Placed → List Item
+items_placed xs = map (λ x. x.item) xs

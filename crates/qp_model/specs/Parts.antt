@@ -1,5 +1,5 @@
 -- The parts of a system that the shapes of calls read.
-use Rattle.std.specs.Prelude.{ℕ, zero, suc, ◌+◌, ◌-◌, ◌/◌, ◌%◌, ◌^◌, ◌==◌, nat_lt, nat_le, Bool, false, ◌&&◌, List, [], ◌∷◌, map, slice_get, if◌then◌else◌}
+use Rattle.std.specs.Prelude.{ℕ, zero, suc, ◌+◌, ◌-◌, ◌/◌, ◌%◌, ◌^◌, ◌==◌, nat_lt, nat_le, Bool, false, ◌&&◌, List, [], ◌∷◌, map, slice_get, if◌then◌else◌, ◌≡◌, ◌<◌, Some}
 use Rattle.std.specs.declared.option.Option.{Option}
 use Rattle.std.specs.List.{position, count_by}
 use Rattle.std.specs.Option.{option_map_or, option_map}
@@ -35,3 +35,14 @@ members set = members_below 32 set
 -- the number of the object's timer at this place of its chart: timers are numbered by their objects
 unfoldable pub timer_number : List TimerDef → ℕ → ℕ → ℕ
 timer_number timers o place = count_by (λ t. nat_lt t.object o) timers + place
+
+-- how many parameters an event of the signal has
+abbrev pub params_of : System → ℕ → ℕ
+params_of sys sig = option_map_or (λ d. d.params) (slice_get sys.signals (sig - 4)) 0
+
+-- the system has the time event t, and it is the object's
+pub record OwnsTimer (sys : System) (o t : ℕ) : Type 0 where
+  pub some : 0 < t
+  pub timer : TimerDef
+  pub there : slice_get sys.timers (t - 1) ≡ Some timer
+  pub owner : timer.object ≡ o

@@ -3,6 +3,7 @@ use Rattle.std.specs.Prelude.{ℕ, Bool, List}
 use Rattle.qp_model.specs.declared.bodies.Entry.{Entry}
 use Rattle.qp_model.specs.declared.bodies.Body.{Body}
 use Rattle.qp_model.specs.declared.bodies.Body.TheVariants.{Took, New, Dec, Lock, Same}
+use Rattle.qp_model.specs.Record.{Item}
 
 -- an event: its signal and its parameters
 pub record Event : Type 0 where
@@ -59,3 +60,7 @@ pub record ToldItem : Type 0 where
 
 abbrev pub for_object : ℕ → Told → ToldItem
 for_object o t = record { of = o; told = t }
+
+-- a record without what is known beside it
+abbrev pub untold : ToldItem → Item
+untold t = record { of = t.of; body = t.told.body }

@@ -2,10 +2,10 @@
 use Rattle.std.proofs.Common.{true, false, [], ◌∷◌, ◌++◌, refl, ap, ◌∙◌}
 use Rattle.qp_model.specs.Ends.{ends_last}
 use Rattle.qp_model.specs.Places.{in_order}
-use Rattle.qp_model.specs.OneOrder.{looks_right}
+use Rattle.qp_model.specs.OneOrder.{looks_right, items_placed}
 use Rattle.qp_model.specs.Record.{item_of}
 use Rattle.qp_model.specs.History.{all_items}
-use Rattle.qp_model_order.specs.RunOrder.{items_ordered, thread_of}
+use Rattle.qp_model_order.specs.RunOrder.{thread_of}
 use Rattle.qp_model_order.specs.Laws.{OrderBegins, ZeroComesLast, FreeLookComesLast, StimulusComesLast, OrderEndsInZero, OrderEndsInStimulus, OrderEndsInFullLane, EndsAreOneOrder, SourceGoesOn, SourceMayStop, NumbersGoOn, StimuliAreTheirOwn, OneLookChanges}
 use Rattle.qp_model_order.proofs.StimulusForm.{stimulus-form, stimulus-items, cut-items}
 use Rattle.qp_model_order.proofs.StimLemmas.{stim-own, stim-other}
@@ -42,8 +42,8 @@ pub ends_are_one_order : EndsAreOneOrder
 ends_are_one_order sys stimuli lane0 sources cuts xs h numbers = record {
   placed = h.stand;
   turns = ap (looks_right (thread_of sys stimuli lane0 sources cuts) []) h.merged ∙ h.turns;
-  numbers = ap (λ ys. in_order [] (items_ordered ys)) h.merged ∙ numbers;
-  ends = ap (λ ys. ends_last (items_ordered ys)) h.merged ∙ h.ends;
+  numbers = ap (λ ys. in_order [] (items_placed ys)) h.merged ∙ numbers;
+  ends = ap (λ ys. ends_last (items_placed ys)) h.merged ∙ h.ends;
   free = h.free;
 }
 

@@ -22,7 +22,7 @@ use Rattle.qp_model.specs.Kernels.{port}
 use Rattle.qp_model.specs.Lawful.{lanes_before, one_thread, source_lanes}
 use Rattle.qp_model.specs.Line.{Line, counts_are, line}
 use Rattle.qp_model.specs.Machine.{after, is_allowed, is_shown, shown_by}
-use Rattle.qp_model.specs.OneOrder.{Placed, order, spills_from, with_stimuli}
+use Rattle.qp_model.specs.OneOrder.{Placed, order, spills_from, with_stimuli, items_placed}
 use Rattle.qp_model.specs.Places.{in_order, is_next}
 use Rattle.qp_model.specs.Record.{Item}
 use Rattle.qp_model.specs.Sites.{object_at, ring_of}
@@ -33,7 +33,7 @@ use Rattle.qp_model.proofs.LineLemmas.{IsLine, line_is, same_number}
 use Rattle.qp_model.proofs.MachineLemmas.{is_allowed-front}
 use Rattle.qp_model.proofs.ListLemmas.{every-front, has-reverse, every-there}
 use Rattle.qp_model_order.specs.Placing.{all_placed, LooksNone}
-use Rattle.qp_model_order.specs.RunOrder.{items_ordered, placed}
+use Rattle.qp_model_order.specs.RunOrder.{placed}
 use Rattle.qp_model_order.proofs.MergeLemmas.{stimuli-append, stimuli-none}
 use Rattle.qp_model_order.proofs.StimLemmas.{items-placed}
 use Rattle.qp_model_order.specs.RestLaws.{IsIdleAtRests, RestsWhereNothingWaits, queue_after, run_records}
@@ -186,11 +186,11 @@ unfolding all_items
 others-stand [] = tt
 others-stand (l ∷ ls) = sources-stand (all_items (l ∷ ls)) (lane_items l) ls refl
 
-items-all : (P : Item → Type 0) (xs : List Placed) → AllByRecursion (OfRecord P) xs → AllByRecursion P (items_ordered xs)
+items-all : (P : Item → Type 0) (xs : List Placed) → AllByRecursion (OfRecord P) xs → AllByRecursion P (items_placed xs)
 items-all P [] h = tt
 items-all P (x ∷ xs) h = (h.0, items-all P xs h.1)
 
-items-append : (xs ys : List Placed) → items_ordered (xs ++ ys) ≡ items_ordered xs ++ items_ordered ys
+items-append : (xs ys : List Placed) → items_placed (xs ++ ys) ≡ items_placed xs ++ items_placed ys
 items-append [] ys = refl
 items-append (x ∷ xs) ys = ap (λ is. x.item ∷ is) (items-append xs ys)
 
@@ -198,7 +198,7 @@ items-append (x ∷ xs) ys = ap (λ is. x.item ∷ is) (items-append xs ys)
 module _ (sys : System) (lanes : List (List Rec)) (cuts : Bool) (sources : List (List Item)) (lane0 front back : List Item) (rest : Item)
     (lane : lane0 ≡ front ++ rest ∷ back) (own : AllByRecursion (Stands (all_items lanes)) lane0)
     (others : AllByRecursion (AllByRecursion (Stands (all_items lanes))) sources)
-    (numbers : in_order [] (items_ordered (with_stimuli cuts sources front)) ≡ true)
+    (numbers : in_order [] (items_placed (with_stimuli cuts sources front)) ≡ true)
     (look : List Item) (empties : List Item) (parts : front ≡ look ++ empties) (sees : SeesEach (above sys 0) empties)
     (d : ObjectDef) (found : object_at sys d.priority ≡ Some d) (some : 0 < d.priority)
     (keeps : Keeps Line (line (ring_of sys d.priority)) (word.Queue d.priority) lanes) where
@@ -206,15 +206,15 @@ module _ (sys : System) (lanes : List (List Rec)) (cuts : Bool) (sources : List 
   its_queue = word.Queue d.priority
 
   abbrev before : List Item
-  before = items_ordered (with_stimuli cuts sources front)
+  before = items_placed (with_stimuli cuts sources front)
 
   abbrev earlier : List Item
-  earlier = items_ordered (with_stimuli cuts sources look)
+  earlier = items_placed (with_stimuli cuts sources look)
 
   before-is : before ≡ earlier ++ empties
   before-is =
-      ap (λ is. items_ordered (with_stimuli cuts sources is)) parts
-      ∙ ap items_ordered (stimuli-append cuts sources look empties ∙ ap (λ xs. with_stimuli cuts sources look ++ xs) (stimuli-none cuts sources empties (sees-look_none (above sys 0) empties sees)))
+      ap (λ is. items_placed (with_stimuli cuts sources is)) parts
+      ∙ ap items_placed (stimuli-append cuts sources look empties ∙ ap (λ xs. with_stimuli cuts sources look ++ xs) (stimuli-none cuts sources empties (sees-look_none (above sys 0) empties sees)))
       ∙ items-append (with_stimuli cuts sources look) (all_placed 0 empties)
       ∙ ap (λ is. earlier ++ is) (items-placed 0 empties)
 
@@ -275,9 +275,9 @@ rests-idle sys stimuli j lawful other cuts one before behind n is d found some =
     let rest : Item = record { of = 0; body = body.Rest n } in
     let at = parted cuts sources lane0 (cond cuts [] (spills_from 1 sources)) before rest behind (tail-source cuts sources) is in
     let look = kernel_rests_where_all_are_empty sys stimuli j lawful other at.front at.back n at.lane in
-    let whole : in_order [] (items_ordered (before ++ placed 0 rest ∷ behind)) ≡ true = rw is at one.numbers in
-    let in_parts : in_order [] (items_ordered before ++ items_ordered (placed 0 rest ∷ behind)) ≡ true = rw (items-append before (placed 0 rest ∷ behind)) at whole in
-    let numbers : in_order [] (items_ordered before) ≡ true = in_order-front [] (items_ordered before) (items_ordered (placed 0 rest ∷ behind)) in_parts in
+    let whole : in_order [] (items_placed (before ++ placed 0 rest ∷ behind)) ≡ true = rw is at one.numbers in
+    let in_parts : in_order [] (items_placed before ++ items_placed (placed 0 rest ∷ behind)) ≡ true = rw (items-append before (placed 0 rest ∷ behind)) at whole in
+    let numbers : in_order [] (items_placed before) ≡ true = in_order-front [] (items_placed before) (items_placed (placed 0 rest ∷ behind)) in_parts in
     let parts : at.front ≡ (look.0 ++ record { of = 0; body = body.Look look.2 0 } ∷ []) ++ look.1 =
     look.3 ∙ sym (append_assoc look.0 (record { of = 0; body = body.Look look.2 0 } ∷ []) look.1) in
     let others : AllByRecursion (AllByRecursion (Stands (all_items j.lanes))) sources = rw (one-before sys j other) (others-stand j.lanes) in

@@ -12,8 +12,8 @@ use Rattle.qp_model.specs.declared.stimulus.Stim.{Stim}
 use Rattle.qp_model.specs.declared.systems.System.{System}
 use Rattle.qp_model.specs.Record.{Item}
 use Rattle.qp_model.specs.Ends.{is_spill, is_end, ends_last, spills_in}
-use Rattle.qp_model.specs.OneOrder.{Placed, OneThread, is_stim_at, look_of, part_of_look, parts_of_look, with_stimuli, spills_from, order, turns_at, acts_next, is_turn, look_right, looks_right, stims_placed, look_numbers, last_is_free, is_free}
-use Rattle.qp_model_order.specs.RunOrder.{placed, items_ordered, has_stim, is_right, all_right, stims_up_to, thread_of, RunsInOrder, EndsInOrder}
+use Rattle.qp_model.specs.OneOrder.{Placed, OneThread, is_stim_at, look_of, part_of_look, parts_of_look, with_stimuli, spills_from, order, turns_at, acts_next, is_turn, look_right, looks_right, stims_placed, look_numbers, last_is_free, is_free, items_placed}
+use Rattle.qp_model_order.specs.RunOrder.{placed, has_stim, is_right, all_right, stims_up_to, thread_of, RunsInOrder, EndsInOrder}
 use Rattle.qp_model_order.proofs.CalmLemmas.{calm-ends_last}
 use Rattle.qp_model_order.specs.Placing.{LooksNone, AreBehind, all_placed, stim_item, look_item, spill_item}
 use Rattle.qp_model_order.proofs.MergeLemmas.{within_after, part-append, parts-split, stimuli-append, stimuli-none, parts-none, stimulus-merged}
@@ -148,8 +148,8 @@ spill-none (i ∷ is) h = rw (not-true (is_spill i.body) h.1, spill-none is h.2)
     not-true false h = refl
 
 module _ (sys : System) (stimuli : List (List Stim)) (looks : ℕ) (lane0 : List Item) (sources : List (List Item)) (xs : List Placed) (old : RunsInOrder sys stimuli looks lane0 sources xs) where
-  items-more : (lane : ℕ) (is : List Item) → items_ordered (xs ++ all_placed lane is) ≡ items_ordered xs ++ is
-  items-more lane is = map-append (λ x. x.item) xs (all_placed lane is) ∙ ap (λ js. items_ordered xs ++ js) (items-placed lane is)
+  items-more : (lane : ℕ) (is : List Item) → items_placed (xs ++ all_placed lane is) ≡ items_placed xs ++ is
+  items-more lane is = map-append (λ x. x.item) xs (all_placed lane is) ∙ ap (λ js. items_placed xs ++ js) (items-placed lane is)
 
   stand-more : (more : List Item) → stims_pass (has (look_numbers lane0)) sources ≡ true → stims_pass (has (look_numbers (lane0 ++ more))) sources ≡ true
   stand-more more h =
@@ -163,10 +163,10 @@ module _ (sys : System) (stimuli : List (List Stim)) (looks : ℕ) (lane0 : List
     merged = λ cuts. stimuli-append cuts sources lane0 is ∙ rw (old.merged cuts, stimuli-none cuts sources is none) refl;
     turns = right-append sys stimuli sources [] xs (all_placed 0 is) ∙ rw (old.turns, right-none sys stimuli sources xs 0 is none) refl;
     counted = rw (numbers-append lane0 is, numbers-none is none, append-nil (look_numbers lane0)) old.counted;
-    seen = rw (items-more 0 is, numbers-append (items_ordered xs) is, numbers-none is none, append-nil (look_numbers (items_ordered xs))) old.seen;
+    seen = rw (items-more 0 is, numbers-append (items_placed xs) is, numbers-none is none, append-nil (look_numbers (items_placed xs))) old.seen;
     stims = old.stims;
     stand = stand-more is old.stand;
-    calm = rw (items-more 0 is) (any-both (λ i. is_end i.body) (items_ordered xs) is old.calm calm);
+    calm = rw (items-more 0 is) (any-both (λ i. is_end i.body) (items_placed xs) is old.calm calm);
     quiet = old.quiet;
   }
 
@@ -183,11 +183,11 @@ module _ (sys : System) (stimuli : List (List Stim)) (looks : ℕ) (lane0 : List
         turns = right-append sys stimuli sources [] xs (placed 0 (look_item n floor) ∷ []) ∙ rw (old.turns, nobody, turns-none 1 n sources free) refl;
         counted = rw (numbers-append lane0 (look_item n floor ∷ [])) (all-append (λ k. nat_le k n) (look_numbers lane0) (n ∷ []) (up_to-more looks n (look_numbers lane0) most old.counted) (and_from _ _ own refl));
         seen =
-            rw (map-append (λ x. x.item) xs (placed 0 (look_item n floor) ∷ []), numbers-append (items_ordered xs) (look_item n floor ∷ []))
-            (all-append (λ k. nat_le k n) (look_numbers (items_ordered xs)) (n ∷ []) (up_to-more looks n (look_numbers (items_ordered xs)) most old.seen) (and_from _ _ own refl));
+            rw (map-append (λ x. x.item) xs (placed 0 (look_item n floor) ∷ []), numbers-append (items_placed xs) (look_item n floor ∷ []))
+            (all-append (λ k. nat_le k n) (look_numbers (items_placed xs)) (n ∷ []) (up_to-more looks n (look_numbers (items_placed xs)) most old.seen) (and_from _ _ own refl));
         stims = stims-more (λ k. nat_le k looks) (λ k. nat_le k n) sources (λ k h. let few : nat_le k looks ≡ true = h in grind (arith, nat_tests, few, most)) old.stims;
         stand = stand-more (look_item n floor ∷ []) old.stand;
-        calm = rw (map-append (λ x. x.item) xs (placed 0 (look_item n floor) ∷ [])) (any-both (λ i. is_end i.body) (items_ordered xs) (look_item n floor ∷ []) old.calm refl);
+        calm = rw (map-append (λ x. x.item) xs (placed 0 (look_item n floor) ∷ [])) (any-both (λ i. is_end i.body) (items_placed xs) (look_item n floor ∷ []) old.calm refl);
         quiet = old.quiet;
       }
 
@@ -222,15 +222,15 @@ module _ (sys : System) (stimuli : List (List Stim)) (looks : ℕ) (lane0 : List
     unfolding all_right
     turns-with cuts behind =
         let before : all_right sys stimuli with_stimulus [] xs ≡ true =
-        right-other cuts front l back p n g behind sys stimuli [] xs (looks-other looks n (items_ordered xs) later old.seen) ∙ ap (λ x. all_right sys stimuli x [] xs) (sym are) ∙ old.turns in
+        right-other cuts front l back p n g behind sys stimuli [] xs (looks-other looks n (items_placed xs) later old.seen) ∙ ap (λ x. all_right sys stimuli x [] xs) (sym are) ∙ old.turns in
         let self : (1 + length front == 1 + length front) ≡ true = grind (arith, nat_tests) in
         let place : (p == p) ≡ true = grind (arith, nat_tests) in
         let behind_it = right-none sys stimuli with_stimulus (xs ++ placed 0 (look_item n floor) ∷ []) (1 + length front) (stim_item p n ∷ g) (refl, lookless) in
         right-append sys stimuli with_stimulus [] xs (placed 0 (look_item n floor) ∷ all_placed (1 + length front) (stim_item p n ∷ g))
         ∙ rw (before, acts, turns-own cuts front l back p n g behind none-here.0 none-here.1 none-here.2, self, place) behind_it
 
-    items-with : items_ordered with_look ≡ items_ordered xs ++ look_item n floor ∷ stim_item p n ∷ g
-    items-with = map-append (λ x. x.item) xs (placed 0 (look_item n floor) ∷ all_placed (1 + length front) (stim_item p n ∷ g)) ∙ ap (λ js. items_ordered xs ++ look_item n floor ∷ js) (items-placed (1 + length front) (stim_item p n ∷ g))
+    items-with : items_placed with_look ≡ items_placed xs ++ look_item n floor ∷ stim_item p n ∷ g
+    items-with = map-append (λ x. x.item) xs (placed 0 (look_item n floor) ∷ all_placed (1 + length front) (stim_item p n ∷ g)) ∙ ap (λ js. items_placed xs ++ look_item n floor ∷ js) (items-placed (1 + length front) (stim_item p n ∷ g))
 
     stand-with : (cuts : Bool) → AreBehind cuts g → stims_pass (has (look_numbers (lane0 ++ look_item n floor ∷ []))) with_stimulus ≡ true
     unfolding stims_placed
@@ -257,19 +257,19 @@ module _ (sys : System) (stimuli : List (List Stim)) (looks : ℕ) (lane0 : List
           turns = turns-with false behind;
           counted = rw (numbers-append lane0 (look_item n floor ∷ [])) (all-append (λ k. nat_le k n) (look_numbers lane0) (n ∷ []) (up_to-more looks n (look_numbers lane0) most old.counted) (and_from _ _ own refl));
           seen =
-              rw (items-with, numbers-append (items_ordered xs) (look_item n floor ∷ stim_item p n ∷ g), numbers-none g lookless)
-              (all-append (λ k. nat_le k n) (look_numbers (items_ordered xs)) (n ∷ []) (up_to-more looks n (look_numbers (items_ordered xs)) most old.seen) (and_from _ _ own refl));
+              rw (items-with, numbers-append (items_placed xs) (look_item n floor ∷ stim_item p n ∷ g), numbers-none g lookless)
+              (all-append (λ k. nat_le k n) (look_numbers (items_placed xs)) (n ∷ []) (up_to-more looks n (look_numbers (items_placed xs)) most old.seen) (and_from _ _ own refl));
           stims =
               stims-block (λ k. nat_le k n) false front l back p n g behind own
               (stims-more (λ k. nat_le k looks) (λ k. nat_le k n) (front ++ l ∷ back) (λ k h. let few : nat_le k looks ≡ true = h in grind (arith, nat_tests, few, most)) stims-are);
           stand = stand-with false behind;
-          calm = rw items-with (any-both (λ i. is_end i.body) (items_ordered xs) (look_item n floor ∷ stim_item p n ∷ g) old.calm calm);
+          calm = rw items-with (any-both (λ i. is_end i.body) (items_placed xs) (look_item n floor ∷ stim_item p n ∷ g) old.calm calm);
           quiet = quiet-block behind;
         }
 
-    ends-with : ends_last g ≡ true → ends_last (items_ordered with_look) ≡ true
+    ends-with : ends_last g ≡ true → ends_last (items_placed with_look) ≡ true
     unfolding ends_last
-    ends-with ends = rw items-with (calm-ends_last (items_ordered xs) (look_item n floor ∷ stim_item p n ∷ g) old.calm (behind g ends))
+    ends-with ends = rw items-with (calm-ends_last (items_placed xs) (look_item n floor ∷ stim_item p n ∷ g) old.calm (behind g ends))
       where
         behind : (g : List Item) → ends_last g ≡ true → ends_last (look_item n floor ∷ stim_item p n ∷ g) ≡ true
         behind [] h = refl
@@ -313,7 +313,7 @@ module _ (sys : System) (stimuli : List (List Stim)) (looks : ℕ) (lane0 : List
         subst (λ z. looks_right (thread_of sys stimuli (lane0 ++ is) sources false) [] z ≡ true) (append-nil (xs ++ all_placed 0 is))
         (right-looks sys stimuli (lane0 ++ is) sources false [] (xs ++ all_placed 0 is) []
         (right-append sys stimuli sources [] xs (all_placed 0 is) ∙ rw (old.turns, right-none sys stimuli sources xs 0 is none) refl) refl);
-    ends = rw (items-more 0 is) (calm-ends_last (items_ordered xs) is old.calm ends);
+    ends = rw (items-more 0 is) (calm-ends_last (items_placed xs) is old.calm ends);
     free = rw old.quiet refl;
   }
 
@@ -345,7 +345,7 @@ module _ (sys : System) (stimuli : List (List Stim)) (looks : ℕ) (lane0 : List
             (rw (any, none, either) (or-last (is_turn (acts_next sys stimuli xs (floor == 0)) [])));
         ends =
             rw (map-append (λ x. x.item) xs ys)
-            (calm-ends_last (items_ordered xs) (look_item n floor ∷ spill_item size ∷ []) old.calm refl);
+            (calm-ends_last (items_placed xs) (look_item n floor ∷ spill_item size ∷ []) old.calm refl);
         free = rw (any, numbers-append lane0 (look_item n floor ∷ []), last-free thread (look_numbers lane0) n, none) refl;
       }
     where

@@ -11,13 +11,13 @@ use Rattle.qp_model.specs.declared.stimulus.Stim.{Stim}
 use Rattle.qp_model.specs.declared.systems.System.{System}
 use Rattle.qp_model.specs.declared.bodies.Body.TheVariants as body
 use Rattle.qp_model.specs.Record.{Item}
-use Rattle.qp_model.specs.Told.{Told, ToldItem, plain, for_object}
+use Rattle.qp_model.specs.Told.{Told, ToldItem, plain, for_object, untold}
 use Rattle.qp_model.specs.Knowing.{Facts, told, ceiling_after, told_lane, told_alone}
 use Rattle.qp_model.specs.Kernels.{sim}
 use Rattle.qp_model.specs.Ends.{is_spent, is_spill, is_end, may_cut, spills_in, spills_cut, ends_last}
 use Rattle.qp_model.specs.End.{spills_state}
 use Rattle.qp_model.specs.Sources.{StimFits, SourceEnd, AllDone, BeforeStimulus, AtAssert, InStimulus, SourceRuns, entry_seen, may_end}
-use Rattle.qp_model_order.specs.SourceRun.{untold, untold_all, source_told, SourceGoes, SourceEnds}
+use Rattle.qp_model_order.specs.SourceRun.{untold_all, source_told, SourceGoes, SourceEnds}
 use Rattle.qp_model_order.specs.Placing.{AreBehind, spill_item}
 use Rattle.qp_model_order.specs.Stimulus.{ArePlain, source_items}
 use Rattle.qp_model_order.specs.Laws.{stimulus_told, SourceLaneGoesOn, SourceLaneIsWhole, SourceLaneStops}

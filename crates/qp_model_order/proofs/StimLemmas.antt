@@ -9,8 +9,8 @@ use Rattle.std.proofs.lemmas.Bool.Decides.{nat_tests}
 use Rattle.qp_model.specs.declared.bodies.Body.{Body}
 use Rattle.qp_model.specs.declared.bodies.Body.TheVariants as body
 use Rattle.qp_model.specs.Record.{Item}
-use Rattle.qp_model.specs.OneOrder.{stim_of, is_stim_at, look_of, look_numbers}
-use Rattle.qp_model_order.specs.RunOrder.{items_ordered, has_stim, all_up_to, stims_up_to}
+use Rattle.qp_model.specs.OneOrder.{stim_of, is_stim_at, look_of, look_numbers, items_placed}
+use Rattle.qp_model_order.specs.RunOrder.{has_stim, all_up_to, stims_up_to}
 use Rattle.qp_model_order.specs.Placing.{LooksNone, AreBehind, all_placed, stim_item}
 use Rattle.qp_model_order.proofs.MergeLemmas.{OtherLook, LooksOther}
 use Rattle.qp_model.proofs.FitsLemmas.{all-append}
@@ -51,7 +51,7 @@ numbers-none (i ∷ is) h = rw (h.0, numbers-none is h.1) refl
 pub numbers-append : (is js : List Item) → look_numbers (is ++ js) ≡ look_numbers is ++ look_numbers js
 numbers-append is js = filter_map-append (λ i. option_map (λ l. l.0) (look_of i.body)) is js
 
-pub items-placed : (lane : ℕ) (is : List Item) → items_ordered (all_placed lane is) ≡ is
+pub items-placed : (lane : ℕ) (is : List Item) → items_placed (all_placed lane is) ≡ is
 items-placed lane [] = refl
 items-placed lane (i ∷ is) = ap (λ js. i ∷ js) (items-placed lane is)
 

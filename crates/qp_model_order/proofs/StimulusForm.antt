@@ -15,7 +15,7 @@ use Rattle.qp_model.specs.declared.systems.TimerDef.{TimerDef}
 use Rattle.qp_model.specs.declared.bodies.Body.{Body}
 use Rattle.qp_model.specs.declared.bodies.Body.TheVariants as body
 use Rattle.qp_model.specs.Record.{Item}
-use Rattle.qp_model.specs.Told.{Told, plain, for_object}
+use Rattle.qp_model.specs.Told.{Told, plain, for_object, untold}
 use Rattle.qp_model.specs.Calls as call
 use Rattle.qp_model.specs.Calls.{Call}
 use Rattle.qp_model.specs.Kernels.{sim, may_try}
@@ -24,7 +24,6 @@ use Rattle.qp_model.specs.Ends.{is_assert, is_spent, is_spill, is_end, ends_last
 use Rattle.qp_model.specs.OneOrder.{stim_of, look_of}
 use Rattle.qp_model.specs.Sources.{CallFits, TicksOne, FiresInVain, Ticks, SeesEmpty, Tries, Settles, StimFits, entry_seen, priorities}
 use Rattle.qp_model.proofs.FitsLemmas.{is_calm, is_deferral, Usual, Ending, Answers, fits-usual, answer-assert}
-use Rattle.qp_model_order.specs.SourceRun.{untold}
 use Rattle.qp_model_order.specs.Placing.{LooksNone, AreBehind, spill_item}
 use Rattle.qp_model_order.specs.Stimulus.{IsPlain, ArePlain, StimulusForm, source_items, StimulusItems, CutItems}
 use Rattle.qp_model_order.proofs.CalmLemmas.{calm-parts, calm-ends_last}

@@ -10,8 +10,8 @@ use Rattle.qp_model.specs.declared.systems.System.{System}
 use Rattle.qp_model.specs.declared.bodies.Body.{Body}
 use Rattle.qp_model.specs.declared.bodies.Body.TheVariants as body
 use Rattle.qp_model.specs.Record.{Item}
-use Rattle.qp_model.specs.OneOrder.{Placed, Turn, stim_of, is_stim_at, look_of, turns_at, acts_next, is_turn, look_right, looks_right}
-use Rattle.qp_model_order.specs.RunOrder.{placed, items_ordered, has_stim, is_right, all_right, thread_of}
+use Rattle.qp_model.specs.OneOrder.{Placed, Turn, stim_of, is_stim_at, look_of, turns_at, acts_next, is_turn, look_right, looks_right, items_placed}
+use Rattle.qp_model_order.specs.RunOrder.{placed, has_stim, is_right, all_right, thread_of}
 use Rattle.qp_model_order.specs.Placing.{LooksNone, AreBehind, all_placed, stim_item}
 use Rattle.qp_model_order.proofs.MergeLemmas.{OtherLook, LooksOther}
 
@@ -73,7 +73,7 @@ module _ (cuts : Bool) (front : List (List Item)) (l : List Item) (back : List (
       ∙ rw (filter_map-append (turn_by (1 + length front) k) l (stim_item p k ∷ g), own, turns-none 1 k front before, turns_in-none (1 + length front) k l here, turns-none (1 + length front + 1) k back after) refl
 
   -- looks with other numbers have what they had
-  pub right-other : (sys : System) (stimuli : List (List Stim)) (before xs : List Placed) → LooksOther k (items_ordered xs) → all_right sys stimuli with_it before xs ≡ all_right sys stimuli before_it before xs
+  pub right-other : (sys : System) (stimuli : List (List Stim)) (before xs : List Placed) → LooksOther k (items_placed xs) → all_right sys stimuli with_it before xs ≡ all_right sys stimuli before_it before xs
   unfolding all_right
   right-other sys stimuli before [] h = refl
   right-other sys stimuli before (x ∷ xs) h = rw (right-other sys stimuli (before ++ x ∷ []) xs h.1, by (look_of x.item.body) h.0) refl

@@ -12,9 +12,9 @@ use Rattle.qp_model.specs.History.{touch, total, all_items}
 use Rattle.qp_model.specs.Places.{is_next, in_order}
 use Rattle.qp_model.specs.Ends.{is_end, may_cut, ends_last}
 use Rattle.qp_model.specs.Sources.{StimFits, SourceRuns, AllDone, BeforeStimulus, AtAssert, InStimulus, look_may}
-use Rattle.qp_model.specs.OneOrder.{Placed, acts_next, IsOneOrder}
+use Rattle.qp_model.specs.OneOrder.{Placed, acts_next, IsOneOrder, items_placed}
 use Rattle.qp_model.specs.Kernels.{sim}
-use Rattle.qp_model_order.specs.RunOrder.{placed, items_ordered, has_stim, thread_of, RunsInOrder, EndsInOrder}
+use Rattle.qp_model_order.specs.RunOrder.{placed, has_stim, thread_of, RunsInOrder, EndsInOrder}
 use Rattle.qp_model_order.specs.Placing.{look_item, stim_item, spill_item, all_placed, LooksNone, AreBehind}
 use Rattle.qp_model_order.specs.SourceRun.{SourceGoes, SourceEnds}
 use Rattle.qp_model_order.specs.Stimulus.{source_items, StimulusItems, CutItems}
@@ -85,7 +85,7 @@ OrderEndsInFullLane =
 abbrev pub EndsAreOneOrder : Type 0
 EndsAreOneOrder =
     (sys : System) (stimuli : List (List Stim)) (lane0 : List Item) (sources : List (List Item)) (cuts : Bool) (xs : List Placed)
-    → EndsInOrder sys stimuli lane0 sources cuts xs → in_order [] (items_ordered xs) ≡ true
+    → EndsInOrder sys stimuli lane0 sources cuts xs → in_order [] (items_placed xs) ≡ true
     → IsOneOrder (thread_of sys stimuli lane0 sources cuts)
 
 -- The lane of a source: one whole stimulus more.

@@ -12,10 +12,10 @@ use Rattle.qp_model.specs.Kernels.{port}
 use Rattle.qp_model.specs.Lawful.{Lawful, one_thread}
 use Rattle.qp_model.specs.Line.{Line, line}
 use Rattle.qp_model.specs.Machine.{after}
-use Rattle.qp_model.specs.OneOrder.{IsOneOrder, OneThread, Placed, order}
+use Rattle.qp_model.specs.OneOrder.{IsOneOrder, OneThread, Placed, order, items_placed}
 use Rattle.qp_model.specs.Record.{Item}
 use Rattle.qp_model.specs.Sites.{object_at, ring_of}
-use Rattle.qp_model_order.specs.RunOrder.{items_ordered, placed}
+use Rattle.qp_model_order.specs.RunOrder.{placed}
 
 -- the records of a run with one thread in their order
 unfoldable pub run_records : OneThread → List Placed
@@ -32,7 +32,7 @@ unfoldable pub IsIdleAtRests : System → List Placed → Type 0
 unfolding object_at queue_after
 IsIdleAtRests sys records =
     (before behind : List Placed) (n : ℕ) → records ≡ before ++ placed 0 (record { of = 0; body = body.Rest n }) ∷ behind
-    → (d : ObjectDef) → object_at sys d.priority ≡ Some d → 0 < d.priority → (queue_after sys d.priority (items_ordered before)).entries ≡ []
+    → (d : ObjectDef) → object_at sys d.priority ≡ Some d → 0 < d.priority → (queue_after sys d.priority (items_placed before)).entries ≡ []
 
 -- so it is in each lawful journal of a run with one thread
 abbrev pub RestsWhereNothingWaits : Type 0

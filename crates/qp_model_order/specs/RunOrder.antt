@@ -7,14 +7,10 @@ use Rattle.qp_model.specs.declared.stimulus.Stim.{Stim}
 use Rattle.qp_model.specs.declared.systems.System.{System}
 use Rattle.qp_model.specs.Record.{Item}
 use Rattle.qp_model.specs.Ends.{is_end, ends_last, spills_in}
-use Rattle.qp_model.specs.OneOrder.{Placed, OneThread, look_of, stim_of, is_stim_at, with_stimuli, order, turns_at, acts_next, is_turn, looks_right, stims_placed, look_numbers, last_is_free}
+use Rattle.qp_model.specs.OneOrder.{Placed, OneThread, look_of, stim_of, is_stim_at, with_stimuli, order, turns_at, acts_next, is_turn, looks_right, stims_placed, look_numbers, last_is_free, items_placed}
 
 abbrev pub placed : ℕ → Item → Placed
 placed lane i = record { lane = lane; item = i }
-
--- the records of these, without their lanes
-abbrev pub items_ordered : List Placed → List Item
-items_ordered xs = map (λ x. x.item) xs
 
 -- a look has a stimulus where the lane of a source has a `stim` with its number
 abbrev pub has_stim : List (List Item) → ℕ → Bool
@@ -49,10 +45,10 @@ pub record RunsInOrder (sys : System) (stimuli : List (List Stim)) (looks : ℕ)
   pub merged : (cuts : Bool) → with_stimuli cuts sources lane0 ≡ xs
   pub turns : all_right sys stimuli sources [] xs ≡ true
   pub counted : all_up_to looks (look_numbers lane0) ≡ true
-  pub seen : all_up_to looks (look_numbers (items_ordered xs)) ≡ true
+  pub seen : all_up_to looks (look_numbers (items_placed xs)) ≡ true
   pub stims : stims_up_to looks sources ≡ true
   pub stand : stims_placed (thread_of sys stimuli lane0 sources false) ≡ true
-  pub calm : list_any (λ i. is_end i.body) (items_ordered xs) ≡ false
+  pub calm : list_any (λ i. is_end i.body) (items_placed xs) ≡ false
   pub quiet : list_any spills_in sources ≡ false
 
 -- A run has ended: these are its records in its order, which is that of its lanes; what follows a record that ends a lane is nothing.
@@ -60,5 +56,5 @@ pub record EndsInOrder (sys : System) (stimuli : List (List Stim)) (lane0 : List
   pub merged : order cuts lane0 sources ≡ xs
   pub stand : stims_placed (thread_of sys stimuli lane0 sources cuts) ≡ true
   pub turns : looks_right (thread_of sys stimuli lane0 sources cuts) [] xs ≡ true
-  pub ends : ends_last (items_ordered xs) ≡ true
+  pub ends : ends_last (items_placed xs) ≡ true
   pub free : (cuts || not (list_any spills_in sources) || last_is_free (thread_of sys stimuli lane0 sources cuts) (look_numbers lane0)) ≡ true

@@ -4,15 +4,11 @@ use Rattle.std.specs.List.{list_all, list_any, filter, filter_map}
 use Rattle.qp_model.specs.declared.stimulus.Stim.{Stim}
 use Rattle.qp_model.specs.declared.systems.System.{System}
 use Rattle.qp_model.specs.Record.{Item}
-use Rattle.qp_model.specs.Told.{Told, ToldItem}
+use Rattle.qp_model.specs.Told.{Told, ToldItem, untold}
 use Rattle.qp_model.specs.Knowing.{told_alone}
 use Rattle.qp_model.specs.Ends.{is_end, is_spent, is_spill, spills_in, spills_cut, ends_last}
 use Rattle.qp_model.specs.End.{spills_state}
 use Rattle.qp_model.specs.Sources.{SourceEnd, SourceRuns, AllDone, BeforeStimulus, InStimulus, entry_seen, may_end}
-
--- a record without what is known beside it
-abbrev pub untold : ToldItem → Item
-untold t = record { of = t.of; body = t.told.body }
 
 abbrev pub untold_all : List ToldItem → List Item
 untold_all ts = map untold ts

@@ -3,11 +3,10 @@ use Rattle.std.specs.Prelude.{◌≡◌, Bool, true, false, List, [], ◌∷◌,
 use Rattle.std.specs.List.{list_any, filter_map}
 use Rattle.qp_model.specs.declared.bodies.Body.{Body}
 use Rattle.qp_model.specs.Record.{Item}
-use Rattle.qp_model.specs.Told.{Told, for_object}
+use Rattle.qp_model.specs.Told.{Told, for_object, untold}
 use Rattle.qp_model.specs.Ends.{is_assert, is_spent, is_end, ends_last}
 use Rattle.qp_model.specs.OneOrder.{stim_of, look_of}
 use Rattle.qp_model.specs.Sources.{entry_seen}
-use Rattle.qp_model_order.specs.SourceRun.{untold}
 use Rattle.qp_model_order.specs.Placing.{LooksNone, AreBehind}
 
 -- a record that is no look, no `stim` and no end of a lane, and sees no entry

@@ -21,13 +21,12 @@ use Rattle.qp_model.specs.TimeEvents.{Clock, clock_next}
 use Rattle.qp_model.specs.Sites.{ring_of}
 use Rattle.qp_model.specs.declared.systems.SignalDef.{SignalDef}
 use Rattle.qp_model.specs.declared.systems.System.{System}
-use Rattle.qp_model.specs.Parts.{is_static}
+use Rattle.qp_model.specs.Parts.{is_static, params_of}
 use Rattle.qp_model.specs.Sound.{IsSound}
 use Rattle.qp_model.specs.WordLaw.{is_block, is_object, is_signal, is_timer}
 use Rattle.qp_model.proofs.ListLemmas.{list_all-has}
 use Rattle.qp_calls.specs.declared.answers.Tick.TheVariants as ticked
 use Rattle.qp_calls.specs.declared.answers.Tick as answer
-use Rattle.qp_calls.specs.Clauses.{params_of}
 use Rattle.qp_calls.specs.Tokens.{Loose, stands}
 use Rattle.qp_plain_words.specs.declared.signal.SignalWord.{SignalWord}
 use Rattle.qp_plain_words.specs.Queue.{Queue}

@@ -14,7 +14,8 @@ use Rattle.qp_plain_sound.specs.Sound.{facts_in}
 use Rattle.qp_plain_sound.specs.View.{view_of}
 use Rattle.qp_calls_log.specs.declared.log.Log.{Log}
 use Rattle.qp_plain.specs.Books.{log_recs, all_logs}
-use Rattle.qp_calls_log.specs.LaneLaws.{TellsLog, item_told}
+use Rattle.qp_calls_log.specs.LaneLaws.{TellsLog}
+use Rattle.qp_model.specs.Told.{untold}
 use Rattle.qp_calls_log.specs.LaneLaws as logs
 
 -- what all lanes hold
@@ -27,13 +28,13 @@ lane-here others at here lt =
     ap (λ xs. get_or xs at []) (lists-are others at here) ∙ get_or-set_same (map log_recs others) at (log_recs here) [] (let long = length-map others log_recs in omega (arith, lt, long))
 
 -- what is told has the records in their order
-pub told-lane-items : (w : Facts) (c : ℕ) (is : List Item) → map item_told (told_lane w c is) ≡ is
+pub told-lane-items : (w : Facts) (c : ℕ) (is : List Item) → map untold (told_lane w c is) ≡ is
 unfolding told_lane told
 told-lane-items w c [] = refl
 told-lane-items w c (i ∷ is) = ap (λ js. i ∷ js) (told-lane-items w (ceiling_after c i.body) is)
 
 pub told-length : (w : Facts) (c : ℕ) (is : List Item) → length (told_lane w c is) ≡ length is
-told-length w c is = sym (length-map (told_lane w c is) item_told) ∙ ap length (told-lane-items w c is)
+told-length w c is = sym (length-map (told_lane w c is) untold) ∙ ap length (told-lane-items w c is)
 
 module _ (sys : System) (others : List Log) (order : List ℕ) (at : ℕ) (here : Log) (by : ℕ) (purses : List Purse) (lt : at < length others) where
   abbrev seen : LaneView

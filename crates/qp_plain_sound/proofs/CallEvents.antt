@@ -15,13 +15,13 @@ use Rattle.qp_model.specs.Record.{entry}
 use Rattle.qp_model.specs.Told.{Event, told_took}
 use Rattle.qp_model.specs.History.{Draws, touch_of, total, all_items}
 use Rattle.qp_model.specs.Line.{Line}
-use Rattle.qp_model.specs.Parts.{is_static}
+use Rattle.qp_model.specs.Parts.{is_static, params_of}
 use Rattle.qp_model.specs.Knowing.{event_of_entry, event_known, known_of, told}
 use Rattle.qp_model.specs.WordLaw.{is_object, is_block}
 use Rattle.qp_calls.specs.declared.tokens.HeldEntry.{HeldEntry}
 use Rattle.qp_calls.specs.declared.tokens.HeldEntry.TheVariants as token
 use Rattle.qp_calls.specs.Tokens.{Hold, Held, stands, with_entry}
-use Rattle.qp_calls.specs.Clauses.{EntryStands, EventIs, IsEvent, entry_of, params_of}
+use Rattle.qp_calls.specs.Clauses.{EntryStands, EventIs, IsEvent, entry_of}
 use Rattle.qp_calls.specs.Deferring.{is_named}
 use Rattle.qp_calls.proofs.HandLemmas.{held-first}
 use Rattle.qp_calls.proofs.Releasing.{with-pool}

@@ -14,12 +14,12 @@ use Rattle.qp_model.specs.Record.{Item}
 use Rattle.qp_model.specs.History.{Touch, Draws, touch, touch_of, same_word, drawn_on, drawn_as, drawn_below, numbered, hist, all_items, total, is_numbered}
 use Rattle.qp_model.specs.Machine.{after, after_from, is_allowed, allowed_from}
 use Rattle.qp_model.specs.Line.{Line, line, line_may, line_next}
-use Rattle.qp_model.specs.OneOrder.{Placed, enters, leaves}
+use Rattle.qp_model.specs.OneOrder.{Placed, enters, leaves, items_placed}
 use Rattle.qp_model.specs.Sites.{ring_of}
 use Rattle.qp_model.specs.WordLaw.{is_object}
 use Rattle.qp_model.proofs.HistoryLemmas.{drawn_as-on, filtered-pass}
 use Rattle.qp_calls.specs.Counting.{one_if, times}
-use Rattle.qp_plain_sound.specs.Log.{log_of, items_placed}
+use Rattle.qp_plain_sound.specs.Log.{log_of}
 use Rattle.qp_plain_sound.specs.Sound.{SoundWorld}
 use Rattle.qp_plain_sound.specs.WordStates.{line_in}
 use Rattle.qp_plain_sound.proofs.LogTotals.{times-log}

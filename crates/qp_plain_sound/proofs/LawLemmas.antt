@@ -18,15 +18,16 @@ use Rattle.qp_model.specs.Settled.{AllSettled, is_settled, all_settled}
 use Rattle.qp_model.proofs.KnowingLemmas.{told_lane-stays, records_of-told}
 use Rattle.qp_model.proofs.SettledLemmas.{all_settled-from}
 use Rattle.qp_calls.specs.LaneView.{Gains, LaneView, ceiling_in, is_known, mark_after, own_after}
-use Rattle.qp_calls.specs.LaneLaws.{is_caused}
+use Rattle.qp_calls.specs.LaneLaws.{is_caused, is_caused_in}
 use Rattle.qp_calls.specs.Notes.{IsNote, MayNote, note_told, told_note, stop_code, last_code}
 use Rattle.qp_calls.specs.Tokens.{Token, hands_after}
-use Rattle.qp_plain_sound.specs.Log.{lane_recs, log_of, items_placed, first_placed, with_record}
+use Rattle.qp_plain_sound.specs.Log.{lane_recs, log_of, first_placed, with_record}
+use Rattle.qp_model.specs.OneOrder.{items_placed}
 use Rattle.qp_plain_sound.specs.Sound.{SoundWorld, facts_in, hands_in, is_made}
 use Rattle.qp_plain_sound.specs.May.{May}
 use Rattle.qp_plain_sound.specs.View.{view_of, event_in}
 use Rattle.qp_plain_sound.specs.Step.{WorldStep, Grown, before, behind, MayCome}
-use Rattle.qp_plain_sound.specs.Laws.{StaysSound, LaneGainsIt, NoteIsAdded, LanesAreTheLog, LogGrowsAtItsEnd, OtherLanesStay, LaneKeepsItsLimit, LaneKeepsItsCauses, StopHasItsCause, CausesStay, WordsAreFew, LogIsNumbered, ToldByTheBook, is_caused_in}
+use Rattle.qp_plain_sound.specs.Laws.{StaysSound, LaneGainsIt, NoteIsAdded, LanesAreTheLog, LogGrowsAtItsEnd, OtherLanesStay, LaneKeepsItsLimit, LaneKeepsItsCauses, StopHasItsCause, CausesStay, WordsAreFew, LogIsNumbered, ToldByTheBook}
 use Rattle.qp_plain_sound.proofs.Logs.{log-grows, lanes-log, lane-set_other}
 use Rattle.qp_plain_sound.proofs.LogTotals.{total-log}
 use Rattle.qp_plain_sound.proofs.CallEvents.{held-has, held-same, event-its}

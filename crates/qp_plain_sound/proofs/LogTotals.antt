@@ -9,7 +9,8 @@ use Rattle.qp_model.specs.Places.{is_next, in_order}
 use Rattle.qp_model.proofs.LineLemmas.{same_number}
 use Rattle.qp_model.proofs.WordLemmas.{all_items-split}
 use Rattle.qp_calls.specs.Counting.{one_if, times}
-use Rattle.qp_plain_sound.specs.Log.{Orders, lane_recs, log_of, items_placed, first_placed}
+use Rattle.qp_plain_sound.specs.Log.{Orders, lane_recs, log_of, first_placed}
+use Rattle.qp_model.specs.OneOrder.{items_placed}
 use Rattle.qp_plain_sound.proofs.Marks.{Next, Drawing, Showing, Silent}
 use Rattle.qp_plain_sound.proofs.Times.{times-append}
 use Rattle.qp_plain_sound.proofs.Logs.{lane-there, orders-rest, some-first, without_first, lanes-split, lanes-grown}

@@ -5,11 +5,11 @@ use Rattle.std.proofs.lemmas.Bool.{eqb-true, eqb-false}
 use Rattle.std.proofs.lemmas.Bool.Decides.{nat_tests}
 use Rattle.qp_model.specs.declared.record.Rec.{Rec}
 use Rattle.qp_model.specs.Record.{item_of}
-use Rattle.qp_model.specs.OneOrder.{Placed}
+use Rattle.qp_model.specs.OneOrder.{Placed, items_placed}
 use Rattle.qp_model.specs.History.{lane_items}
 use Rattle.qp_model.proofs.ListLemmas.{slice_set-twice}
 use Rattle.qp_calls.specs.Counting.{one_if, times}
-use Rattle.qp_plain_sound.specs.Log.{lane_recs, first_placed, log_of, items_placed, Orders, with_record}
+use Rattle.qp_plain_sound.specs.Log.{lane_recs, first_placed, log_of, Orders, with_record}
 use Rattle.qp_plain_sound.specs.Step.{Grown}
 use Rattle.qp_plain_sound.proofs.Times.{times-append}
 

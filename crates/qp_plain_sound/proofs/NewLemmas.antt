@@ -21,12 +21,11 @@ use Rattle.qp_model.specs.Lives.{HasLives, life_of, edges, edges_empty, lives_co
 use Rattle.qp_model.specs.Knowing.{told_lane}
 use Rattle.qp_model.specs.Settled.{all_settled}
 use Rattle.qp_model.specs.Places.{in_order}
-use Rattle.qp_model.specs.Parts.{is_static}
+use Rattle.qp_model.specs.Parts.{is_static, params_of}
 use Rattle.qp_model.specs.Sites.{object_at, ring_of, blocks_of}
 use Rattle.qp_model.specs.Sound.{IsSound, IsSoundSignal}
 use Rattle.qp_model.specs.WordLaw.{Keeps, Words, is_object}
 use Rattle.qp_calls.specs.Counting.{times}
-use Rattle.qp_calls.specs.Clauses.{params_of}
 use Rattle.qp_calls.specs.LaneView.{FreeBlocks, first_shown}
 use Rattle.qp_calls.specs.Tokens.{Token, hands_after}
 use Rattle.qp_plain_sound.specs.Log.{empty_lanes, lane_recs, log_of}

@@ -7,7 +7,7 @@ use Rattle.qp_model.specs.declared.record.Rec.{Rec}
 use Rattle.qp_model.specs.declared.systems.System.{System}
 use Rattle.qp_model.specs.declared.bodies.Body.{Body}
 use Rattle.qp_model.specs.Record.{Item, item_of}
-use Rattle.qp_model.specs.OneOrder.{Placed}
+use Rattle.qp_model.specs.OneOrder.{Placed, items_placed}
 use Rattle.qp_model.specs.Told.{Known, for_object}
 use Rattle.qp_model.specs.History.{touch_of, all_items, lane_items}
 use Rattle.qp_model.specs.Places.{is_next, in_order}
@@ -19,7 +19,7 @@ use Rattle.qp_model.proofs.KnowingLemmas.{IsLater, known-stays, all_settled-stay
 use Rattle.qp_model.proofs.SettledLemmas.{all_settled-from, all_settled-to}
 use Rattle.qp_calls.specs.Tokens.{Token, hands_of, hands_by, hands_after}
 use Rattle.qp_calls.proofs.HandLemmas.{hands-append}
-use Rattle.qp_plain_sound.specs.Log.{lane_recs, log_of, items_placed, with_record}
+use Rattle.qp_plain_sound.specs.Log.{lane_recs, log_of, with_record}
 use Rattle.qp_plain_sound.specs.Sound.{Sound, SoundWorld, facts_in, hands_in, told_log, all_made, handles_made}
 use Rattle.qp_plain_sound.specs.May.{May}
 use Rattle.qp_plain_sound.proofs.Logs.{log-grows, orders-more, lanes-split, lanes-grown}

@@ -18,9 +18,10 @@ use Rattle.qp_model.specs.WordLaw.{Words, is_block}
 use Rattle.qp_calls.specs.Clauses.{StandsHold}
 use Rattle.qp_calls.specs.LaneView.{Gains, GrowsOf, IsNew, LaneView, Purse, ceiling_in, is_known, mark_by, own_of}
 use Rattle.qp_calls.specs.Tokens.{Hold, Token, hands_by}
-use Rattle.qp_calls.specs.LaneLaws.{IsWithinLimit, HasCauses}
+use Rattle.qp_calls.specs.LaneLaws.{IsWithinLimit, HasCauses, is_caused_in}
 use Rattle.qp_calls.specs.Notes.{MayNote, MayStop, told_note, stop_code}
-use Rattle.qp_plain_sound.specs.Log.{Orders, empty_lanes, lane_recs, log_of, items_placed}
+use Rattle.qp_plain_sound.specs.Log.{Orders, empty_lanes, lane_recs, log_of}
+use Rattle.qp_model.specs.OneOrder.{items_placed}
 use Rattle.qp_plain_sound.specs.Sound.{Sound, SoundWorld, facts_in, hands_in}
 use Rattle.qp_plain_sound.specs.Step.{WorldStep, Grown, before, behind, MayCome}
 use Rattle.qp_plain_sound.specs.Ending.{BlockStands, OnlyDeferred}
@@ -118,10 +119,6 @@ LaneKeepsItsLimit =
     (sys : System) (lanes : List (List Rec)) (order : List ℕ) (at spare by : ℕ) (stops answered : List ℕ) (purses : List Purse)
     → count_by (λ i. not (is_spill i.body)) (lane_items (lane_recs lanes at)) + spare ≤ 1000000
     → IsWithinLimit (view_of sys lanes order at spare by stops answered purses)
-
--- a code that the lane handed in has its record
-abbrev pub is_caused_in : List Item → ℕ → Bool
-is_caused_in items code = (code == 7) || (nat_lt 0 code && list_any (λ i. stop_code i.body == code) items)
 
 abbrev pub LaneKeepsItsCauses : Type 0
 LaneKeepsItsCauses =

@@ -25,10 +25,6 @@ unfolding item_of
 log_of lanes [] = []
 log_of lanes (a ∷ order) = first_placed a (lane_recs lanes a) (log_of (slice_set lanes a (drop 1 (lane_recs lanes a))) order)
 
--- without the lanes
-abbrev pub items_placed : List Placed → List Item
-items_placed log = map (λ x. x.item) log
-
 -- the order names each lane as often as it has records
 abbrev pub Orders : List (List Rec) → List ℕ → Type 0
 Orders lanes order = (a : ℕ) → times (λ x. x == a) order ≡ length (lane_recs lanes a)

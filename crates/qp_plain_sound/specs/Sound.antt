@@ -10,7 +10,7 @@ use Rattle.qp_model.specs.declared.bodies.Entry.{Entry}
 use Rattle.qp_model.specs.declared.bodies.Body.{Body}
 use Rattle.qp_model.specs.declared.bodies.Body.TheVariants.{Took, Inc, Dec, Post, Lifo}
 use Rattle.qp_model.specs.Record.{Item, entry}
-use Rattle.qp_model.specs.OneOrder.{Placed}
+use Rattle.qp_model.specs.OneOrder.{Placed, items_placed}
 use Rattle.qp_model.specs.Places.{in_order}
 use Rattle.qp_model.specs.Told.{Event, ToldItem, for_object}
 use Rattle.qp_model.specs.History.{hist, all_items}
@@ -18,12 +18,11 @@ use Rattle.qp_model.specs.Knowing.{Facts, event_of_entry, told}
 use Rattle.qp_model.specs.Settled.{all_settled}
 use Rattle.qp_model.specs.References.{Refs}
 use Rattle.qp_model.specs.Lives.{Life}
-use Rattle.qp_model.specs.Parts.{is_static}
+use Rattle.qp_model.specs.Parts.{is_static, params_of}
 use Rattle.qp_model.specs.WordLaw.{Words, is_block, is_object, is_signal}
 use Rattle.qp_calls.specs.Tokens.{Token, Held, Loose, same_token, token_of, hands_after}
 use Rattle.qp_calls.specs.Counting.{times, count_of}
-use Rattle.qp_calls.specs.Clauses.{params_of}
-use Rattle.qp_plain_sound.specs.Log.{Orders, log_of, items_placed}
+use Rattle.qp_plain_sound.specs.Log.{Orders, log_of}
 use Rattle.qp_plain_sound.specs.WordStates.{refs_in, life_in, line_in, set_in, cell_in}
 
 -- the facts of a world

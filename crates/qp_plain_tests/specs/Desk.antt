@@ -57,10 +57,3 @@ GoesOnAfter sys now list w (Some d) = is_value d ≡ true → MayGoOn sys (now �
 abbrev pub MayStillGoOn : System → List HeldEntry → LaneView → End → Type 0
 MayStillGoOn sys entries w ended.Whole = MayGoOn sys entries w
 MayStillGoOn sys entries w _ = ⊤
-
--- the timer is of this object
-pub record OwnsTimer (sys : System) (o t : ℕ) : Type 0 where
-  pub some : 0 < t
-  pub timer : TimerDef
-  pub there : slice_get sys.timers (t - 1) ≡ Some timer
-  pub owner : timer.object ≡ o

@@ -4,7 +4,8 @@ ghost use Rattle.std.specs.Prelude.{◌≡◌, ℕ, ◌∷◌, IfSome, IsTrue, t
 ghost use Rattle.qp_model.specs.Sound.{IsSound};
 ghost use Rattle.qp_model.specs.WordLaw.{is_object};
 ghost use Rattle.qp_calls.specs.Clauses.{IsEvent, EntryStands, event_of};
-ghost use Rattle.qp_plain_tests.specs.Desk.{GoesOnAfter, MayGoOn, OwnsTimer, StaysSteady};
+ghost use Rattle.qp_plain_tests.specs.Desk.{GoesOnAfter, MayGoOn, StaysSteady};
+ghost use Rattle.qp_model.specs.Parts.{OwnsTimer};
 
 use crate::handlers::announce;
 use arrayvec::ArrayVec;

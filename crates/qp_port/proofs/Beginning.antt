@@ -17,8 +17,9 @@ use Rattle.qp_port_lanes.proofs.Standing.{new-stand}
 use Rattle.qp_port.specs.declared.job.Job.{Job}
 use Rattle.qp_port.specs.declared.job.Job.TheVariants as job
 use Rattle.qp_port.specs.Jobs.{JobBegins}
-use Rattle.qp_port.specs.Making.{AreAllMade, HomesMade, IsFreshWorker, IsHomeMade, IsSourceMade, MadesHome, MadesNothing, IsFreshSource, SourcesMade}
-use Rattle.qp_port.specs.Rows.{AreNew, AreNewLanes, AreWorkers, IsHomeJobOf, IsNewOf, IsNothing, IsRow, IsSourceOf}
+use Rattle.qp_port.specs.Making.{AreAllMade, HomesMade, IsHomeMade, IsSourceMade, MadesHome, MadesNothing, IsFreshSource}
+use Rattle.qp_port_lanes.specs.Workers.{IsFreshWorker, SourcesMade, IsNewOf}
+use Rattle.qp_port.specs.Rows.{AreNew, AreNewLanes, AreWorkers, IsHomeJobOf, IsNothing, IsRow, IsSourceOf}
 use Rattle.qp_port.specs.Workers.{MayBegin}
 
 got : (xs : List (List Stim)) (n : ℕ) (x : List Stim) → slice_get xs n ≡ Some x → (get_or xs n [] ≡ x) × (n < length xs)

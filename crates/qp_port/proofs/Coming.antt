@@ -12,7 +12,8 @@ use Rattle.qp_port_lanes.specs.declared.home.Home.{Home}
 use Rattle.qp_port_lanes.specs.At.{IsUnstartedHome}
 use Rattle.qp_port.specs.declared.job.Job.{Job}
 use Rattle.qp_port.specs.declared.job.Job.TheVariants as job
-use Rattle.qp_port.specs.Making.{AddsAll, AddsOne, AreAllMade, HomesMade, IsFreshWorker, IsHomeMade, IsThis, MadesHome, MadesNothing, SourcesMade}
+use Rattle.qp_port.specs.Making.{AddsOne, AreAllMade, HomesMade, IsHomeMade, IsThis, MadesHome, MadesNothing}
+use Rattle.qp_port_lanes.specs.Workers.{AddsAll, IsFreshWorker, SourcesMade}
 use Rattle.qp_port.specs.Rows.{IsNothing}
 
 -- the first of a list is taken out

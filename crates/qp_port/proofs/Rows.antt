@@ -19,7 +19,8 @@ use Rattle.qp_port.specs.declared.job.Job.{Job}
 use Rattle.qp_port.specs.declared.job.Job.TheVariants as job
 use Rattle.qp_port_lanes.specs.Answers.{is_idle, is_short}
 use Rattle.qp_port.specs.Jobs.{IsSameJob, JobEnds, JobRests, JobStands, JobStops}
-use Rattle.qp_port.specs.Rows.{AreSameLanes, AreWorkers, IsHomeJobOf, IsNothing, IsRow, IsSourceOf}
+use Rattle.qp_port.specs.Rows.{AreWorkers, IsHomeJobOf, IsNothing, IsRow, IsSourceOf}
+use Rattle.qp_port_lanes.specs.Workers.{AreSameLanes}
 use Rattle.qp_port.specs.Workers.{MayEnd, MayTurn}
 
 pub ready-map : {T : Type 0} (P Q : T → Type 0) → ((w : T) → P w → Q w) → (ws : List T) → AreReady P ws → AreReady Q ws

@@ -29,7 +29,8 @@ use Rattle.qp_port.specs.Ends.{HasRun}
 use Rattle.qp_port_lanes.specs.Answers.{IsFed, is_idle, is_short}
 use Rattle.qp_port.specs.Jobs.{JobIsAlone, JobRests, JobStops, is_left_in, starts_of}
 use Rattle.qp_port.specs.Resting.{AreShown}
-use Rattle.qp_port.specs.Rows.{AreSameLanes, IsRow}
+use Rattle.qp_port.specs.Rows.{IsRow}
+use Rattle.qp_port_lanes.specs.Workers.{AreSameLanes}
 use Rattle.qp_model_order.specs.SourceRun.{untold_all}
 use Rattle.qp_kernel.specs.Starts.{AreStarts}
 use Rattle.qp_port_phases.specs.Starting.{StartFirst}

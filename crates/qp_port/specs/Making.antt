@@ -10,29 +10,17 @@ use Rattle.qp_port_lanes.specs.declared.cursor.Cursor.{Cursor}
 use Rattle.qp_port.specs.declared.job.Job.{Job}
 use Rattle.qp_port.specs.declared.job.Job.TheVariants as job
 use Rattle.qp_port.specs.Rows.{IsNothing}
+use Rattle.qp_port_lanes.specs.Workers.{IsFreshWorker, IsAtBegin, SourcesMade}
 
 -- it is this job
 abbrev pub IsThis : Job → Job → Type 0
 IsThis x y = y ≡ x
-
--- a worker of this run, which hasn't started
-pub record IsFreshWorker (sys : System) (budget : ℕ) (s : System) (b : ℕ) (t : Turn) : Type 0 where
-  pub sys_is : s ≡ sys
-  pub budget_is : b ≡ budget
-  pub idle : t ≡ turn.Idle
 
 -- it is of this object
 abbrev pub IsHomeMade : System → ObjectDef → Job → Type 0
 IsHomeMade sys d (job.Home x) = IsUnstartedHome sys d.priority x
 IsHomeMade sys d job.Nothing = ⊥
 IsHomeMade sys d (job.Source x) = ⊥
-
--- a cursor at the beginning of the source with this number
-pub record IsAtBegin (stimuli : List (List Stim)) (source : ℕ) (x : Cursor) : Type 0 where
-  pub stim : x.stim.now ≡ stimuli
-  pub source_is : x.source ≡ source
-  pub begun : x.begun ≡ 0
-  pub settling : x.settling ≡ false
 
 abbrev pub IsSourceMade : List (List Stim) → ℕ → Job → Type 0
 IsSourceMade stimuli k (job.Source x) = IsAtBegin stimuli k x
@@ -58,26 +46,12 @@ HomesMade Made (d ∷ ds) (w ∷ ws) = Made d w × HomesMade Made ds ws
 HomesMade Made [] (w ∷ ws) = ⊥
 HomesMade Made (d ∷ ds) [] = ⊥
 
--- one for each of these sources, the first of which has this number
-abbrev pub SourcesMade : {T : Type 0} → (ℕ → T → Type 0) → ℕ → List (List Stim) → List T → Type 0
-SourcesMade Made k [] [] = ⊤
-SourcesMade Made k (ss ∷ more) (w ∷ ws) = Made k w × SourcesMade Made (k + 1) more ws
-SourcesMade Made k [] (w ∷ ws) = ⊥
-SourcesMade Made k (ss ∷ more) [] = ⊥
-
 -- a worker came, with the first of these lanes
 pub record AddsOne {T L : Type 0} (lane : T → L) (Made : T → Type 0) (lanes : List L) (workers : List T) (rest : List L) (now : List T) : Type 0 where
   pub one : T
   pub made : Made one
   pub now_are : now ≡ workers ++ one ∷ []
   pub lanes_are : lanes ≡ lane one ∷ rest
-
--- these came
-pub record AddsAll {T L : Type 0} (lane : T → L) (Made : List T → Type 0) (lanes : List L) (workers : List T) (rest : List L) (now : List T) : Type 0 where
-  pub all : List T
-  pub made : Made all
-  pub now_are : now ≡ workers ++ all
-  pub lanes_are : lanes ≡ map lane all ++ rest
 
 -- the first has nothing, then come the objects and the sources, and no lane is left over
 pub record AreAllMade {T L : Type 0} (lane : T → L) (Nothing : T → Type 0) (Home : ObjectDef → T → Type 0) (Source : ℕ → T → Type 0) (ds : List ObjectDef) (stimuli : List (List Stim)) (lanes : List L) (workers : List T) : Type 0 where

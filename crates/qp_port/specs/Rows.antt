@@ -8,12 +8,7 @@ use Rattle.qp_kernel_turns.specs.Lanes.{SameLane}
 use Rattle.qp_port_lanes.specs.CursorAt.{mine}
 use Rattle.qp_port.specs.declared.job.Job.{Job}
 use Rattle.qp_port.specs.declared.job.Job.TheVariants as job
-
--- a new lane for this system, in the table of this name
-pub record IsNewOf (sys : System) (world : List ℕ) (v : LaneView) : Type 0 where
-  pub new : IsNew v
-  pub of : v.sys ≡ sys
-  pub world_is : v.world ≡ world
+use Rattle.qp_port_lanes.specs.Workers.{IsNewOf}
 
 -- the next of these lanes serves the next of these objects, the others are for the sources
 abbrev pub AreNew : System → List ℕ → List ObjectDef → List (List Stim) → List LaneView → Type 0
@@ -28,13 +23,6 @@ AreNew sys world [] (ss ∷ more) [] = ⊥
 abbrev pub AreNewLanes : System → List (List Stim) → List LaneView → Type 0
 AreNewLanes sys stimuli [] = ⊥
 AreNewLanes sys stimuli (v ∷ vs) = IsNewOf sys v.world v × AreNew sys v.world sys.objects stimuli vs
-
--- each is the same lane as before
-abbrev pub AreSameLanes : List LaneView → List LaneView → Type 0
-AreSameLanes [] [] = ⊤
-AreSameLanes (v ∷ vs) (w ∷ ws) = SameLane v w × AreSameLanes vs ws
-AreSameLanes [] (w ∷ ws) = ⊥
-AreSameLanes (v ∷ vs) [] = ⊥
 
 abbrev pub IsHomeJobOf : ObjectDef → Job → Type 0
 IsHomeJobOf d (job.Home x) = x.me ≡ d.priority

@@ -1,7 +1,8 @@
 //! The workers of a run, before their start.
 
 ghost use Rattle.std.specs.Prelude.{◌≡◌, ◌+◌, ◌<◌, ◌≤◌, IfOk, OnOk, length};
-ghost use Rattle.qp_port.specs.Making.{AddsAll, AddsOne, AreAllMade, HomesMade, IsFreshWorker, IsThis, MadesHome, MadesNothing, IsFreshSource, SourcesMade};
+ghost use Rattle.qp_port.specs.Making.{AddsOne, AreAllMade, HomesMade, IsThis, MadesHome, MadesNothing, IsFreshSource};
+ghost use Rattle.qp_port_lanes.specs.Workers.{AddsAll, IsFreshWorker, SourcesMade};
 
 use crate::job::Job;
 use crate::turns::Turns;

@@ -9,7 +9,8 @@ ghost use Rattle.qp_port_phases.specs.Stopping.{AnyStopped};
 ghost use Rattle.qp_port.specs.Ends.{HasRun};
 ghost use Rattle.qp_port_lanes.specs.Answers.{IsFed, is_idle, is_short};
 ghost use Rattle.qp_port.specs.Resting.{AreShown};
-ghost use Rattle.qp_port.specs.Rows.{AreNewLanes, AreSameLanes};
+ghost use Rattle.qp_port.specs.Rows.{AreNewLanes};
+ghost use Rattle.qp_port_lanes.specs.Workers.{AreSameLanes};
 
 use crate::making::{Terms, new_workers};
 use crate::rests::rests;

@@ -5,9 +5,9 @@ use Rattle.std.proofs.lemmas.List.{map-append}
 use Rattle.std.proofs.lemmas.List.Sums.{length-filter}
 use Rattle.qp_model.specs.declared.bodies.Body.TheVariants as body
 use Rattle.qp_model.specs.Lawful.{is_settle}
-use Rattle.qp_model.specs.Told.{Told, ToldItem, for_object, plain}
+use Rattle.qp_model.specs.Told.{Told, ToldItem, for_object, plain, untold}
 use Rattle.qp_model.proofs.NumberLemmas.{count-append}
-use Rattle.qp_model_order.specs.SourceRun.{untold, untold_all}
+use Rattle.qp_model_order.specs.SourceRun.{untold_all}
 use Rattle.qp_model.specs.declared.systems.System.{System}
 use Rattle.qp_model.specs.Sources.{SeesEmpty, SeesEntry, priorities}
 use Rattle.qp_calls.specs.declared.answers.Counts as counts

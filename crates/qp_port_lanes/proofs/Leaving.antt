@@ -10,13 +10,13 @@ use Rattle.qp_model.specs.declared.stimulus.Stim.{Stim}
 use Rattle.qp_model.specs.declared.systems.System.{System}
 use Rattle.qp_model.specs.declared.bodies.Body.TheVariants as body
 use Rattle.qp_model.specs.Record.{Item}
-use Rattle.qp_model.specs.Told.{Told, ToldItem, plain, for_object}
+use Rattle.qp_model.specs.Told.{Told, ToldItem, plain, for_object, untold}
 use Rattle.qp_model.specs.Knowing.{told_alone}
 use Rattle.qp_model.specs.Kernels.{sim, may_try}
 use Rattle.qp_model.specs.Ends.{is_spent, is_spill, is_end, may_cut, spills_in, spills_cut, ends_last}
 use Rattle.qp_model.specs.End.{spills_state}
 use Rattle.qp_model.specs.Sources.{StimFits, SourceEnd, AllDone, AtAssert, InStimulus, SourceRuns, entry_seen, look_may, may_end, none_twice}
-use Rattle.qp_model_order.specs.SourceRun.{untold, untold_all, source_told}
+use Rattle.qp_model_order.specs.SourceRun.{untold_all, source_told}
 use Rattle.qp_model_order.specs.Placing.{AreBehind, spill_item}
 use Rattle.qp_model_order.specs.Stimulus.{source_items}
 use Rattle.qp_model_order.specs.Laws.{stimulus_told}

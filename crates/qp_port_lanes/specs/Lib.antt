@@ -7,3 +7,4 @@ pub mod CursorAt
 pub mod SourceTurning
 pub mod Passing
 pub mod Laws
+pub mod Workers

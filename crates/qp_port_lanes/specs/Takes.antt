@@ -8,10 +8,7 @@ use Rattle.qp_model.specs.Told.{ToldItem, for_object, plain}
 use Rattle.qp_kernel.specs.Turning.{seen_told}
 use Rattle.qp_kernel_turns.specs.declared.halting.Halt.{Halt}
 use Rattle.qp_port_lanes.specs.declared.home.Home.{Home}
-
-abbrev pub is_took : Body → Bool
-is_took (Took f l m e) = true
-is_took _ = false
+use Rattle.qp_model.specs.OutputSummary.{is_took}
 
 -- a record of a take: of an entry, or of an empty queue
 abbrev pub is_take : Body → Bool

@@ -5,8 +5,8 @@ use Rattle.std.proofs.lemmas.List.{map-append}
 use Rattle.qp_model.specs.declared.words.Word.{Word}
 use Rattle.qp_model.specs.History.{Touch, mark_of, marks, same_word, touch}
 use Rattle.qp_model.specs.Record.{Item}
-use Rattle.qp_model.specs.Told.{ToldItem}
-use Rattle.qp_model_order.specs.SourceRun.{untold, untold_all}
+use Rattle.qp_model.specs.Told.{ToldItem, untold}
+use Rattle.qp_model_order.specs.SourceRun.{untold_all}
 use Rattle.qp_calls.specs.LaneView.{Advances, AreBetween, IsBetween, LaneView}
 use Rattle.qp_kernel.specs.Starts.{AreStarts, IsStartAlone, behind_starts, up_to}
 use Rattle.qp_model.specs.OutputSummary.{is_done_record}

@@ -11,7 +11,7 @@ use Rattle.qp_model.specs.declared.systems.ObjectDef.{ObjectDef}
 use Rattle.qp_model.specs.declared.bodies.Entry.{Entry}
 use Rattle.qp_model.specs.declared.bodies.Body.TheVariants as body
 use Rattle.qp_model.specs.Record.{Item}
-use Rattle.qp_model.specs.Told.{Told, ToldItem, Event, for_object, plain}
+use Rattle.qp_model.specs.Told.{Told, ToldItem, Event, for_object, plain, untold}
 use Rattle.qp_model.specs.Pieces.{Piece, Point, records_in, tell, ends_at_point}
 use Rattle.qp_model.specs.Acts.{Config}
 use Rattle.qp_model.specs.Able.{chart_able}
@@ -28,7 +28,7 @@ use Rattle.qp_model.proofs.GroupLemmas.{bare-append, bare-tell}
 use Rattle.qp_model.proofs.SequenceLemmas.{sequence-none, sequence-snoc}
 use Rattle.qp_model.proofs.ShapeLemmas.{StartShape, StepShape, groups-of, starts-shape, step-shape, turn-step}
 use Rattle.qp_model.proofs.StepLemmas.{goes_on-completes}
-use Rattle.qp_model_order.specs.SourceRun.{untold, untold_all}
+use Rattle.qp_model_order.specs.SourceRun.{untold_all}
 use Rattle.qp_model_order.proofs.CalmLemmas.{calm-all, calm-parts, calm-ends_last, calm-spents_follow, calm-states, mild-all, mild-follow, mild-states, spill_cuts-last}
 use Rattle.qp_model_order.proofs.SourceLanes.{stated, untold-append}
 use Rattle.qp_kernel.specs.Stages as stage

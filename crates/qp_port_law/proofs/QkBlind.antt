@@ -3,11 +3,10 @@ use Rattle.std.proofs.Common.{◌≡◌, ℕ, ◌+◌, ◌==◌, nat_lt, Bool, �
 use Rattle.std.specs.Option.{unwrap_or, option_and_then}
 use Rattle.qp_model.specs.declared.systems.System.{System}
 use Rattle.qp_model.specs.Record.{Item}
-use Rattle.qp_model.specs.Told.{ToldItem}
+use Rattle.qp_model.specs.Told.{ToldItem, untold}
 use Rattle.qp_model.specs.Kernels.{qk}
 use Rattle.qp_model.specs.Course.{FollowsTo}
 use Rattle.qp_model.specs.KernelLane.{Reading, Role, Looks, Sees, Rests, Drops, Spills, Upcoming, Inside, Looking, Chosen, Ended, Resting, Again, Over, Halted, floor_in, found_none, looking_at, look_next, seen_next, own_next, inside_next, ended_next, rest_next, place_next, started_next, role_next, lane_next, lane_on, unread, role_of}
-use Rattle.qp_model_order.specs.SourceRun.{untold}
 use Rattle.qp_kernel.specs.LaneZero.{told_pieces_at, told_pieces, setting}
 use Rattle.qp_kernel.specs.ZeroEnds.{cut_in, ZeroEnds}
 

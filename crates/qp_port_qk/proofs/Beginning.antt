@@ -18,8 +18,9 @@ use Rattle.qp_port_lanes.proofs.Standing.{new-stand}
 use Rattle.qp_port_qk.specs.declared.job.QkJob.{QkJob}
 use Rattle.qp_port_qk.specs.declared.job.QkJob.TheVariants as job
 use Rattle.qp_port_qk.specs.Jobs.{QkJobBegins, QkJobRests, QkJobStands, qk_starts_of}
-use Rattle.qp_port_qk.specs.Making.{AreAllQkMade, IsFreshWorker, IsKernelMade, IsQkSourceMade, MadesKernel, IsFreshQkSource, SourcesMade}
-use Rattle.qp_port_qk.specs.Rows.{AreNewSources, AreNewQkLanes, AreSources, IsKernel, IsNewOf, IsQkRow, IsQkSourceOf}
+use Rattle.qp_port_qk.specs.Making.{AreAllQkMade, IsKernelMade, IsQkSourceMade, MadesKernel, IsFreshQkSource}
+use Rattle.qp_port_lanes.specs.Workers.{IsFreshWorker, SourcesMade, IsNewOf}
+use Rattle.qp_port_qk.specs.Rows.{AreNewSources, AreNewQkLanes, AreSources, IsKernel, IsQkRow, IsQkSourceOf}
 use Rattle.qp_port_qk.specs.Workers.{FirstBegins, QkMayBegin, QkMayTurn, IsBlank, OthersAre}
 
 got : (xs : List (List Stim)) (n : ℕ) (x : List Stim) → slice_get xs n ≡ Some x → (get_or xs n [] ≡ x) × (n < length xs)

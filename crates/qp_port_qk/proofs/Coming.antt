@@ -3,7 +3,8 @@ use Rattle.std.proofs.Common.{◌≡◌, ℕ, suc, ◌+◌, ◌<◌, List, [], �
 use Rattle.std.specs.List.{remove}
 use Rattle.std.proofs.lemmas.List.{length-map}
 use Rattle.qp_model.specs.declared.stimulus.Stim.{Stim}
-use Rattle.qp_port_qk.specs.Making.{AddsAll, AreAllQkMade, SourcesMade}
+use Rattle.qp_port_qk.specs.Making.{AreAllQkMade}
+use Rattle.qp_port_lanes.specs.Workers.{AddsAll, SourcesMade}
 
 -- the first of a list is taken out
 pub first-taken : {A : Type 0} → (xs : List A) (r : A) → 0 < length xs → r ≡ slice_index_or xs 0 r → xs ≡ r ∷ remove xs 0

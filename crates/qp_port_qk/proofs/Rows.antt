@@ -18,7 +18,8 @@ use Rattle.qp_port_qk.specs.declared.job.QkJob.TheVariants as job
 use Rattle.qp_port_lanes.specs.Answers.{is_idle, is_short}
 use Rattle.qp_port_qk.specs.Jobs.{IsSameQkJob, QkJobEnds, JobMayEnd, QkJobRests, QkJobStands}
 use Rattle.qp_port_qk.specs.Numbers.{numbers_of}
-use Rattle.qp_port_qk.specs.Rows.{AreSameLanes, AreSources, IsKernel, IsQkRow, IsQkSourceOf}
+use Rattle.qp_port_qk.specs.Rows.{AreSources, IsKernel, IsQkRow, IsQkSourceOf}
+use Rattle.qp_port_lanes.specs.Workers.{AreSameLanes}
 use Rattle.qp_port_qk.specs.Workers.{QkMayEnd, QkMayTurn}
 
 pub ready-map : {T : Type 0} (P Q : T → Type 0) → ((w : T) → P w → Q w) → (ws : List T) → AreReady P ws → AreReady Q ws

@@ -58,7 +58,8 @@ use Rattle.qp_port_qk.specs.Jobs.{JobMayEnd, QkJobRests, QkJobStands, qk_is_left
 use Rattle.qp_port_qk.specs.KernelRests.{KernelEnds}
 use Rattle.qp_port_qk.specs.Numbers.{job_rows, numbers_of}
 use Rattle.qp_port_qk.specs.Resting.{AreLeft, AreShownBy, AreShownFirst}
-use Rattle.qp_port_qk.specs.Rows.{AreSameLanes, AreSources, IsKernel, IsQkRow, IsQkSourceOf}
+use Rattle.qp_port_qk.specs.Rows.{AreSources, IsKernel, IsQkRow, IsQkSourceOf}
+use Rattle.qp_port_lanes.specs.Workers.{AreSameLanes}
 use Rattle.qp_port_qk.specs.Workers.{IsSameQkWorker, QkMayBegin, QkMayEnd, QkMayTurn, FirstBegins, IsBlank, OthersAre}
 use Rattle.qp_port_qk.proofs.Beginning.{AreReadyAll}
 use Rattle.qp_port_qk.proofs.Ending.{has-turned}

@@ -11,10 +11,10 @@ use Rattle.qp_model.specs.KernelLane.{Again, Chosen, Ended, Halted, Inside, Look
 use Rattle.qp_model.specs.Kernels.{qk}
 use Rattle.qp_model.specs.Lawful.{is_settle}
 use Rattle.qp_model.specs.Sites.{object_at}
-use Rattle.qp_model.specs.Told.{ToldItem}
+use Rattle.qp_model.specs.Told.{ToldItem, untold}
 use Rattle.qp_model.specs.WordLaw.{is_object}
 use Rattle.qp_model.proofs.NumberLemmas.{count-append}
-use Rattle.qp_model_order.specs.SourceRun.{untold, untold_all}
+use Rattle.qp_model_order.specs.SourceRun.{untold_all}
 use Rattle.qp_stim.specs.Rules.{StimuliFit}
 use Rattle.qp_calls.specs.LaneView.{LaneView}
 use Rattle.qp_dispatch.specs.declared.objects.Turn.{Turn}

@@ -9,12 +9,7 @@ use Rattle.qp_kernel_turns.specs.Lanes.{SameLane}
 use Rattle.qp_port_lanes.specs.CursorAt.{mine}
 use Rattle.qp_port_qk.specs.declared.job.QkJob.{QkJob}
 use Rattle.qp_port_qk.specs.declared.job.QkJob.TheVariants as job
-
--- a new lane for this system, in the table of this name
-pub record IsNewOf (sys : System) (world : List ℕ) (v : LaneView) : Type 0 where
-  pub new : IsNew v
-  pub of : v.sys ≡ sys
-  pub world_is : v.world ≡ world
+use Rattle.qp_port_lanes.specs.Workers.{IsNewOf}
 
 abbrev pub AreNewSources : System → List ℕ → List (List Stim) → List LaneView → Type 0
 AreNewSources sys world [] [] = ⊤
@@ -27,13 +22,6 @@ abbrev pub AreNewQkLanes : System → List (List Stim) → List LaneView → Typ
 AreNewQkLanes sys stimuli [] = ⊥
 AreNewQkLanes sys stimuli (v ∷ vs) =
     IsNewOf sys v.world v × ((d : ObjectDef) → object_at sys d.priority ≡ Some d → v.serves d.priority ≡ true) × (v.plan ≡ []) × AreNewSources sys v.world stimuli vs
-
--- each is the same lane as before
-abbrev pub AreSameLanes : List LaneView → List LaneView → Type 0
-AreSameLanes [] [] = ⊤
-AreSameLanes (v ∷ vs) (w ∷ ws) = SameLane v w × AreSameLanes vs ws
-AreSameLanes [] (w ∷ ws) = ⊥
-AreSameLanes (v ∷ vs) [] = ⊥
 
 abbrev pub IsKernel : QkJob → Type 0
 IsKernel (job.Kernel xs k) = ⊤

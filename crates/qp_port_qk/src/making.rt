@@ -2,7 +2,8 @@
 
 ghost use Rattle.std.specs.Prelude.{◌≡◌, ◌+◌, ◌<◌, ◌≤◌, IfOk, OnOk, length};
 ghost use Rattle.qp_kernel_turns.specs.Objects.{AreMade};
-ghost use Rattle.qp_port_qk.specs.Making.{AddsAll, AreAllQkMade, MadesKernel, IsFreshQkSource, SourcesMade};
+ghost use Rattle.qp_port_qk.specs.Making.{AreAllQkMade, MadesKernel, IsFreshQkSource};
+ghost use Rattle.qp_port_lanes.specs.Workers.{AddsAll, SourcesMade};
 
 use crate::job::QkJob;
 use crate::worker::QkWorker;

@@ -9,7 +9,8 @@ ghost use Rattle.qp_port_phases.specs.Stopping.{AnyStopped};
 ghost use Rattle.qp_port_qk.specs.Ends.{HasQkRun, has_ended_idle};
 ghost use Rattle.qp_port_lanes.specs.Answers.{IsFed, is_idle, is_short};
 ghost use Rattle.qp_port_qk.specs.Resting.{AreLeft, AreShownFirst};
-ghost use Rattle.qp_port_qk.specs.Rows.{AreNewQkLanes, AreSameLanes};
+ghost use Rattle.qp_port_qk.specs.Rows.{AreNewQkLanes};
+ghost use Rattle.qp_port_lanes.specs.Workers.{AreSameLanes};
 
 use crate::making::{QkTerms, new_workers};
 use crate::rests::rests;

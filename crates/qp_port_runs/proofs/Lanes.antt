@@ -15,7 +15,8 @@ use Rattle.qp_table.specs.Counting.{Each}
 use Rattle.qp_shared.specs.declared.shared.Shared.{Shared}
 use Rattle.qp_shared.specs.Ending.{AreAll}
 use Rattle.qp_shared.specs.Starting.{AreFirst, IsNewLaneOf, serves_all, world_name}
-use Rattle.qp_port_qk.specs.Rows.{AreNewSources, AreNewQkLanes, AreSameLanes, IsNewOf}
+use Rattle.qp_port_qk.specs.Rows.{AreNewSources, AreNewQkLanes}
+use Rattle.qp_port_lanes.specs.Workers.{AreSameLanes, IsNewOf}
 
 -- Before the run.
 

@@ -9,7 +9,8 @@ use Rattle.qp_calls.specs.LaneView.{LaneView}
 use Rattle.qp_shared.specs.declared.shared.Shared.{Shared}
 use Rattle.qp_shared.specs.Starting.{AreFirst, serves_one}
 use Rattle.qp_port_qk.specs.Rows as rows
-use Rattle.qp_port.specs.Rows.{AreNew, AreNewLanes, AreSameLanes, IsNewOf}
+use Rattle.qp_port_lanes.specs.Workers.{AreSameLanes, IsNewOf}
+use Rattle.qp_port.specs.Rows.{AreNew, AreNewLanes}
 
 -- lane i serves the i-th object
 serves-its : (sys : System) (i : ℕ) (d : ObjectDef) → slice_get sys.objects i ≡ Some d → serves_one sys (suc i) d.priority ≡ true
@@ -44,7 +45,7 @@ new-port_lanes s n stimuli (v ∷ vs) many h =
     )
 
 -- the same lanes, as a run under `qk` says it
-pub same-as : (vs ws : List LaneView) → AreSameLanes vs ws → rows.AreSameLanes vs ws
+pub same-as : (vs ws : List LaneView) → AreSameLanes vs ws → AreSameLanes vs ws
 same-as [] [] same = tt
 same-as (v ∷ vs) (w ∷ ws) same = (same.0, same-as vs ws same.1)
 same-as [] (w ∷ ws) same = absurd same

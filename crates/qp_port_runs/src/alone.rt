@@ -7,7 +7,8 @@ ghost use Rattle.qp_stim.specs.Rules.{StimuliFit};
 ghost use Rattle.qp_port_lanes.specs.Answers.{IsFed};
 ghost use Rattle.qp_port_phases.specs.Stopping.{AnyStopped};
 ghost use Rattle.qp_port_qk.specs.Ends.{HasQkRun};
-ghost use Rattle.qp_port_qk.specs.Rows.{AreNewQkLanes, AreSameLanes};
+ghost use Rattle.qp_port_qk.specs.Rows.{AreNewQkLanes};
+ghost use Rattle.qp_port_lanes.specs.Workers.{AreSameLanes};
 
 use qp_base::{Gate, Memory};
 use qp_calls_log::Meets;

@@ -17,13 +17,12 @@ use Rattle.qp_model.specs.declared.bodies.Body.TheVariants as item
 use Rattle.qp_model.specs.Record.{entry}
 use Rattle.qp_model.specs.Told.{Told, plain}
 use Rattle.qp_model.specs.Calls as call
-use Rattle.qp_model.specs.Parts.{is_static}
+use Rattle.qp_model.specs.Parts.{is_static, params_of}
 use Rattle.qp_model.specs.Sites.{object_at, ring_of}
 use Rattle.qp_model.specs.Sound.{IsSound, IsSoundTimer}
 use Rattle.qp_model.specs.WordLaw.{is_object, is_signal}
 use Rattle.qp_model.specs.Sources.{CallFits, TicksOne, FiresInVain, Ticks, SeesEmpty, SeesEntry, Tries, priorities, Settles, StimFits, SourceEnd, AfterTry, AtAssert, InStimulus, EndsIn, SourceRuns}
 use Rattle.qp_stim.specs.Rules as rule
-use Rattle.qp_calls.specs.Clauses.{params_of}
 use Rattle.qp_calls.specs.Tokens.{Token, hands_by}
 use Rattle.qp_plain_sound.specs.Sound.{is_event}
 use Rattle.qp_replay.proofs.CallRecords.{Claims, Leads, Named, Lin, Rules, leads-append, leads-less, leads-nil, leads-same, lin-append, lin-front, other-leads, post-one, still}

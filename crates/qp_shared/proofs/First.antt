@@ -14,12 +14,12 @@ use Rattle.qp_model.specs.Sites.{blocks_of}
 use Rattle.qp_model.specs.WordLaw.{is_signal, is_timer}
 use Rattle.qp_model.specs.Sound.{IsSound, IsSoundSignal}
 use Rattle.qp_model.proofs.ListLemmas.{every-at}
-use Rattle.qp_model.specs.Parts.{is_static}
+use Rattle.qp_model.specs.Parts.{is_static, params_of}
 use Rattle.qp_model.specs.declared.systems.SignalDef.{SignalDef}
 use Rattle.qp_calls.specs.LaneView.{Shown, FreeBlocks, first_shown, codes_in, handled_in, ceiling_in, own_after}
 use Rattle.qp_calls.specs.Tokens.{Token, Held, Loose, token_of, hands_after}
 use Rattle.qp_calls_log.specs.declared.log.Log.{Log}
-use Rattle.qp_table.specs.Rule.{params_of, mark_in, bits_value, is_serve}
+use Rattle.qp_table.specs.Rule.{mark_in, bits_value, is_serve}
 use Rattle.qp_table.specs.After.{empty_view}
 use Rattle.qp_table.specs.declared.view.Serve.{Serve}
 use Rattle.qp_table.specs.declared.view.View.{View}
@@ -30,7 +30,8 @@ use Rattle.qp_table.specs.Lane.{own_recs, on_table_of, tell_lane, event_seen, la
 use Rattle.qp_side.specs.Rule.{SideFitting, signal_at, timer_at}
 use Rattle.qp_side.specs.Told.{last_seen}
 use Rattle.qp_side.specs.declared.view.SideView.{SideView}
-use Rattle.qp_shared_lane.specs.Holds.{LaneHolds, on_side_of, told_by, borne_out, KnowSubscribers, AreFormer, side_mark}
+use Rattle.qp_shared_lane.specs.Holds.{LaneHolds, on_side_of, told_by, borne_out, KnowSubscribers, AreFormer}
+use Rattle.qp_side.specs.Seat.{side_mark}
 use Rattle.qp_shared_lane.specs.Lane.{lane_with}
 use Rattle.qp_shared_ends.proofs.Maps.{free-ascend}
 use Rattle.qp_table.proofs.Maps.{ones-length}

@@ -23,7 +23,8 @@ use Rattle.qp_table.proofs.Meeting.{latest-mark}
 use Rattle.qp_side.specs.Rule.{signal_at, timer_at}
 use Rattle.qp_side.specs.Told.{last_seen, served_by, both_of, side_onlooker}
 use Rattle.qp_side.specs.declared.view.SideView.{SideView}
-use Rattle.qp_shared_lane.specs.Holds.{LaneHolds, side_mark, told_by}
+use Rattle.qp_shared_lane.specs.Holds.{LaneHolds, told_by}
+use Rattle.qp_side.specs.Seat.{side_mark}
 use Rattle.qp_shared_lane.specs.Lane.{lane_context, lane_with, state_view}
 use Rattle.qp_shared_lane.specs.declared.lane.LaneState.{LaneState}
 use Rattle.qp_shared_lane.proofs.LawLemmas.{looks_keep_the_lane, worlds_name_tables}

@@ -42,7 +42,8 @@ use Rattle.qp_table.specs.Told.{HasPlace, free_of, shortage_rec}
 use Rattle.qp_shared_loops.specs.Ends.{LoopGives, LoopGivesNone, GiveEnds, was_seen_as, word_without}
 use Rattle.qp_shared_loops.specs.declared.gives.Life.{Life}
 use Rattle.qp_shared_lane.specs.declared.lane.LaneState.{LaneState}
-use Rattle.qp_shared_lane.specs.Holds.{LaneHolds, told_by, was_seen, side_mark, is_borne_out, IsPlaced}
+use Rattle.qp_shared_lane.specs.Holds.{LaneHolds, told_by, was_seen, is_borne_out, IsPlaced}
+use Rattle.qp_side.specs.Seat.{side_mark}
 use Rattle.qp_shared_lane.specs.Lane.{world_of_lane, lane_with, state_view}
 use Rattle.qp_shared_lane.specs.More.{IsPut, OnTable, ViewFollows, SideFollows, AddsRecord}
 use Rattle.qp_shared_lane.specs.Laws.{LaneGainsRecord, RecordKept}

@@ -21,10 +21,10 @@ use Rattle.qp_table.specs.declared.view.View.{View}
 use Rattle.qp_table.proofs.Counting.{total-at}
 use Rattle.qp_table.proofs.Tokens.{fresh-alone, used-alone, standing, held-stands}
 use Rattle.qp_table.proofs.Steps.{inc-says, dec-says, back-says, block-below, x-count, y-is}
-use Rattle.qp_table.specs.Asked.{is_begun, is_asked, size_of as room_of}
+use Rattle.qp_table.specs.Asked.{is_begun, is_asked, size_of as room_of, is_unfinished}
 use Rattle.qp_table.specs.Told.{DropTold, FirstTold, MoreTold, BackTold, FromTold, FillTold, ReadTold}
 use Rattle.qp_core_steps.specs.Seats.{seat_may_act, may_add, glance, noting}
-use Rattle.qp_core_steps.specs.Blocks.{added, number_of_word, bit_of, block_size, has_left, is_unfinished, asks_for, is_ref_to, is_give_over, has_ready, with_ref, without_ref}
+use Rattle.qp_core_steps.specs.Blocks.{added, number_of_word, bit_of, block_size, has_left, asks_for, is_ref_to, is_give_over, has_ready, with_ref, without_ref}
 use Rattle.qp_core_steps.specs.declared.seats.Seat.{Seat}
 use Rattle.qp_core_steps.specs.declared.ops.Op.TheVariants as op
 use Rattle.qp_shared_core.specs.CoreStep.{seat_of, IsCoreStep}

@@ -21,7 +21,8 @@ use Rattle.qp_model.specs.Lists.{is_first}
 use Rattle.qp_model.specs.Sites.{blocks_of}
 use Rattle.qp_model.specs.WordLaw.{is_pool, is_block}
 use Rattle.qp_table.specs.Counting.{many}
-use Rattle.qp_table.specs.Rule.{pool_at, block_at, bits_value, is_spot_at, params_of, IsContent, Holds}
+use Rattle.qp_table.specs.Rule.{pool_at, block_at, bits_value, is_spot_at, IsContent, Holds}
+use Rattle.qp_model.specs.Parts.{params_of}
 use Rattle.qp_table.specs.After.{HasRoom, rec_of, spot, gave, glanced, noted}
 use Rattle.qp_table.specs.declared.view.View.{View}
 use Rattle.qp_table.proofs.Counting.{total-at, many-snoc}

@@ -21,7 +21,7 @@ use Rattle.qp_model.specs.WordLaw.{is_block, is_object}
 use Rattle.qp_table.specs.Counting.{Each, many}
 use Rattle.qp_table.specs.Now.{Now}
 use Rattle.qp_table.specs.Rule.{queue_at, cell_at, mark_in, is_ref, is_place, on_queue, is_serve, is_lifo, is_take_of, records, Served, code, Holds}
-use Rattle.qp_table.specs.After.{HasRoom, InHand, rec_of, place, bump, glanced, noted, laid, learned}
+use Rattle.qp_table.specs.After.{HasRoom, InHand, rec_of, place, bump, glanced, noted, laid, learned, full_rec}
 use Rattle.qp_table.specs.QueueLaws.{f_in, l_in, m_in, cells_of, front_cell}
 use Rattle.qp_table.specs.declared.view.CellPlace.{CellPlace}
 use Rattle.qp_table.specs.declared.view.SeatLog.{SeatLog}
@@ -33,18 +33,18 @@ use Rattle.qp_table.proofs.Tokens.{standing, held-stands}
 use Rattle.qp_table.proofs.QueueSteps.{post-says, lifo-says, took-says}
 use Rattle.qp_table.proofs.Looks.{seen-says, nil-says, full-says, no_entry-says, no_lifo-says}
 use Rattle.qp_table.proofs.Own.{served-own}
-use Rattle.qp_table.specs.Asked.{older, oldest, IsOldest}
+use Rattle.qp_table.specs.Asked.{older, oldest, IsOldest, older as core_older}
 use Rattle.qp_table.specs.Told.{SeenTold, NilTold, nil_rec, free_in, refusal_rec, EyeTold, TryTold, claimed_at, SwapTold, freed, FreeTold, EyeLastTold, LastTold, put_first_at, before_front}
 use Rattle.qp_core_steps.specs.Seats.{seat_may_act, may_add, glance, noting}
 use Rattle.qp_core_steps.specs.Blocks.{added}
 use Rattle.qp_core_steps.specs.declared.seats.Seat.{Seat}
 use Rattle.qp_core_steps.specs.Looks.{counts_match, entry_count, states_queue, states}
-use Rattle.qp_core_steps.specs.Queues.{entry_for, in_hand, has_free_entry, operations_in, serves_it, bumped, with_claim, with_lifo, without_take, older as core_older, oldest_claim as core_oldest, is_claimed, front_at, before_at, decoded_entry, front_cell_of}
+use Rattle.qp_core_steps.specs.Queues.{entry_for, in_hand, has_free_entry, operations_in, serves_it, bumped, with_claim, with_lifo, without_take, oldest_claim as core_oldest, is_claimed, front_at, before_at, decoded_entry, front_cell_of}
 use Rattle.qp_core_steps.specs.declared.ops.Op.{Op}
 use Rattle.qp_core_steps.specs.declared.ops.Op.TheVariants as op
 use Rattle.qp_core_steps.proofs.QueueLemmas.{code-is, code-read, claim-inside}
 use Rattle.qp_shared_core.specs.CoreStep.{seat_of, IsCoreStep}
-use Rattle.qp_shared_core.specs.Ops.{look_with, look_for_take, look_for_post, claim, claim_or_look, full_rec, look_for_last, last, last_or_look, empty_or_peek}
+use Rattle.qp_shared_core.specs.Ops.{look_with, look_for_take, look_for_post, claim, claim_or_look, look_for_last, last, last_or_look, empty_or_peek}
 use Rattle.qp_shared_core.proofs.Seating.{lt-of, le-of, many-any, none-any, same-number, body-is, acts, adds}
 
 -- entries and claims as the core names them

@@ -9,7 +9,7 @@ use Rattle.qp_model.specs.declared.bodies.Entry.{Entry}
 use Rattle.qp_model.specs.declared.words.Word.{Word}
 use Rattle.qp_model.specs.declared.words.Word.TheVariants as word
 use Rattle.qp_model.specs.Sites.{ring_of}
-use Rattle.qp_table.specs.After.{rec_of}
+use Rattle.qp_table.specs.After.{rec_of, full_rec}
 use Rattle.qp_table.specs.QueueLaws.{f_in, l_in, m_in}
 use Rattle.qp_core_steps.specs.declared.ops.Op.{Op}
 use Rattle.qp_core_steps.specs.declared.ops.Op.TheVariants as op
@@ -39,10 +39,6 @@ claim a e = cond {A = Op} (eqb e.pool 0) (op.Claim a 0 0 e.block) (op.Claim a e.
 
 abbrev pub claim_or_look : System → ℕ → ℕ → Option ℕ → Entry → ℕ → ℕ → Op
 claim_or_look sys a o margin e old n = cond {A = Op} (eqb n old) (claim a e) (look_for_post sys a o margin n)
-
--- the same for a last-in post
-abbrev pub full_rec : ℕ → ℕ → Rec
-full_rec a n = rec_of 42 a (5 ∷ a ∷ (n % 2097152) ∷ (n / 2097152 % 2097152) ∷ (n / 4398046511104) ∷ [])
 
 abbrev pub look_for_last : System → ℕ → ℕ → Op
 look_for_last sys a n = look_with (word.Queue a) (eqb (free_in (ring_of sys a) n) 0) (full_rec a n)

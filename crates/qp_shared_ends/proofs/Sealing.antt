@@ -44,7 +44,8 @@ use Rattle.qp_table.specs.Words.{mark_seen, shown_seen}
 use Rattle.qp_table.specs.Lane.{tokens, tokens_of_view, own_of_logs, own_recs, on_table_of, event_seen, lane_mark, lane_of}
 use Rattle.qp_table.specs.Telling.{is_on_table as is_on_table_too}
 use Rattle.qp_shared_lane.specs.declared.lane.LaneState.{LaneState}
-use Rattle.qp_shared_lane.specs.Holds.{LaneHolds, on_side_of, told_by, side_mark}
+use Rattle.qp_shared_lane.specs.Holds.{LaneHolds, on_side_of, told_by}
+use Rattle.qp_side.specs.Seat.{side_mark}
 use Rattle.qp_shared_lane.specs.Lane.{state_view}
 use Rattle.qp_shared_ends.specs.Lanes.{lanes_recs}
 use Rattle.qp_shared_ends.specs.SeatEnd.{AtEnd}

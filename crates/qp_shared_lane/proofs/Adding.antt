@@ -36,7 +36,8 @@ use Rattle.qp_table.proofs.Saying.{same-more, logged-one, logged-number}
 use Rattle.qp_side.specs.Rule.{signal_at}
 use Rattle.qp_side.specs.Told.{last_seen}
 use Rattle.qp_side.specs.declared.view.SideView.{SideView}
-use Rattle.qp_shared_lane.specs.Holds.{LaneHolds, told_by, side_mark, on_side_of, is_borne_out, SubscriberIs, FormerIs}
+use Rattle.qp_shared_lane.specs.Holds.{LaneHolds, told_by, on_side_of, is_borne_out, SubscriberIs, FormerIs}
+use Rattle.qp_side.specs.Seat.{side_mark}
 use Rattle.qp_shared_lane.specs.Lane.{lane_with}
 use Rattle.qp_shared_lane.specs.More.{IsPut, ViewFollows, SideFollows, AddsRecord, OnTable, OnSide, IsNoted}
 use Rattle.qp_shared_lane.specs.Laws.{LaneGainsRecord, TableRecordsKeepTheLane, SideRecordsKeepTheLane, NotesKeepTheLane}

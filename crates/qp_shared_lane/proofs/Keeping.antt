@@ -27,7 +27,8 @@ use Rattle.qp_table.proofs.ViewLawLemmas.{records_gain, looks_show}
 use Rattle.qp_side.specs.Rule.{signal_at}
 use Rattle.qp_side.specs.Told.{last_seen}
 use Rattle.qp_side.specs.declared.view.SideView.{SideView}
-use Rattle.qp_shared_lane.specs.Holds.{LaneHolds, told_by, side_mark, on_side_of, AreRead, IsBehind, IsSideBehind, AreFormer, FormerIs, borne_out, KnowSubscribers}
+use Rattle.qp_shared_lane.specs.Holds.{LaneHolds, told_by, on_side_of, AreRead, IsBehind, IsSideBehind, AreFormer, FormerIs, borne_out, KnowSubscribers}
+use Rattle.qp_side.specs.Seat.{side_mark}
 use Rattle.qp_shared_lane.specs.Lane.{lane_context, lane_with}
 use Rattle.qp_shared_lane.specs.More.{IsPut, ViewFollows, SideFollows, KeepsContents, AddsRecord, AddsNothing}
 use Rattle.qp_shared_lane.specs.Laws.{RecordsKeepTheLane, LooksKeepTheLane}

@@ -12,7 +12,8 @@ use Rattle.qp_calls.specs.LaneView.{codes_in, ceiling_in}
 use Rattle.qp_calls_log.specs.declared.log.Log.{Log}
 use Rattle.qp_table.specs.Lane.{lane_of, own_recs, on_table_of, tell_lane, event_seen, tokens, lane_number}
 use Rattle.qp_side.specs.declared.view.SideView.{SideView}
-use Rattle.qp_shared_lane.specs.Holds.{LaneHolds, told_by, on_side_of, side_mark, AreRead, IsBehind, IsSideBehind, AreFormer, borne_out, KnowSubscribers}
+use Rattle.qp_shared_lane.specs.Holds.{LaneHolds, told_by, on_side_of, AreRead, IsBehind, IsSideBehind, AreFormer, borne_out, KnowSubscribers}
+use Rattle.qp_side.specs.Seat.{side_mark}
 use Rattle.qp_shared_lane.specs.Lane.{lane_with}
 use Rattle.qp_shared_lane.specs.Laws.{LogsKeepTheLane}
 

@@ -13,7 +13,7 @@ use Rattle.qp_model.specs.declared.bodies.Entry.{Entry}
 use Rattle.qp_model.specs.declared.bodies.Body.{Body}
 use Rattle.qp_model.specs.declared.bodies.Body.TheVariants.{Took, New, Dec, Lock, Same}
 use Rattle.qp_model.specs.Record.{Item, item_of}
-use Rattle.qp_model.specs.Told.{Known, OfEvent, Free, Left, ToldItem, Event}
+use Rattle.qp_model.specs.Told.{Known, OfEvent, Free, Left, ToldItem, Event, untold}
 use Rattle.qp_model.specs.History.{mark_of, touch, lane_items, marks}
 use Rattle.qp_model.specs.Knowing.{ceiling_after}
 use Rattle.qp_model.proofs.RecordLemmas.{lane_items-more}
@@ -22,7 +22,6 @@ use Rattle.qp_table.specs.declared.view.Glance.{Glance}
 use Rattle.qp_calls.specs.Tokens.{token_of, handles}
 use Rattle.qp_calls.specs.LaneView.{handled_in, ceiling_in}
 use Rattle.qp_calls.proofs.HandLemmas.{same-self}
-use Rattle.qp_calls_log.specs.LaneLaws.{item_told}
 use Rattle.qp_table.specs.Lane.{known_with, tell_lane}
 use Rattle.qp_shared_lane.specs.Holds.{was_seen, is_borne_out, borne_out, SubscriberIs, KnowSubscribers, FormerIs, AreFormer}
 
@@ -95,12 +94,12 @@ borne-more sys xs ys told t h e = list_all-append (borne_out sys (xs ++ ys)) tol
 
 -- Subscribers.
 
-pub subscribers-more : (serves : ℕ → Bool) (before items : List Item) (told : List ToldItem) (t : ToldItem) → before ++ map item_told told ≡ items → KnowSubscribers serves before told → SubscriberIs serves items t.of t.told.body t.told.known → KnowSubscribers serves before (told ++ t ∷ [])
+pub subscribers-more : (serves : ℕ → Bool) (before items : List Item) (told : List ToldItem) (t : ToldItem) → before ++ map untold told ≡ items → KnowSubscribers serves before told → SubscriberIs serves items t.of t.told.body t.told.known → KnowSubscribers serves before (told ++ t ∷ [])
 unfolding KnowSubscribers
 subscribers-more serves before items [] t is h e = (subst (λ (xs : List Item). SubscriberIs serves xs t.of t.told.body t.told.known) (sym is ∙ append-nil before) e, tt)
-subscribers-more serves before items (x ∷ told) t is h e = (h.0, subscribers-more serves (before ++ item_told x ∷ []) items told t (append_assoc before (item_told x ∷ []) (map item_told told) ∙ is) h.1 e)
+subscribers-more serves before items (x ∷ told) t is h e = (h.0, subscribers-more serves (before ++ untold x ∷ []) items told t (append_assoc before (untold x ∷ []) (map untold told) ∙ is) h.1 e)
 
-pub told-bare : (ev : Entry → Event) (recs : List Rec) (ks : List ℕ) → length ks ≡ length recs → map item_told (tell_lane ev recs ks) ≡ lane_items recs
+pub told-bare : (ev : Entry → Event) (recs : List Rec) (ks : List ℕ) → length ks ≡ length recs → map untold (tell_lane ev recs ks) ≡ lane_items recs
 unfolding tell_lane lane_items
 told-bare ev [] ks e = refl
 told-bare ev (r ∷ rs) [] e = absurd (omega arith)

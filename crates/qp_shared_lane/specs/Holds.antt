@@ -13,11 +13,11 @@ use Rattle.qp_model.specs.Record.{Item}
 use Rattle.qp_model.specs.Told.{Known, Free, Left, Former, Member, ToldItem}
 use Rattle.qp_model.specs.History.{touch, lane_items, marks}
 use Rattle.qp_model.specs.Knowing.{ceiling_after}
-use Rattle.qp_model.specs.Parts.{is_static}
+use Rattle.qp_model.specs.Parts.{is_static, params_of}
 use Rattle.qp_model.specs.WordLaw.{is_pool, is_block, is_signal, is_timer}
 use Rattle.qp_table.specs.TwoTables.{on_side}
 use Rattle.qp_table.specs.Counting.{many}
-use Rattle.qp_table.specs.Rule.{Fitting, params_of, pool_at, block_at, mark_in, is_entry, is_spot, is_spot_at, is_serve}
+use Rattle.qp_table.specs.Rule.{Fitting, pool_at, block_at, mark_in, is_entry, is_spot, is_spot_at, is_serve}
 use Rattle.qp_table.specs.declared.view.Glance.{Glance}
 use Rattle.qp_table.specs.declared.view.SeatLog as table_log
 use Rattle.qp_table.specs.declared.view.View.{View}
@@ -41,12 +41,6 @@ on_side_of recs = filter (λ i. on_side (touch i)) (lane_items recs)
 abbrev pub recs_of : List table_log.SeatLog → List Rec
 recs_of [] = []
 recs_of (g ∷ gs) = g.recs
-
--- how many operations of a signal's or a time event's word the lane has seen; 0 of a word that the system hasn't
-abbrev pub side_mark : System → SideView → Word → ℕ
-side_mark sys s (word.Signal k) = cond (is_signal sys k) (mark_in (signal_at k) (last_seen (signal_at k) s)) 0
-side_mark sys s (word.Timer k) = cond (is_timer sys k) (mark_in (timer_at k) (last_seen (timer_at k) s)) 0
-side_mark sys s _ = 0
 
 -- the lane's records, as they are told
 abbrev pub told_by : Log → List ℕ → View → List ToldItem

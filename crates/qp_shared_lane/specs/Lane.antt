@@ -7,7 +7,8 @@ use Rattle.qp_calls_log.specs.declared.Log.{Log}
 use Rattle.atomic_table.specs.Seated.{TableId}
 use Rattle.qp_table.specs.Lane.{LaneContext, lane_of, lane_number}
 use Rattle.qp_side.specs.declared.view.SideView.{SideView}
-use Rattle.qp_shared_lane.specs.Holds.{told_by, side_mark}
+use Rattle.qp_shared_lane.specs.Holds.{told_by}
+use Rattle.qp_side.specs.Seat.{side_mark}
 use Rattle.qp_shared_lane.specs.declared.lane.LaneState.{LaneState}
 
 -- the name of a world: how many lanes the table became, and the names of both tables

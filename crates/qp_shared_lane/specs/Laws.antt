@@ -20,7 +20,8 @@ use Rattle.qp_table.specs.Lane.{lane_mark, tokens_of_view}
 use Rattle.qp_table.specs.Telling.{Rises, Touches}
 use Rattle.qp_side.specs.Rule.{member_in}
 use Rattle.qp_side.specs.declared.view.SideView.{SideView}
-use Rattle.qp_shared_lane.specs.Holds.{LaneHolds, told_by, side_mark, recs_of, member_over}
+use Rattle.qp_shared_lane.specs.Holds.{LaneHolds, told_by, recs_of, member_over}
+use Rattle.qp_side.specs.Seat.{side_mark}
 use Rattle.qp_shared_lane.specs.Lane.{world_of, lane_with}
 use Rattle.qp_shared_lane.specs.More.{IsPut, ViewFollows, SideFollows, AddsRecord, AddsNothing, OnTable, OnSide, IsNoted}
 

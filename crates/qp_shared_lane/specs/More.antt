@@ -12,7 +12,7 @@ use Rattle.qp_model.specs.History.{Neither, mark_of, touch_of, lane_items, same_
 use Rattle.qp_model.specs.WordLaw.{is_signal}
 use Rattle.qp_table.specs.TwoTables.{on_table, on_side}
 use Rattle.qp_table.specs.Rule.{mark_in, is_serve}
-use Rattle.qp_table.specs.After.{logged}
+use Rattle.qp_table.specs.After.{logged, SeesMore}
 use Rattle.qp_table.specs.declared.view.Glance.{Glance}
 use Rattle.qp_table.specs.declared.view.View.{View}
 use Rattle.qp_calls.specs.Tokens.{Token, token_of, hands_by, handles}
@@ -23,7 +23,8 @@ use Rattle.qp_table.specs.Telling.{Saw, Touches, is_on_table}
 use Rattle.qp_side.specs.Rule.{signal_at}
 use Rattle.qp_side.specs.Told.{last_seen}
 use Rattle.qp_side.specs.declared.view.SideView.{SideView}
-use Rattle.qp_shared_lane.specs.Holds.{on_side_of, side_mark, SubscriberIs, IsRead, IsStill, IsPlaced, IsWorn, FormerIs, borne_out}
+use Rattle.qp_shared_lane.specs.Holds.{on_side_of, SubscriberIs, IsRead, IsStill, IsPlaced, IsWorn, FormerIs, borne_out}
+use Rattle.qp_side.specs.Seat.{side_mark}
 
 -- the record stands at the end of the log, and the number beside it; nothing else changes but the spare and what is kept for a `spill`
 pub record IsPut (rec : Rec) (number : ℕ) (g : Log) (numbers : List ℕ) (h : Log) (more : List ℕ) : Type 0 where
@@ -35,10 +36,6 @@ pub record IsPut (rec : Rec) (number : ℕ) (g : Log) (numbers : List ℕ) (h : 
 -- what was read of entries is kept
 abbrev pub KeepsContents : View → View → Type 0
 KeepsContents v u = (e : Entry) → IsTrue (has_content v.contents e) → IsTrue (has_content u.contents e) × (event_seen u.contents e ≡ event_seen v.contents e)
-
--- more was seen
-abbrev pub SeesMore : List Glance → List Glance → Type 0
-SeesMore old new = (more : List Glance) × (new ≡ old ++ more)
 
 -- The view of the event table after a call or a part of one, which began with v. All but records and hands.
 pub record ViewFollows (sys : System) (v u : View) : Type 0 where

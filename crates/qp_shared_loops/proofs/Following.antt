@@ -9,7 +9,7 @@ use Rattle.qp_model.specs.declared.words.Word.{Word}
 use Rattle.qp_model.specs.declared.words.Word.TheVariants as word
 use Rattle.qp_model.specs.Sites.{ring_of}
 use Rattle.qp_table.specs.Rule.{queue_at, mark_in}
-use Rattle.qp_table.specs.After.{HasRoom, InHand}
+use Rattle.qp_table.specs.After.{HasRoom, InHand, SeesMore}
 use Rattle.qp_table.specs.declared.view.Glance.{Glance}
 use Rattle.qp_table.specs.declared.view.View.{View}
 use Rattle.qp_table.proofs.Marks.{high-mark}
@@ -17,7 +17,7 @@ use Rattle.qp_table.specs.Words.{place_of, value_seen, Ahead}
 use Rattle.qp_table.specs.Telling.{Saw, OwnTold}
 use Rattle.qp_table.proofs.Gaining.{saw-then}
 use Rattle.qp_table.specs.Told.{QueueTold, free_in}
-use Rattle.qp_shared_loops.specs.Ends.{SeesMore, seeing}
+use Rattle.qp_shared_loops.specs.Ends.{seeing}
 
 pub sees-none : (xs : List Glance) → SeesMore xs xs
 sees-none xs = ([], sym (append-nil xs))

@@ -11,7 +11,7 @@ use Rattle.qp_model.specs.declared.systems.System.{System}
 use Rattle.qp_model.specs.declared.words.Word.TheVariants as word
 use Rattle.qp_table.specs.Counting.{many, without}
 use Rattle.qp_table.specs.Rule.{pool_at, block_at, mark_in, is_spot, is_spot_at, fills_with}
-use Rattle.qp_table.specs.After.{glanced, noted, spot, begun_give, fills_for, filled, read_from}
+use Rattle.qp_table.specs.After.{glanced, noted, spot, begun_give, fills_for, filled, read_from, SeesMore}
 use Rattle.qp_table.specs.declared.view.Fill.{Fill}
 use Rattle.qp_table.specs.declared.view.Glance.{Glance}
 use Rattle.qp_table.specs.declared.view.View.{View}
@@ -20,7 +20,7 @@ use Rattle.qp_table.specs.Asked.{is_asked}
 use Rattle.qp_table.proofs.Gaining.{saw-then}
 use Rattle.qp_table.specs.Told.{WordTold, FromTold, EyePoolTold, GiveTold, eyed_pool, shortage_rec, free_of}
 use Rattle.qp_shared_loops.proofs.Following.{sees-one, sees-then, ahead-then}
-use Rattle.qp_shared_loops.specs.Ends.{SeesMore, was_seen_as, seeing, filling, word_without, given_at, LoopGivesBlock, LoopGives}
+use Rattle.qp_shared_loops.specs.Ends.{was_seen_as, seeing, filling, word_without, given_at, LoopGivesBlock, LoopGives}
 
 -- Only what was seen has changed, and of a pool's word x was seen last
 pub record PoolSeen (sys : System) (p : ℕ) (v u : View) (x : ℕ) : Type 0 where

@@ -5,10 +5,10 @@ use Rattle.qp_model.specs.declared.bodies.Entry.{Entry}
 use Rattle.qp_model.specs.declared.words.Word.TheVariants as word
 use Rattle.qp_model.specs.Sites.{ring_of}
 use Rattle.qp_table.specs.Rule.{queue_at, mark_in}
-use Rattle.qp_table.specs.After.{glanced, noted}
+use Rattle.qp_table.specs.After.{glanced, noted, full_rec}
 use Rattle.qp_table.specs.declared.view.View.{View}
 use Rattle.qp_table.specs.Told.{free_in, eyed_last, EyeLastTold, put_first_at, LastTold}
-use Rattle.qp_shared_loops.specs.Ends.{seeing, full_rec, PutsFirst}
+use Rattle.qp_shared_loops.specs.Ends.{seeing, PutsFirst}
 use Rattle.qp_shared_loops.proofs.Following.{Seen, queue-then, sees-one, sees-then, more-there, last-fits, last-is}
 
 module _ (ring a : ℕ) (v : View) (x : ℕ) where

@@ -12,7 +12,7 @@ use Rattle.qp_calls.specs.declared.tokens.HeldEntry as token
 use Rattle.qp_calls.specs.declared.tokens.HeldEntry.TheVariants as entries
 use Rattle.qp_calls.specs.Clauses.{entry_of}
 use Rattle.qp_table.specs.Rule.{pool_at, block_at, queue_at, Codable, IsContent}
-use Rattle.qp_table.specs.After.{noted, rec_of, laid, emptied, learned, gave, read_from}
+use Rattle.qp_table.specs.After.{noted, rec_of, laid, emptied, learned, gave, read_from, SeesMore, full_rec}
 use Rattle.qp_table.specs.declared.view.Fill.{Fill}
 use Rattle.qp_table.specs.declared.view.Glance.{Glance}
 use Rattle.qp_table.specs.declared.view.View.{View}
@@ -20,10 +20,6 @@ use Rattle.qp_table.specs.QueueLaws.{f_in, l_in, m_in}
 use Rattle.qp_table.specs.Lane.{event_seen}
 use Rattle.qp_table.specs.Told.{QueueTold, free_in, refusal_rec, claimed_at, put_first_at, before_front, freed, NilTold, IsGivenEvent, HasPlace, WordTold, free_of, shortage_rec, IsLowest}
 use Rattle.qp_shared_loops.specs.declared.gives.Life.{Life}
-
--- more was seen
-abbrev pub SeesMore : List Glance → List Glance → Type 0
-SeesMore old new = (more : List Glance) × (new ≡ old ++ more)
 
 -- the word at w was seen as x
 abbrev pub was_seen_as : List Glance → ℕ → ℕ → Bool
@@ -58,10 +54,6 @@ ClaimEnds sys a o margin e v x false u = ClaimsNone sys a o margin v x u
 -- the queue has no more entries than cells
 abbrev pub FitsCells : System → ℕ → ℕ → Type 0
 FitsCells sys a x = f_in x + l_in x ≤ m_in x + (ring_of sys a + 1)
-
--- the record of a last-in post that finds the queue full
-abbrev pub full_rec : ℕ → ℕ → Rec
-full_rec a x = rec_of 42 a (5 ∷ a ∷ (x % 2097152) ∷ (x / 2097152 % 2097152) ∷ (x / 4398046511104) ∷ [])
 
 -- The same of a last-in post by the object whose queue it is, where an entry is free.
 pub record PutsFirst (sys : System) (a : ℕ) (e : Entry) (v : View) (x : ℕ) (u : View) : Type 0 where

@@ -12,7 +12,7 @@ use Rattle.qp_model.specs.Record.{item_of}
 use Rattle.qp_model.specs.Parts.{room_before}
 use Rattle.qp_model.specs.Sites.{ring_of}
 use Rattle.qp_table.specs.Rule.{queue_at, mark_in, is_serve}
-use Rattle.qp_table.specs.After.{rec_of}
+use Rattle.qp_table.specs.After.{rec_of, SeesMore}
 use Rattle.qp_table.specs.declared.view.View.{View}
 use Rattle.qp_table.specs.QueueLaws.{f_in, l_in, m_in}
 use Rattle.qp_table.proofs.Looks.{full-says, no_entry-says}
@@ -29,7 +29,7 @@ use Rattle.qp_table.specs.Told.{refusal_rec}
 use Rattle.qp_shared_loops.specs.Ends.{ClaimsNone, LoopPosts, PostEnds}
 use Rattle.qp_shared_lane.specs.declared.lane.LaneState.{LaneState}
 use Rattle.qp_shared_lane.specs.Lane.{state_view}
-use Rattle.qp_shared_lane.specs.More.{IsPut, SeesMore}
+use Rattle.qp_shared_lane.specs.More.{IsPut}
 use Rattle.qp_shared_queues.specs.Bodies.{post_body}
 use Rattle.qp_shared_queues.proofs.Views.{Alike, sees-last}
 use Rattle.qp_shared_queues.proofs.Lane.{then_view, ThenHolds, lane-mark-was, lane-mark-then}

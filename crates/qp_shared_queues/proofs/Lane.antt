@@ -19,7 +19,8 @@ use Rattle.qp_table.specs.Telling.{Saw, OwnTold, Rises}
 use Rattle.qp_table.proofs.Gaining.{mark-here, mark-was, shown-here, saw-rises}
 use Rattle.qp_table.proofs.Own.{own-is}
 use Rattle.qp_shared_lane.specs.declared.lane.LaneState.{LaneState}
-use Rattle.qp_shared_lane.specs.Holds.{LaneHolds, told_by, side_mark}
+use Rattle.qp_shared_lane.specs.Holds.{LaneHolds, told_by}
+use Rattle.qp_side.specs.Seat.{side_mark}
 use Rattle.qp_shared_lane.specs.Lane.{lane_with, world_of_lane, state_view}
 use Rattle.qp_shared_lane.specs.More.{IsPut, ViewFollows, SideFollows, AddsNothing, OnTable}
 use Rattle.qp_shared_lane.specs.Laws.{LaneGainsRecord, LookKept}

@@ -6,7 +6,7 @@ use Rattle.qp_model.specs.declared.words.Word.TheVariants as word
 use Rattle.qp_model.specs.declared.bodies.Body.TheVariants.{Lifo, NoLifo}
 use Rattle.qp_model.specs.Record.{item_of}
 use Rattle.qp_table.specs.Rule.{queue_at, mark_in, is_serve}
-use Rattle.qp_table.specs.After.{rec_of}
+use Rattle.qp_table.specs.After.{rec_of, full_rec, SeesMore}
 use Rattle.qp_table.specs.declared.view.View.{View}
 use Rattle.qp_table.specs.QueueLaws.{f_in, l_in, m_in}
 use Rattle.qp_table.proofs.Looks.{no_lifo-says}
@@ -19,10 +19,10 @@ use Rattle.qp_calls_log.specs.declared.log.Log.{Log}
 use Rattle.qp_table.specs.Words.{value_seen}
 use Rattle.qp_table.specs.Lane.{lane_of}
 use Rattle.qp_table.specs.Told.{before_front}
-use Rattle.qp_shared_loops.specs.Ends.{full_rec, PutsNone, LoopPostsFirst, PostFirstEnds}
+use Rattle.qp_shared_loops.specs.Ends.{PutsNone, LoopPostsFirst, PostFirstEnds}
 use Rattle.qp_shared_lane.specs.declared.lane.LaneState.{LaneState}
 use Rattle.qp_shared_lane.specs.Lane.{state_view}
-use Rattle.qp_shared_lane.specs.More.{IsPut, SeesMore}
+use Rattle.qp_shared_lane.specs.More.{IsPut}
 use Rattle.qp_shared_queues.specs.Bodies.{lifo_body}
 use Rattle.qp_shared_queues.proofs.Views.{Alike, sees-last}
 use Rattle.qp_shared_queues.proofs.Lane.{then_view, ThenHolds, lane-mark-was, lane-mark-then}

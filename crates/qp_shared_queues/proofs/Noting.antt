@@ -13,7 +13,7 @@ use Rattle.qp_model.specs.History.{touch_of}
 use Rattle.qp_table.specs.TwoTables.{on_table}
 use Rattle.qp_table.specs.Counting.{many}
 use Rattle.qp_table.specs.Rule.{queue_at, mark_in, is_entry, is_serve}
-use Rattle.qp_table.specs.After.{noted}
+use Rattle.qp_table.specs.After.{noted, SeesMore}
 use Rattle.qp_table.specs.declared.view.Glance.{Glance}
 use Rattle.qp_table.specs.declared.view.View.{View}
 use Rattle.qp_calls.specs.LaneView.{AddsOf, Own, own_of}
@@ -27,7 +27,7 @@ use Rattle.qp_shared_loops.specs.Ends.{seeing}
 use Rattle.qp_shared_lane.specs.declared.lane.LaneState.{LaneState}
 use Rattle.qp_shared_lane.specs.Holds.{is_borne_out}
 use Rattle.qp_shared_lane.specs.Lane.{state_view}
-use Rattle.qp_shared_lane.specs.More.{IsPut, SeesMore, OnTable}
+use Rattle.qp_shared_lane.specs.More.{IsPut, OnTable}
 use Rattle.qp_shared_queues.proofs.Views.{Alike, same-tokens, grown-still, read-still, worn-still, placed-still, still-alike, sees-last}
 use Rattle.qp_shared_queues.proofs.Lane.{then_view, ThenHolds, told_in, says-then, holds-then, adds-then, own-then}
 

@@ -14,7 +14,7 @@ use Rattle.qp_model.specs.History.{touch_of}
 use Rattle.qp_table.specs.TwoTables.{on_table}
 use Rattle.qp_table.specs.Counting.{many, without}
 use Rattle.qp_table.specs.Rule.{queue_at, mark_in, is_ref, is_spot, is_entry, is_place, is_serve}
-use Rattle.qp_table.specs.After.{logged, hands_without, place, bump}
+use Rattle.qp_table.specs.After.{logged, hands_without, place, bump, SeesMore}
 use Rattle.qp_table.specs.declared.view.CellPlace.{CellPlace}
 use Rattle.qp_table.specs.declared.view.Content.{Content}
 use Rattle.qp_table.specs.declared.view.Glance.{Glance}
@@ -32,7 +32,7 @@ use Rattle.qp_table.proofs.Hands.{tokens-out, refs-out, held-in, read-has}
 use Rattle.qp_shared_lane.specs.declared.lane.LaneState.{LaneState}
 use Rattle.qp_shared_lane.specs.Holds.{is_borne_out}
 use Rattle.qp_shared_lane.specs.Lane.{state_view}
-use Rattle.qp_shared_lane.specs.More.{IsPut, SeesMore, OnTable}
+use Rattle.qp_shared_lane.specs.More.{IsPut, OnTable}
 use Rattle.qp_shared_queues.proofs.Views.{Alike, grown-still, read-still, worn-still, placed-still, still-alike}
 use Rattle.qp_shared_queues.proofs.Lane.{then_view, ThenHolds, told_in, says-then, holds-then, adds-then, own-then}
 

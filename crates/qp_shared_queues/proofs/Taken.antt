@@ -11,12 +11,12 @@ use Rattle.qp_model.specs.declared.systems.System.{System}
 use Rattle.qp_model.specs.declared.systems.SignalDef.{SignalDef}
 use Rattle.qp_model.specs.declared.bodies.Entry as model
 use Rattle.qp_model.specs.declared.bodies.Body.TheVariants.{Took}
-use Rattle.qp_model.specs.Parts.{is_static}
+use Rattle.qp_model.specs.Parts.{is_static, params_of}
 use Rattle.qp_model.specs.Record.{item_of}
 use Rattle.qp_model.specs.Told.{Event, told_took, for_object}
 use Rattle.qp_table.specs.Counting.{many}
-use Rattle.qp_table.specs.Rule.{queue_at, mark_in, is_entry, is_serve, params_of, Codable}
-use Rattle.qp_table.specs.After.{emptied, learned, gained}
+use Rattle.qp_table.specs.Rule.{queue_at, mark_in, is_entry, is_serve, Codable}
+use Rattle.qp_table.specs.After.{emptied, learned, gained, SeesMore}
 use Rattle.qp_table.specs.QueueLaws.{f_in, l_in, m_in}
 use Rattle.qp_table.specs.declared.view.Content.{Content}
 use Rattle.qp_table.specs.declared.view.View.{View}
@@ -33,7 +33,7 @@ use Rattle.qp_table.specs.Told.{freed}
 use Rattle.qp_shared_loops.specs.Ends.{seeing, IsReference, KnowsEvent, LoopTakes}
 use Rattle.qp_shared_lane.specs.declared.lane.LaneState.{LaneState}
 use Rattle.qp_shared_lane.specs.Lane.{state_view}
-use Rattle.qp_shared_lane.specs.More.{KeepsContents, IsPut, SeesMore}
+use Rattle.qp_shared_lane.specs.More.{KeepsContents, IsPut}
 use Rattle.qp_shared_lane.specs.Holds.{IsRead}
 use Rattle.qp_shared_queues.proofs.Views.{Alike, sees-last, grown-still, read-still}
 use Rattle.qp_shared_queues.proofs.Lane.{then_view, ThenHolds, lane-mark-was, lane-mark-then}

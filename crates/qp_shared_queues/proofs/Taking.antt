@@ -12,7 +12,7 @@ use Rattle.qp_model.specs.Record.{item_of}
 use Rattle.qp_model.specs.Told.{Event, Told, told_took, for_object}
 use Rattle.qp_table.specs.Counting.{many}
 use Rattle.qp_table.specs.Rule.{queue_at, mark_in, is_ref, is_spot, is_entry, event_of_content, Codable}
-use Rattle.qp_table.specs.After.{rec_of, logged, gained}
+use Rattle.qp_table.specs.After.{rec_of, logged, gained, SeesMore}
 use Rattle.qp_table.specs.QueueLaws.{f_in, l_in, m_in}
 use Rattle.qp_table.specs.declared.view.Content.{Content}
 use Rattle.qp_table.specs.declared.view.View.{View}
@@ -30,7 +30,7 @@ use Rattle.qp_table.specs.Told.{HasPlace}
 use Rattle.qp_shared_lane.specs.declared.lane.LaneState.{LaneState}
 use Rattle.qp_shared_lane.specs.Holds.{IsRead}
 use Rattle.qp_shared_lane.specs.Lane.{state_view}
-use Rattle.qp_shared_lane.specs.More.{KeepsContents, IsPut, SeesMore, OnTable}
+use Rattle.qp_shared_lane.specs.More.{KeepsContents, IsPut, OnTable}
 use Rattle.qp_shared_queues.proofs.Views.{Alike, worn-still, placed-still, still-alike}
 use Rattle.qp_shared_queues.proofs.Lane.{then_view, ThenHolds, told_in, says-then, holds-then, adds-then, own-then}
 use Rattle.qp_shared_queues.proofs.Posting.{entries-same}

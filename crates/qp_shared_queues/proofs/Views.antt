@@ -15,7 +15,8 @@ use Rattle.qp_table.specs.Words.{mark_seen}
 use Rattle.qp_table.specs.Lane.{event_seen, has_content, is_read, tokens_of_view}
 use Rattle.qp_table.specs.Asked.{is_unfinished, is_begun}
 use Rattle.qp_shared_lane.specs.Holds.{IsRead, IsStill, IsPlaced, IsWorn}
-use Rattle.qp_shared_lane.specs.More.{KeepsContents, SeesMore}
+use Rattle.qp_shared_lane.specs.More.{KeepsContents}
+use Rattle.qp_table.specs.After.{SeesMore}
 
 -- the same tokens
 pub same-tokens : (v u : View) → u.hands ≡ v.hands → u.fresh ≡ v.fresh → u.used ≡ v.used → (t : Token) → tokens_of_view u t ≡ tokens_of_view v t

@@ -31,10 +31,11 @@ use Rattle.qp_table.specs.Telling.{Touches, is_on_table}
 use Rattle.qp_side.specs.Rule.{signal_at, member_in}
 use Rattle.qp_side.specs.Told.{last_seen}
 use Rattle.qp_side.specs.declared.view.SideView.{SideView}
-use Rattle.qp_side.specs.Seat.{side_recs, serves_object, OwnsTimer, SideAdds}
+use Rattle.qp_side.specs.Seat.{side_recs, serves_object, SideAdds, side_mark}
+use Rattle.qp_model.specs.Parts.{OwnsTimer}
 use Rattle.qp_side.specs.Calls.{ObjectComes, IsThere, ObjectGoes, SideIsAway, ShowsSet, IsArmed, WasArmed, IsIdleTimer, IsDisarmed, RearmsTimer, IsDown, IsFired, SideTries, own_draw}
 use Rattle.qp_shared_lane.specs.declared.lane.LaneState.{LaneState}
-use Rattle.qp_shared_lane.specs.Holds.{LaneHolds, SubscriberIs, borne_out, member_over, side_mark}
+use Rattle.qp_shared_lane.specs.Holds.{LaneHolds, SubscriberIs, borne_out, member_over}
 use Rattle.qp_shared_lane.specs.Lane.{lane_with, world_of_lane, world_of, state_view}
 use Rattle.qp_shared_lane.specs.Laws.{LaneGainsRecord}
 use Rattle.qp_shared_lane.specs.More.{IsPut}

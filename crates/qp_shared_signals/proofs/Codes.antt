@@ -7,7 +7,7 @@ use Rattle.qp_calls.specs.LaneView.{LaneView, codes_in}
 use Rattle.qp_calls.specs.Notes.{MayStop}
 use Rattle.qp_calls.specs.Clauses.{Stops, Stopped}
 use Rattle.qp_calls_log.specs.declared.log.Log.{Log}
-use Rattle.qp_calls_log.specs.Lane.{is_caused_in}
+use Rattle.qp_calls.specs.LaneLaws.{is_caused_in}
 use Rattle.qp_calls_log.proofs.NoteLemmas as note
 use Rattle.qp_model.specs.History.{lane_items}
 use Rattle.atomic_table.specs.Seated.{TableId}

@@ -2,7 +2,8 @@
 
 ghost use Rattle.std.specs.Prelude.{◌≡◌, ◌+◌, ◌<◌, ◌≤◌, IfSome, IsTrue, length, true, ℕ};
 ghost use Rattle.qp_model.specs.WordLaw.{is_object, is_signal, is_timer};
-ghost use Rattle.qp_side.specs.Seat.{OwnsTimer, StaysAs, side_recs, rights, serves_object};
+ghost use Rattle.qp_side.specs.Seat.{StaysAs, side_recs, rights, serves_object};
+ghost use Rattle.qp_model.specs.Parts.{OwnsTimer};
 
 use crate::objects::has_object;
 use qp_base::Steps;

@@ -14,7 +14,7 @@ use Rattle.qp_model.specs.declared.systems.System.{System}
 use Rattle.qp_model.specs.declared.words.Word.{Word}
 use Rattle.qp_model.specs.declared.words.Word.TheVariants as word
 use Rattle.qp_chart.specs.StateTree.{has}
-use Rattle.qp_model.specs.Parts.{members, members_below}
+use Rattle.qp_model.specs.Parts.{members, members_below, OwnsTimer}
 use Rattle.qp_model.specs.Subscribers.{bits_of_set}
 use Rattle.qp_model.specs.WordLaw.{is_object, is_signal, is_timer}
 use Rattle.qp_plain_words.proofs.SetLemmas.{has-bit}
@@ -26,7 +26,7 @@ use Rattle.qp_table.specs.declared.view.SeatLog.{SeatLog}
 use Rattle.qp_side.specs.Rule.{signal_at, timer_at, SideFitting, AreSubscribers}
 use Rattle.qp_side.specs.Told.{side_glanced, side_noted, bit_value, bit_in, EyeSignalTold, SubTold, UnsubTold, PubTold, SideSaw, counter_in, interval_in, last_seen}
 use Rattle.qp_side.specs.declared.view.SideView.{SideView}
-use Rattle.qp_side.specs.Seat.{StaysAs, first_recs, OwnsTimer, side_recs, SideAdds}
+use Rattle.qp_side.specs.Seat.{StaysAs, first_recs, side_recs, SideAdds}
 use Rattle.qp_side.specs.Tries.{side_seeing, SideNotes, ArmEnds, IdleEnds, DisarmEnds, RearmEnds, TickEnds}
 use Rattle.qp_side.specs.Calls.{SideDraws, ObjectComes, IsThere, ObjectGoes, SideIsAway, IsArmed, WasArmed, IsDisarmed, IsFired, IsDown, SideSubscribes, SideUnsubscribes, ShowsSet, ArmsTimer, DisarmsTimer, RearmsTimer, SideTicksTimer, IsIdleTimer, SideTries, own_draw}
 use Rattle.qp_side.proofs.Following.{saw-then}

@@ -43,13 +43,6 @@ pub record SideAdds (sys : System) (w : Word) (k : ℕ) (r : Rec) (v u : SideVie
   pub rest : u ≡ record v { view = record v.view { logs = u.view.logs; seen = u.view.seen } }
   pub marks : SideLooks sys w k v u
 
--- the system has the time event t, and it is the object's
-pub record OwnsTimer (sys : System) (o t : ℕ) : Type 0 where
-  pub some : 0 < t
-  pub timer : TimerDef
-  pub there : slice_get sys.timers (t - 1) ≡ Some timer
-  pub owner : timer.object ≡ o
-
 -- a seat serves an object
 abbrev pub serves_object : SideView → ℕ → Bool
 serves_object v o = list_any (is_serve o) v.view.serves

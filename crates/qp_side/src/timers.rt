@@ -14,7 +14,8 @@ use qp_table::UNIT;
 use std::sync::ledger::Ledger;
 
 impl SideSeat<'_> {
-    ghost use Rattle.qp_side.specs.Seat.{OwnsTimer, StaysAs, side_recs};
+    ghost use Rattle.qp_side.specs.Seat.{StaysAs, side_recs};
+    ghost use Rattle.qp_model.specs.Parts.{OwnsTimer};
     ghost use Rattle.qp_side.specs.Calls.{ArmsTimer, DisarmsTimer, RearmsTimer, SideTries, SideTicksTimer};
 
     /// Arms a time event of object `o`. The record is `arm`, or assertion 3 where its counter isn't 0.

@@ -14,28 +14,29 @@ use Rattle.qp_stim.specs.Numbers.{number_of_token}
 use Rattle.qp_stim.specs.Grammar.{numbers_of_tokens}
 use Rattle.qp_chart_text.specs.Tokens.{◌>>=◌}
 use Rattle.qp_stim.specs.Codes.{all_fit, source_stands}
-use Rattle.qp_stim.specs.Reading.{held, no_pars, with_par, with_pars, admits}
+use Rattle.qp_stim.specs.Reading.{no_pars, with_par, with_pars, admits}
+use Rattle.qp_model.specs.WordOf.{fitting_number}
 use Rattle.qp_stim.proofs.NumbersLemmas.{held-small}
 
-none_by : (p : Pars) (o : Option ℕ) (os : Option (List ℕ)) → option_map held o ≡ None
+none_by : (p : Pars) (o : Option ℕ) (os : Option (List ℕ)) → option_map fitting_number o ≡ None
     → option_map (with_pars p) (o >>= λ n. os >>= λ ns. Some (n ∷ ns)) ≡ None
 none_by p None os h = refl
 none_by p (Some n) os h = cc
 
 -- a token that is no number
-pub numbers_of-None : (p : Pars) (token : List ℕ) (more : List (List ℕ)) → option_map held (number_of_token token) ≡ None
+pub numbers_of-None : (p : Pars) (token : List ℕ) (more : List (List ℕ)) → option_map fitting_number (number_of_token token) ≡ None
     → option_map (with_pars p) (numbers_of_tokens (token ∷ more)) ≡ None
 unfolding numbers_of_tokens
 numbers_of-None p token more h = none_by p (number_of_token token) (numbers_of_tokens more) h
 
-more_by : (p : Pars) (o : Option ℕ) (os : Option (List ℕ)) (n : Option ℕ) → option_map held o ≡ Some n
+more_by : (p : Pars) (o : Option ℕ) (os : Option (List ℕ)) (n : Option ℕ) → option_map fitting_number o ≡ Some n
     → option_map (with_pars p) (o >>= λ n. os >>= λ ns. Some (n ∷ ns)) ≡ option_map (with_pars (with_par p n)) os
 more_by p None os n h = cc
 more_by p (Some k) None n h = refl
-more_by p (Some k) (Some ks) n h = let same : held k ≡ n = cc in ap (λ x. Some (with_pars (with_par p x) ks)) same
+more_by p (Some k) (Some ks) n h = let same : fitting_number k ≡ n = cc in ap (λ x. Some (with_pars (with_par p x) ks)) same
 
 -- a token that is one
-pub numbers_of-Some : (p : Pars) (token : List ℕ) (more : List (List ℕ)) (n : Option ℕ) → option_map held (number_of_token token) ≡ Some n
+pub numbers_of-Some : (p : Pars) (token : List ℕ) (more : List (List ℕ)) (n : Option ℕ) → option_map fitting_number (number_of_token token) ≡ Some n
     → option_map (with_pars p) (numbers_of_tokens (token ∷ more)) ≡ option_map (with_pars (with_par p n)) (numbers_of_tokens more)
 unfolding numbers_of_tokens
 numbers_of-Some p token more n h = more_by p (number_of_token token) (numbers_of_tokens more) n h
@@ -64,21 +65,21 @@ fit_by p n false = and_no p.fit
 pub with_pars-fit : (p : Pars) (ns : List ℕ) → (with_pars p ns).fit ≡ (p.fit && all_fit ns)
 with_pars-fit p [] = sym (and-true p.fit)
 with_pars-fit p (n ∷ ns) =
-    with_pars-fit (with_par p (held n)) ns
+    with_pars-fit (with_par p (fitting_number n)) ns
     ∙ ap (λ b. b && all_fit ns) (fit_by p n (nat_lt n (2 ^ 64)))
     ∙ and_assoc p.fit (nat_lt n (2 ^ 64)) (all_fit ns)
 
 -- a parameter that fits, and for which there is room
 with_par-room : (p : Pars) (n : ℕ) → nat_lt n (2 ^ 64) ≡ true → length p.kept.items < 8
-    → with_par p (held n) ≡ record p { kept = record { items = p.kept.items ++ n ∷ [] } }
+    → with_par p (fitting_number n) ≡ record p { kept = record { items = p.kept.items ++ n ∷ [] } }
 with_par-room p n fits room =
-    let some : held n ≡ Some n = held-small n (ltb-true n (2 ^ 64) fits) in
+    let some : fitting_number n ≡ Some n = held-small n (ltb-true n (2 ^ 64) fits) in
     let short : (length p.kept.items == 8) ≡ false = grind (arith, nat_tests) in
     ap (with_par p) some ∙ ap (λ b. cond b (record p { many = true }) (record p { kept = record { items = p.kept.items ++ n ∷ [] } })) short
 
-with_par-full : (p : Pars) (n : ℕ) → nat_lt n (2 ^ 64) ≡ true → length p.kept.items ≡ 8 → with_par p (held n) ≡ record p { many = true }
+with_par-full : (p : Pars) (n : ℕ) → nat_lt n (2 ^ 64) ≡ true → length p.kept.items ≡ 8 → with_par p (fitting_number n) ≡ record p { many = true }
 with_par-full p n fits full =
-    let some : held n ≡ Some n = held-small n (ltb-true n (2 ^ 64) fits) in
+    let some : fitting_number n ≡ Some n = held-small n (ltb-true n (2 ^ 64) fits) in
     let long : (length p.kept.items == 8) ≡ true = grind (arith, nat_tests) in
     ap (with_par p) some ∙ ap (λ b. cond b (record p { many = true }) (record p { kept = record { items = p.kept.items ++ n ∷ [] } })) long
 
@@ -99,10 +100,10 @@ with_pars-many p [] all room (inl h) = h
 with_pars-many p [] all room (inr h) = absurd (omega arith)
 with_pars-many p (n ∷ ns) all room h =
     let parts = and_parts (nat_lt n (2 ^ 64)) (all_fit ns) all in
-    let full : length p.kept.items ≡ 8 → (with_pars (with_par p (held n)) ns).many ≡ true = λ eight.
+    let full : length p.kept.items ≡ 8 → (with_pars (with_par p (fitting_number n)) ns).many ≡ true = λ eight.
     ap (λ q. (with_pars q ns).many) (with_par-full p n parts.0 eight)
     ∙ with_pars-many (record p { many = true }) ns parts.1 room (inl refl) in
-    let room' : length p.kept.items < 8 → (with_pars (with_par p (held n)) ns).many ≡ true = λ short.
+    let room' : length p.kept.items < 8 → (with_pars (with_par p (fitting_number n)) ns).many ≡ true = λ short.
     ap (λ q. (with_pars q ns).many) (with_par-room p n parts.0 short)
     ∙ with_pars-many (record p { kept = record { items = p.kept.items ++ n ∷ [] } }) ns parts.1 (omega (arith, length-append {A = ℕ}))
     (elim h [ inl m ↦ inl m | inr l ↦ inr (omega (arith, length-append {A = ℕ})) ]) in

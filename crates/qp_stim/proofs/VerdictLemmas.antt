@@ -16,12 +16,13 @@ use Rattle.qp_stim.specs.Names.{Dictionary, FewParams}
 use Rattle.qp_stim.specs.Grammar.{Said, said_of}
 use Rattle.qp_stim.specs.Grammar as line
 use Rattle.qp_stim.specs.Codes.{exceeds, all_fit, source_stands, post_step, publish_step, source_step, step_said, step_if, step_of}
-use Rattle.qp_stim.specs.Reading.{held, no_pars, with_pars, heard_of, small_of, admits, post_verdict, publish_verdict, is_next_source, tick_verdict, verdict_on}
+use Rattle.qp_stim.specs.Reading.{no_pars, with_pars, heard_of, small_of, admits, post_verdict, publish_verdict, is_next_source, tick_verdict, verdict_on}
+use Rattle.qp_model.specs.WordOf.{fitting_number}
 use Rattle.qp_model.specs.Results.{◌>>=◌}
 use Rattle.qp_stim.proofs.NumbersLemmas.{held-small, held-large}
 use Rattle.qp_stim.proofs.ParsLemmas.{admits-pars}
 
-held_cases : (n : ℕ) → ((n < 2 ^ 64) × (held n ≡ Some n)) ⊎ ((2 ^ 64 ≤ n) × (held n ≡ None))
+held_cases : (n : ℕ) → ((n < 2 ^ 64) × (fitting_number n ≡ Some n)) ⊎ ((2 ^ 64 ≤ n) × (fitting_number n ≡ None))
 held_cases n = elim (below n) [ inl lt ↦ inl (lt, held-small n lt) | inr ge ↦ inr (ge, held-large n ge) ]
   where
     below : (n : ℕ) → (n < 2 ^ 64) ⊎ (2 ^ 64 ≤ n)
@@ -30,7 +31,7 @@ held_cases n = elim (below n) [ inl lt ↦ inl (lt, held-small n lt) | inr ge �
 large_is_not_next : (sources n : ℕ) → 2 ^ 64 ≤ n → false ≡ ((n == sources + 1) && nat_le n 16)
 large_is_not_next sources n h = let past : nat_le n 16 ≡ false = grind (arith, nat_tests) in ap (λ b. b && (n == sources + 1)) (sym past) ∙ and_comm (nat_le n 16) (n == sources + 1)
 
-is_next-held : (sources n : ℕ) → is_next_source sources (held n) ≡ ((n == sources + 1) && nat_le n 16)
+is_next-held : (sources n : ℕ) → is_next_source sources (fitting_number n) ≡ ((n == sources + 1) && nat_le n 16)
 is_next-held sources n =
     elim (held_cases n) [
       | inl h ↦ ap (is_next_source sources) h.1 ∙ and_comm (nat_le n 16) (n == sources + 1)
@@ -44,7 +45,7 @@ small_if n false h = grind (arith, nat_tests)
 large_if : (n : ℕ) → 2 ^ 64 ≤ n → Err 3 ≡ cond {A = Result (Option ℕ) ℕ} (nat_lt 255 n) (Err 3) (Ok (Some n))
 large_if n h = let past : nat_lt 255 n ≡ true = grind (arith, nat_tests) in ap (λ b. cond {A = Result (Option ℕ) ℕ} b (Err 3) (Ok (Some n))) (sym past)
 
-small_of-held : (m : Option ℕ) → small_of (option_map held m) ≡ cond (exceeds 255 m) (Err 3) (Ok m)
+small_of-held : (m : Option ℕ) → small_of (option_map fitting_number m) ≡ cond (exceeds 255 m) (Err 3) (Ok m)
 small_of-held None = refl
 small_of-held (Some n) =
     elim (held_cases n) [
@@ -55,7 +56,7 @@ small_of-held (Some n) =
 large_tick : (sources n : ℕ) → 2 ^ 64 ≤ n → Err 3 ≡ source_stands sources (nat_lt 3 n) false (Adds (stim.Tick n))
 large_tick sources n h = let past : nat_lt 3 n ≡ true = grind (arith, nat_tests) in ap (λ b. source_stands sources b false (Adds (stim.Tick n))) (sym past)
 
-tick_verdict-held : (sources n : ℕ) → tick_verdict sources (held n) ≡ source_stands sources (nat_lt 3 n) false (Adds (stim.Tick n))
+tick_verdict-held : (sources n : ℕ) → tick_verdict sources (fitting_number n) ≡ source_stands sources (nat_lt 3 n) false (Adds (stim.Tick n))
 unfolding tick_verdict
 tick_verdict-held sources n =
     elim (held_cases n) [
@@ -76,7 +77,7 @@ bind_small true m f = refl
 bind_small false m f = refl
 
 pub post_verdict-held : (sources : ℕ) (to : Option ℕ) (signal : Option Signal) (pars : List ℕ) (margin reserve : Option ℕ) → IfSome signal (λ s. s.params ≤ 8)
-    → post_verdict sources to (record { signal = signal; pars = with_pars no_pars pars }) (option_map held margin) (option_map held reserve) ≡ post_step sources to signal pars margin reserve
+    → post_verdict sources to (record { signal = signal; pars = with_pars no_pars pars }) (option_map fitting_number margin) (option_map fitting_number reserve) ≡ post_step sources to signal pars margin reserve
 unfolding post_verdict post_step
 post_verdict-held sources None None pars margin reserve few = refl
 post_verdict-held sources None (Some signal) pars margin reserve few = refl
@@ -84,8 +85,8 @@ post_verdict-held sources (Some to) None pars margin reserve few = refl
 post_verdict-held sources (Some to) (Some signal) pars margin reserve few =
     let made : Option ℕ → Option ℕ → ArrayVec ℕ → LineStep = λ m r kept. Adds (stim.Post to (record { sig = signal.number; pars = kept }) m r) in
     let P = with_pars no_pars pars in
-    ap (λ x. x >>= λ m. small_of (option_map held reserve) >>= λ r. admits sources signal P r (made m r P.kept)) (small_of-held margin)
-    ∙ bind_small (exceeds 255 margin) margin (λ m. small_of (option_map held reserve) >>= λ r. admits sources signal P r (made m r P.kept))
+    ap (λ x. x >>= λ m. small_of (option_map fitting_number reserve) >>= λ r. admits sources signal P r (made m r P.kept)) (small_of-held margin)
+    ∙ bind_small (exceeds 255 margin) margin (λ m. small_of (option_map fitting_number reserve) >>= λ r. admits sources signal P r (made m r P.kept))
     ∙ ap (λ x. cond (exceeds 255 margin) (Err 3) (x >>= λ r. admits sources signal P r (made margin r P.kept))) (small_of-held reserve)
     ∙ ap (λ x. cond (exceeds 255 margin) (Err 3) x) (bind_small (exceeds 255 reserve) reserve (λ r. admits sources signal P r (made margin r P.kept)))
     ∙ ap (λ x. cond (exceeds 255 margin) (Err 3) (cond (exceeds 255 reserve) (Err 3) x)) (admits-pars sources signal pars reserve (made margin reserve) few)
@@ -93,7 +94,7 @@ post_verdict-held sources (Some to) (Some signal) pars margin reserve few =
     (made margin reserve (record { items = pars }))
 
 pub publish_verdict-held : (sources : ℕ) (signal : Option Signal) (pars : List ℕ) (reserve : Option ℕ) → IfSome signal (λ s. s.params ≤ 8)
-    → publish_verdict sources (record { signal = signal; pars = with_pars no_pars pars }) (option_map held reserve) ≡ publish_step sources signal pars reserve
+    → publish_verdict sources (record { signal = signal; pars = with_pars no_pars pars }) (option_map fitting_number reserve) ≡ publish_step sources signal pars reserve
 unfolding publish_verdict publish_step
 publish_verdict-held sources None pars reserve few = refl
 publish_verdict-held sources (Some signal) pars reserve few =

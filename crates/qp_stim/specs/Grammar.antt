@@ -5,8 +5,7 @@ use Rattle.std.specs.Option.{option_map}
 use Rattle.std.specs.Str.{bytes_eq}
 use Rattle.qp_stim.specs.Parts.{split_at_separator, before_separator, after_separator, tokens_of_line}
 use Rattle.qp_stim.specs.Numbers.{number_of_token}
-use Rattle.qp_stim.specs.Names.{is_name}
-use Rattle.qp_chart_text.specs.Tokens.{◌>>=◌}
+use Rattle.qp_chart_text.specs.Tokens.{◌>>=◌, is_identifier}
 
 -- an event as a line names it: its signal and its parameters
 pub record EventWords : Type 0 where
@@ -42,7 +41,7 @@ pars_of (Some inside) = numbers_closed (before_separator 41 inside) (after_separ
 
 -- SIGNAL [ "(" NUM { "," NUM } ")" ]
 unfoldable pub event_of_words : List ℕ → Option EventWords
-event_of_words token = if is_name (before_separator 40 token) then option_map (λ pars. record { signal = before_separator 40 token; pars = pars }) (pars_of (after_separator 40 token)) else None
+event_of_words token = if is_identifier (before_separator 40 token) then option_map (λ pars. record { signal = before_separator 40 token; pars = pars }) (pars_of (after_separator 40 token)) else None
 
 -- [ WORD NUM ], and the tokens behind it
 unfoldable pub option_at : List ℕ → List (List ℕ) → Option (Option ℕ × List (List ℕ))
@@ -61,7 +60,7 @@ post_of (object ∷ event ∷ more) = do
   e ← event_of_words event
   margin ← option_at (codes "margin") more
   reserve ← option_at (codes "reserve") margin.1
-  if is_name object && (length reserve.1 == 0) then Some (Post object e margin.0 reserve.0) else None
+  if is_identifier object && (length reserve.1 == 0) then Some (Post object e margin.0 reserve.0) else None
 post_of _ = None
 
 -- EVENT [reserve NUM]

@@ -9,15 +9,6 @@ use Rattle.qp_model.specs.declared.systems.SignalDef.{SignalDef}
 use Rattle.qp_model.specs.declared.systems.ObjectDef.{ObjectDef}
 use Rattle.qp_stim.specs.declared.names.Signal.{Signal}
 
--- a letter or `_`
-abbrev pub is_letter : ℕ → Bool
-is_letter b = is_ascii_alphabetic b || (b == 95)
-
--- a letter or `_`, then letters, digits and `_`, however many
-unfoldable pub is_name : List ℕ → Bool
-is_name [] = false
-is_name (b ∷ bs) = is_letter b && list_all (λ c. is_letter c || is_ascii_digit c) bs
-
 -- what names stand for: the priority of an object, and a signal
 pub record Dictionary : Type 0 where
   pub object : List ℕ → Option ℕ

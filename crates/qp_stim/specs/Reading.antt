@@ -18,10 +18,7 @@ use Rattle.qp_stim.specs.Names.{Dictionary}
 use Rattle.qp_stim.specs.Grammar as line
 use Rattle.qp_stim.specs.Grammar.{Said}
 use Rattle.qp_model.specs.Results.{◌>>=◌}
-
--- a number, if 64 bits hold it
-abbrev pub held : ℕ → Option ℕ
-held n = if nat_lt n (2 ^ 64) then Some n else None
+use Rattle.qp_model.specs.WordOf.{fitting_number}
 
 abbrev pub no_pars : Pars
 no_pars = record { kept = record { items = [] }; fit = true; many = false }
@@ -33,16 +30,16 @@ with_par p (Some n) = if length p.kept.items == 8 then record p { many = true } 
 
 abbrev pub with_pars : Pars → List ℕ → Pars
 with_pars p [] = p
-with_pars p (n ∷ ns) = with_pars (with_par p (held n)) ns
+with_pars p (n ∷ ns) = with_pars (with_par p (fitting_number n)) ns
 
 abbrev pub heard_event : Dictionary → line.EventWords → Event
 heard_event names e = record { signal = names.signal e.signal; pars = with_pars no_pars e.pars }
 
 abbrev pub heard_of : Dictionary → Said → Heard
-heard_of names (line.Source n) = heard.Source (held n)
-heard_of names (line.Post o e margin reserve) = heard.Post (names.object o) (heard_event names e) (option_map held margin) (option_map held reserve)
-heard_of names (line.Publish e reserve) = heard.Publish (heard_event names e) (option_map held reserve)
-heard_of names (line.Tick n) = heard.Tick (held n)
+heard_of names (line.Source n) = heard.Source (fitting_number n)
+heard_of names (line.Post o e margin reserve) = heard.Post (names.object o) (heard_event names e) (option_map fitting_number margin) (option_map fitting_number reserve)
+heard_of names (line.Publish e reserve) = heard.Publish (heard_event names e) (option_map fitting_number reserve)
+heard_of names (line.Tick n) = heard.Tick (fitting_number n)
 heard_of names line.Settle = heard.Settle
 
 -- the parts that are left
@@ -55,7 +52,7 @@ tokens_left t = parts_left 32 (option_map (λ rest. rest.now) t.rest)
 
 -- the number of a `margin` or a `reserve`, and the tokens behind it
 abbrev pub held_option : Option ℕ × List (List ℕ) → Option (Option ℕ) × List (List ℕ)
-held_option x = (option_map held x.0, x.1)
+held_option x = (option_map fitting_number x.0, x.1)
 
 abbrev pub option_left : Option (Option ℕ) × Tokens → Option (Option ℕ) × List (List ℕ)
 option_left x = (x.0, tokens_left x.1)

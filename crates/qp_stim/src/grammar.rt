@@ -6,7 +6,8 @@ ghost use Rattle.qp_stim.specs.Parts.{split_at_separator};
 ghost use Rattle.qp_stim.specs.Grammar.{numbers_of_tokens, numbers_closed, event_of_words, option_at, only_number, post_of, publish_of, said_by, said_of};
 ghost use Rattle.qp_stim.specs.Maps.{dictionary};
 ghost use Rattle.qp_stim.specs.Parts.{before_separator, after_separator};
-ghost use Rattle.qp_stim.specs.Reading.{held, tokens_left, held_option, option_left, no_pars, with_pars, heard_event, heard_of};
+ghost use Rattle.qp_stim.specs.Reading.{tokens_left, held_option, option_left, no_pars, with_pars, heard_event, heard_of};
+ghost use Rattle.qp_model.specs.WordOf.{fitting_number};
 
 use crate::heard::{Event, Heard, Pars};
 use crate::names::{SystemNames, is_identifier};
@@ -86,7 +87,7 @@ fn option<'a>(word: &[u8], tokens: Tokens<'a>) -> Option<(Option<Number>, Tokens
 
 #[tactic(auto, unfolding(crate::specs::Grammar::only_number))]
 fn last_number(tokens: Tokens) -> Option<Number>
-    ensures { result ≡ option_map held (only_number (tokens_left tokens.entry)) }
+    ensures { result ≡ option_map fitting_number (only_number (tokens_left tokens.entry)) }
 {
     let (token, rest) = tokens.next()?;
     if rest.is_empty() { number(token) } else { None }

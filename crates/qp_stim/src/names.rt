@@ -3,7 +3,8 @@
 ghost use Rattle.std.specs.Prelude.{◌≡◌, ◌≤◌, ◌||◌, ℕ, List, length, IfOk};
 ghost use Rattle.std.specs.Char.{is_ascii_digit};
 ghost use Rattle.std.specs.List.{list_all};
-ghost use Rattle.qp_stim.specs.Names.{is_letter as letter, is_name, dictionary_of, object_in, signal_in};
+ghost use Rattle.qp_stim.specs.Names.{dictionary_of, object_in, signal_in};
+ghost use Rattle.qp_chart_text.specs.Tokens.{is_letter as letter, is_identifier};
 ghost use Rattle.qp_stim.specs.Maps.{text_in, dictionary};
 
 use qp_model::System;
@@ -38,9 +39,9 @@ fn is_word(text: &[u8]) -> bool
 }
 
 /// Whether a token is a letter or `_`, then letters, digits and `_`.
-#[tactic(auto, unfolding(crate::specs::Names::is_name))]
+#[tactic(auto, unfolding(qp_chart_text::specs::Tokens::is_identifier))]
 pub fn is_identifier(token: &[u8]) -> bool
-    ensures { result ≡ is_name token.now }
+    ensures { result ≡ is_identifier token.now }
 {
     match token {
         [] => false,

@@ -4,8 +4,9 @@ ghost use Rattle.std.specs.Prelude.{◌≡◌, IsTrue};
 ghost use Rattle.std.specs.Char.{is_ascii_digit};
 ghost use Rattle.std.specs.List.{list_all};
 ghost use Rattle.std.specs.Option.{option_map};
-ghost use Rattle.qp_stim.specs.Numbers.{is_decimal, decimal_from, number_of_token};
-ghost use Rattle.qp_stim.specs.Reading.{held};
+ghost use Rattle.qp_stim.specs.Numbers.{is_decimal, number_of_token};
+ghost use Rattle.qp_chart_text.specs.Tokens.{value_after};
+ghost use Rattle.qp_model.specs.WordOf.{fitting_number};
 
 /// A number of a text, which may have any length; `None` is one above 64 bits.
 pub type Number = Option<u64>;
@@ -28,7 +29,7 @@ fn is_canonical(token: &[u8]) -> bool
 
 fn value(digits: &[u8]) -> Number
     requires { IsTrue (list_all is_ascii_digit digits.now) }
-    ensures { result ≡ held (decimal_from 0 digits.now) }
+    ensures { result ≡ fitting_number (value_after 0 digits.now) }
 {
     let mut value: u64 = 0;
     for b in digits {
@@ -40,7 +41,7 @@ fn value(digits: &[u8]) -> Number
 /// The number of a token, if it is one.
 #[tactic(auto, unfolding(crate::specs::Numbers::number_of_token))]
 pub fn number(token: &[u8]) -> Option<Number>
-    ensures { result ≡ option_map held (number_of_token token.now) }
+    ensures { result ≡ option_map fitting_number (number_of_token token.now) }
 {
     if is_canonical(token) {
         Some(value(token))

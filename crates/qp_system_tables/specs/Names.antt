@@ -3,6 +3,7 @@ use Rattle.std.specs.Prelude.{ℕ, ◌==◌, nat_le, Bool, false, not, ◌&&◌,
 use Rattle.std.specs.List.{list_all, list_any}
 use Rattle.std.specs.Char.{is_ascii_alphabetic, is_ascii_digit}
 use Rattle.std.specs.Str.{bytes_eq}
+use Rattle.qp_chart_text.specs.Tokens.{is_identifier}
 
 -- the words that stand for something else where a name may stand
 unfoldable pub reserved : List (List ℕ)
@@ -12,16 +13,7 @@ reserved =
     ∷ codes "flush" ∷ codes "subscribe" ∷ codes "unsubscribe" ∷ codes "arm" ∷ codes "rearm" ∷ codes "disarm"
     ∷ codes "margin" ∷ codes "reserve" ∷ []
 
--- a letter or `_`
-abbrev pub is_letter : ℕ → Bool
-is_letter b = is_ascii_alphabetic b || (b == 95)
-
--- a letter or `_`, then letters, digits and `_`
-unfoldable pub is_word : List ℕ → Bool
-is_word [] = false
-is_word (b ∷ bs) = is_letter b && list_all (λ c. is_letter c || is_ascii_digit c) bs
-
 -- a word of at most 24 bytes that isn't reserved
 unfoldable pub is_name : List ℕ → Bool
-unfolding is_word reserved
-is_name text = is_word text && nat_le (length text) 24 && not (list_any (bytes_eq text) reserved)
+unfolding is_identifier reserved
+is_name text = is_identifier text && nat_le (length text) 24 && not (list_any (bytes_eq text) reserved)

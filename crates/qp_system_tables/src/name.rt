@@ -4,7 +4,8 @@ ghost use Rattle.std.specs.Prelude.{◌≡◌, ◌||◌};
 ghost use Rattle.std.specs.Char.{is_ascii_digit};
 ghost use Rattle.std.specs.List.{list_all, list_any};
 ghost use Rattle.std.specs.Str.{bytes_eq};
-ghost use Rattle.qp_system_tables.specs.Names.{is_letter as letter, is_word, is_name, reserved};
+ghost use Rattle.qp_system_tables.specs.Names.{is_name, reserved};
+ghost use Rattle.qp_chart_text.specs.Tokens.{is_letter as letter, is_identifier};
 
 /// The words that stand for something else where a name may stand.
 static RESERVED: [&str; 26] = [
@@ -48,9 +49,9 @@ fn continues_word(text: &[u8]) -> bool
     text.iter().all(|b| is_letter(*b) || b.is_ascii_digit())
 }
 
-#[tactic(auto, unfolding(crate::specs::Names::is_word))]
+#[tactic(auto, unfolding(qp_chart_text::specs::Tokens::is_identifier))]
 fn is_identifier(text: &[u8]) -> bool
-    ensures { result ≡ is_word text.now }
+    ensures { result ≡ is_identifier text.now }
 {
     match text {
         [] => false,

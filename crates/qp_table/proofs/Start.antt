@@ -10,12 +10,12 @@ use Rattle.qp_model.specs.declared.systems.SignalDef.{SignalDef}
 use Rattle.qp_model.specs.declared.systems.ObjectDef.{ObjectDef}
 use Rattle.qp_model.specs.declared.systems.System.{System}
 use Rattle.qp_model.specs.Lists.{count_up}
-use Rattle.qp_model.specs.Parts.{is_static}
+use Rattle.qp_model.specs.Parts.{is_static, params_of}
 use Rattle.qp_model.specs.Sites.{object_at, ring_of, blocks_of}
 use Rattle.qp_model.specs.Sound.{IsSoundPool, IsSoundObject, IsSound}
 use Rattle.qp_model.specs.WordLaw.{is_pool, is_block, is_object}
 use Rattle.qp_table.specs.Counting.{Each, many}
-use Rattle.qp_table.specs.Rule.{block_at, queue_at, cell_at, params_of, Fitting, bits_value, Shows, is_serve}
+use Rattle.qp_table.specs.Rule.{block_at, queue_at, cell_at, Fitting, bits_value, Shows, is_serve}
 use Rattle.qp_table.specs.declared.view.Serve.{Serve}
 use Rattle.qp_table.specs.Whole.{first_now}
 use Rattle.qp_table.proofs.Ends.{opens}

@@ -1,5 +1,5 @@
 -- The views after each kind of step.
-use Rattle.std.specs.Prelude.{◌≡◌, ℕ, suc, ◌+◌, ◌/◌, ◌%◌, ◌<◌, eqb, List, [], ◌∷◌, ◌++◌, Bool, true, false, cond, IsTrue, length, slice_index, slice_set}
+use Rattle.std.specs.Prelude.{◌≡◌, ℕ, suc, ◌+◌, ◌/◌, ◌%◌, ◌<◌, eqb, List, [], ◌∷◌, ◌++◌, Bool, true, false, cond, IsTrue, length, slice_index, slice_set, ◌-◌}
 use mathlib.Core.Option.{some}
 use lib.ListN.{get_elem?}
 use Rattle.qp_model.specs.declared.record.Rec.{Rec}
@@ -15,6 +15,7 @@ use Rattle.qp_table.specs.declared.view.Spot.{Spot}
 use Rattle.qp_table.specs.declared.view.CellPlace.{CellPlace}
 use Rattle.qp_table.specs.declared.view.Serve.{Serve}
 use Rattle.qp_table.specs.declared.view.View.{View}
+use Rattle.qp_table.specs.declared.view.Glance.{Glance}
 
 -- a record of this kind for object o
 abbrev pub rec_of : ℕ → ℕ → List ℕ → Rec
@@ -191,3 +192,11 @@ views_joined v w = record {
 -- the view that the table begins with: it has lane 0, serves these objects and has all other lanes to hand out
 abbrev pub newcomer : List ℕ → List Serve → View
 newcomer numbers xs = record empty_view { logs = record { number = 0; recs = [] } ∷ []; lane_numbers = numbers; serves = xs }
+
+-- the record of a last-in post that finds the queue full
+abbrev pub full_rec : ℕ → ℕ → Rec
+full_rec a x = rec_of 42 a (5 ∷ a ∷ (x % 2097152) ∷ (x / 2097152 % 2097152) ∷ (x / 4398046511104) ∷ [])
+
+-- more was seen
+abbrev pub SeesMore : List Glance → List Glance → Type 0
+SeesMore old new = (more : List Glance) × (new ≡ old ++ more)

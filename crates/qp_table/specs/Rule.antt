@@ -11,7 +11,7 @@ use Rattle.qp_model.specs.References.{Refs}
 use Rattle.qp_model.specs.Line.{Line}
 use Rattle.qp_model.specs.Sites.{ring_of, blocks_of}
 use Rattle.qp_model.specs.WordLaw.{is_pool, is_block, is_object}
-use Rattle.qp_model.specs.Parts.{is_static}
+use Rattle.qp_model.specs.Parts.{is_static, params_of}
 use Rattle.qp_model.specs.Record.{item_of}
 use Rattle.qp_model.specs.declared.bodies.Body.{Body}
 use Rattle.qp_model.specs.declared.bodies.Body.TheVariants.{Took, Lifo}
@@ -53,10 +53,6 @@ cell_at a j = 4488 + 256 * a + j
 
 abbrev pub event_word_at : ℕ → ℕ → ℕ → ℕ
 event_word_at p b j = 12936 + 16 * (32 * p + b) + j
-
--- how many parameters an event of the signal has
-abbrev pub params_of : System → ℕ → ℕ
-params_of sys sig = option_map_or (λ d. d.params) (slice_get sys.signals (sig - 4)) 0
 
 -- sizes that the layout has room for
 pub record Fitting (sys : System) : Type 0 where

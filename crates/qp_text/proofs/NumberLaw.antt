@@ -10,7 +10,8 @@ use Rattle.std.proofs.lemmas.Bool.{ltb-true, leb-true, eqb-true, and_parts}
 use Rattle.std.proofs.lemmas.Bool.Decides.{nat_tests}
 use Rattle.std.proofs.lemmas.Fmt.{digits_value-decimal}
 use Rattle.std.proofs.lemmas.Str.Parse.{IsNumeralModel, numerals_by_fold, tells_digits}
-use Rattle.qp_text.specs.Numbers.{and_then, bits_of_negative, bits_of_positive, fitting, if_canonical, number_of_decimal, signed_of, value_after}
+use Rattle.qp_text.specs.Numbers.{and_then, bits_of_negative, bits_of_positive, fitting, if_canonical, number_of_decimal, signed_of}
+use Rattle.qp_chart_text.specs.Tokens.{value_after}
 use Rattle.qp_text.proofs.OptionLemmas.{and_then-some}
 use Rattle.qp_text.proofs.ValueLemmas.{fitting-some}
 use Rattle.qp_model.proofs.KernelLaneLemmas.{granted}

@@ -2,7 +2,8 @@
 use Rattle.std.proofs.Common.{◌≡◌, ℕ, ◌+◌, ◌-◌, ◌*◌, ◌^◌, ◌<◌, ◌≤◌, List, [], ◌∷◌, length, drop, get_or, Some, None, refl, add-one, drop-cons, arith}
 use Rattle.std.proofs.lemmas.Bool.Decides.{nat_tests}
 use Rattle.std.proofs.lemmas.List.{drop_all}
-use Rattle.qp_text.specs.Numbers.{fitting, value_after}
+use Rattle.qp_text.specs.Numbers.{fitting}
+use Rattle.qp_chart_text.specs.Tokens.{value_after}
 
 -- more digits never make a number smaller
 pub value-grows : (n : ℕ) (digits : List ℕ) → n ≤ value_after n digits

@@ -2,11 +2,7 @@
 use Rattle.std.specs.Prelude.{ℕ, ◌+◌, ◌-◌, ◌*◌, ◌^◌, ◌==◌, nat_lt, nat_le, Bool, ◌&&◌, List, [], ◌∷◌, if◌then◌else◌, Option, Some, None, decimal}
 use Rattle.std.specs.Option.{option_map}
 use Rattle.std.specs.Str.{bytes_eq}
-
--- the value of decimal digits that follow this number
-abbrev pub value_after : ℕ → List ℕ → ℕ
-value_after n [] = n
-value_after n (digit ∷ digits) = value_after (n * 10 + (digit - 48)) digits
+use Rattle.qp_chart_text.specs.Tokens.{value_after}
 
 -- a number, if 64 bits hold it
 abbrev pub fitting : ℕ → Option ℕ

@@ -1,7 +1,8 @@
 //! Numbers in a journal's text.
 
 ghost use Rattle.std.specs.Prelude.{◌≡◌, ◌<◌, ◌^◌, nat_lt, if◌then◌else◌, Some, None};
-ghost use Rattle.qp_text.specs.Numbers.{fitting, number_at, number_of_decimal, signed_of, value_after};
+ghost use Rattle.qp_text.specs.Numbers.{fitting, number_at, number_of_decimal, signed_of};
+ghost use Rattle.qp_chart_text.specs.Tokens.{value_after};
 
 use itoa::Buffer;
 

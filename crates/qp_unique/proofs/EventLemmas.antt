@@ -16,13 +16,12 @@ use Rattle.qp_model.specs.Told.{Event}
 use Rattle.qp_model.specs.History.{touch, touch_of, drawn_as, drawn_on, hist, is_numbered, total}
 use Rattle.qp_model.specs.Knowing.{event_of_entry, given_by, known_of, last_given, life_event}
 use Rattle.qp_model.specs.Places.{in_order}
-use Rattle.qp_model.specs.OneOrder.{Placed}
+use Rattle.qp_model.specs.OneOrder.{Placed, items_placed}
 use Rattle.qp_model.specs.Settled.{Settled}
 use Rattle.qp_model.specs.WordLaw.{is_block, is_object}
 use Rattle.qp_model.proofs.HistoryLemmas.{hist-draws, hist-other, is_numbered-draws, is_numbered-other, length-hist, no-hist, in_order-at, in_order-front}
 use Rattle.qp_model.proofs.KnowingLemmas.{IsLater, back-fresh, known-stays, new-fresh, settled-stays, next-draws}
 use Rattle.qp_model.proofs.EventLemmas.{event_known-same}
-use Rattle.qp_model_order.specs.RunOrder.{items_ordered}
 use Rattle.qp_plain_sound.specs.Log.{log_of}
 use Rattle.qp_plain_sound.specs.May.{May}
 use Rattle.qp_plain_sound.specs.Sound.{SoundWorld, hands_in}
@@ -167,27 +166,27 @@ module _ (sys : System) (xs : List Item) (i : Item) (s : Stood sys xs i) (ordere
           (inr (omega (arith, below, size)), λ pooled. at.0)
 
 -- Along a whole order.
-module _ (sys : System) (all : List Placed) (ordered : in_order [] (items_ordered all) ≡ true)
-    (stood : (xs : List Placed) (z : Placed) (ys : List Placed) → all ≡ xs ++ z ∷ ys → Stood sys (items_ordered xs) z.item) where
-  up-to : (xs : List Placed) (z : Placed) (ys : List Placed) → all ≡ xs ++ z ∷ ys → in_order [] (items_ordered xs ++ z.item ∷ []) ≡ true
+module _ (sys : System) (all : List Placed) (ordered : in_order [] (items_placed all) ≡ true)
+    (stood : (xs : List Placed) (z : Placed) (ys : List Placed) → all ≡ xs ++ z ∷ ys → Stood sys (items_placed xs) z.item) where
+  up-to : (xs : List Placed) (z : Placed) (ys : List Placed) → all ≡ xs ++ z ∷ ys → in_order [] (items_placed xs ++ z.item ∷ []) ≡ true
   up-to xs z ys split =
-      let whole = ap items_ordered split ∙ map-append (λ (x : Placed). x.item) xs (z ∷ ys) ∙ sym (append_assoc (items_ordered xs) (z.item ∷ []) (items_ordered ys)) in
-      in_order-front [] (items_ordered xs ++ z.item ∷ []) (items_ordered ys) (subst (λ us. in_order [] us ≡ true) whole ordered)
+      let whole = ap items_placed split ∙ map-append (λ (x : Placed). x.item) xs (z ∷ ys) ∙ sym (append_assoc (items_placed xs) (z.item ∷ []) (items_placed ys)) in
+      in_order-front [] (items_placed xs ++ z.item ∷ []) (items_placed ys) (subst (λ us. in_order [] us ≡ true) whole ordered)
 
-  stays : (xs ys : List Placed) (e : Entry) → all ≡ xs ++ ys → Settled (items_ordered xs) (Took 0 0 0 e)
-      → event_of_entry (record { sys = sys; items = items_ordered all }) e ≡ event_of_entry (record { sys = sys; items = items_ordered xs }) e
-  stays xs [] e split settled = ap (λ us. event_of_entry (record { sys = sys; items = items_ordered us }) e) (split ∙ append-nil xs)
+  stays : (xs ys : List Placed) (e : Entry) → all ≡ xs ++ ys → Settled (items_placed xs) (Took 0 0 0 e)
+      → event_of_entry (record { sys = sys; items = items_placed all }) e ≡ event_of_entry (record { sys = sys; items = items_placed xs }) e
+  stays xs [] e split settled = ap (λ us. event_of_entry (record { sys = sys; items = items_placed us }) e) (split ∙ append-nil xs)
   stays xs (z ∷ ys) e split settled =
       let s = stood xs z ys split in
       let front = up-to xs z ys split in
-      let more : items_ordered (xs ++ z ∷ []) ≡ items_ordered xs ++ z.item ∷ [] = map-append (λ (x : Placed). x.item) xs (z ∷ []) in
-      let on : Settled (items_ordered (xs ++ z ∷ [])) (Took 0 0 0 e) = subst (λ us. Settled us (Took 0 0 0 e)) (sym more) (settled-on sys (items_ordered xs) z.item s front e settled) in
+      let more : items_placed (xs ++ z ∷ []) ≡ items_placed xs ++ z.item ∷ [] = map-append (λ (x : Placed). x.item) xs (z ∷ []) in
+      let on : Settled (items_placed (xs ++ z ∷ [])) (Took 0 0 0 e) = subst (λ us. Settled us (Took 0 0 0 e)) (sym more) (settled-on sys (items_placed xs) z.item s front e settled) in
       stays (xs ++ z ∷ []) ys e (split ∙ sym (append_assoc xs (z ∷ []) ys)) on
-      ∙ ap (λ us. event_of_entry (record { sys = sys; items = us }) e) more ∙ event-on sys (items_ordered xs) z.item s front e settled
+      ∙ ap (λ us. event_of_entry (record { sys = sys; items = us }) e) more ∙ event-on sys (items_placed xs) z.item s front e settled
 
   -- what the records before an entry is taken tell of its event, all of them tell
   pub taken-stays : (xs : List Placed) (z : Placed) (ys : List Placed) (f l m : ℕ) (e : Entry) → all ≡ xs ++ z ∷ ys → z.item.body ≡ Took f l m e
-      → (event_of_entry (record { sys = sys; items = items_ordered all }) e ≡ event_of_entry (record { sys = sys; items = items_ordered xs }) e) × ((e.pool ≡ 0 → ⊥) → IsTrue (is_block sys e.pool e.block))
+      → (event_of_entry (record { sys = sys; items = items_placed all }) e ≡ event_of_entry (record { sys = sys; items = items_placed xs }) e) × ((e.pool ≡ 0 → ⊥) → IsTrue (is_block sys e.pool e.block))
   taken-stays xs z ys f l m e split is =
-      let at = taken-settled sys (items_ordered xs) z.item (stood xs z ys split) (up-to xs z ys split) f l m e is in
+      let at = taken-settled sys (items_placed xs) z.item (stood xs z ys split) (up-to xs z ys split) f l m e is in
       (stays xs (z ∷ ys) e split at.0, at.1)

@@ -22,9 +22,9 @@ use Rattle.qp_model.specs.History.{all_items, lane_items}
 use Rattle.qp_model.specs.Home.{lane_at}
 use Rattle.qp_model.specs.Kernels.{port, has_one_order}
 use Rattle.qp_model.specs.Places.{in_order}
-use Rattle.qp_model.specs.OneOrder.{Placed, OneThread, IsOneOrder, with_stimuli, parts_of_look, part_of_look, belongs, look_of, stim_of, order, spills_from, looks_right, look_right, turns_at, acts_next, is_turn, no_look, is_free}
+use Rattle.qp_model.specs.OneOrder.{Placed, OneThread, IsOneOrder, with_stimuli, parts_of_look, part_of_look, belongs, look_of, stim_of, order, spills_from, looks_right, look_right, turns_at, acts_next, is_turn, no_look, is_free, items_placed}
 use Rattle.qp_model.specs.Lawful.{Lawful, KernelHolds, OrderHolds, SourceLanes, reading_holds, source_lanes, lanes_before, one_thread}
-use Rattle.qp_model_order.specs.RunOrder.{placed, items_ordered}
+use Rattle.qp_model_order.specs.RunOrder.{placed}
 use Rattle.qp_model_order.specs.Placing.{look_item}
 use Rattle.qp_unique.specs.Tidy.{unspilt_order, unspilt}
 use Rattle.qp_unique.proofs.LookLemmas.{lane_turn, turn_if, turns-none}
@@ -63,16 +63,16 @@ pub lane-each : (P : List Item → Type 0) (front : List (List Item)) (l : List 
 lane-each P front l back all is h = (every-parts P front (l ∷ back) (subst (AllByRecursion P) is h)).1.0
 
 module _ (P : Item → Type 0) where
-  part-all : (lane k : ℕ) (cuts within : Bool) (is : List Item) → AllByRecursion P is → AllByRecursion P (items_ordered (part_of_look lane k cuts within is))
+  part-all : (lane k : ℕ) (cuts within : Bool) (is : List Item) → AllByRecursion P is → AllByRecursion P (items_placed (part_of_look lane k cuts within is))
   unfolding part_of_look
   part-all lane k cuts within [] h = tt
   part-all lane k cuts within (i ∷ is) h = by (belongs k cuts within i.body) (λ now. part-all lane k cuts now is h.1)
     where
-      by : (b : Bool) → ((now : Bool) → AllByRecursion P (items_ordered (part_of_look lane k cuts now is))) → AllByRecursion P (items_ordered (cond b (placed lane i ∷ []) [] ++ part_of_look lane k cuts b is))
+      by : (b : Bool) → ((now : Bool) → AllByRecursion P (items_placed (part_of_look lane k cuts now is))) → AllByRecursion P (items_placed (cond b (placed lane i ∷ []) [] ++ part_of_look lane k cuts b is))
       by true later = (h.0, later true)
       by false later = later false
 
-  pub parts-all : (lane k : ℕ) (cuts : Bool) (sources : List (List Item)) → AllByRecursion (λ l. AllByRecursion P l) sources → AllByRecursion P (items_ordered (parts_of_look lane k cuts sources))
+  pub parts-all : (lane k : ℕ) (cuts : Bool) (sources : List (List Item)) → AllByRecursion (λ l. AllByRecursion P l) sources → AllByRecursion P (items_placed (parts_of_look lane k cuts sources))
   unfolding parts_of_look
   parts-all lane k cuts [] h = tt
   parts-all lane k cuts (l ∷ ls) h =
@@ -80,7 +80,7 @@ module _ (P : Item → Type 0) where
       (every-append P _ _ (part-all lane k cuts false l h.0) (parts-all (lane + 1) k cuts ls h.1))
 
   pub order-all : (cuts : Bool) (sources : List (List Item)) (lane0 : List Item) → AllByRecursion P lane0 → AllByRecursion (λ l. AllByRecursion P l) sources
-      → AllByRecursion P (items_ordered (with_stimuli cuts sources lane0))
+      → AllByRecursion P (items_placed (with_stimuli cuts sources lane0))
   unfolding with_stimuli
   order-all cuts sources [] h all = tt
   order-all cuts sources (i ∷ is) h all = (
@@ -92,7 +92,7 @@ module _ (P : Item → Type 0) where
       own : Option (ℕ × ℕ) → List Placed
       own o = option_map_or (λ (l : ℕ × ℕ). parts_of_look 1 l.0 cuts sources) o []
 
-      look : (o : Option (ℕ × ℕ)) → AllByRecursion P (items_ordered (own o))
+      look : (o : Option (ℕ × ℕ)) → AllByRecursion P (items_placed (own o))
       look None = tt
       look (Some l) = parts-all 1 l.0 cuts sources all
 
@@ -118,7 +118,7 @@ ends-before (i ∷ j ∷ xs) x ys h = let parts = and_parts _ _ h in by (is_end 
     by true e h = absurd (cc)
     by false e h = h
 
-pub any-placed : (xs : List Placed) → list_any (λ (i : Item). is_end i.body) (items_ordered xs) ≡ list_any (λ (z : Placed). is_end z.item.body) xs
+pub any-placed : (xs : List Placed) → list_any (λ (i : Item). is_end i.body) (items_placed xs) ≡ list_any (λ (z : Placed). is_end z.item.body) xs
 any-placed [] = refl
 any-placed (x ∷ xs) = ap (λ b. is_end x.item.body || b) (any-placed xs)
 
@@ -283,7 +283,7 @@ spills-kept lane (l ∷ ls) =
         by false e h = h
 
 -- where nothing follows a `spill`, it stands last
-ends-kept : (zs : List Placed) → ends_last (items_ordered zs) ≡ true → zs ≡ kept zs ++ filter (λ (z : Placed). is_spill z.item.body) zs
+ends-kept : (zs : List Placed) → ends_last (items_placed zs) ≡ true → zs ≡ kept zs ++ filter (λ (z : Placed). is_spill z.item.body) zs
 unfolding ends_last
 ends-kept [] h = refl
 ends-kept (z ∷ []) h = by (is_spill z.item.body)
@@ -415,7 +415,7 @@ module _ (sys : System) (stimuli : List (List Stim)) (j : Journal) (t : Threaded
       subst (AllByRecursion (λ l. AllByRecursion P l)) (sym t.sources_are) (each-lane P t.others (every-parts P (lane_items t.first) (all_items t.others) (subst (AllByRecursion P) all-split h)).1)
 
   -- each record of the order is one of the lanes
-  pub inside : (P : Item → Type 0) → AllByRecursion P (all_items j.lanes) → AllByRecursion P (items_ordered (unspilt_order sys j))
+  pub inside : (P : Item → Type 0) → AllByRecursion P (all_items j.lanes) → AllByRecursion P (items_placed (unspilt_order sys j))
   unfolding unspilt_order
   inside P h = order-all P true (kept_sources sys j) (kept_zero j) (kept-each P (lane_items (lane_at j 0)) (raw-zero P h)) (lanes-kept P (source_lanes sys j) (raw-sources P h))
 
@@ -439,18 +439,18 @@ module _ (sys : System) (stimuli : List (List Stim)) (j : Journal) (t : Threaded
       by true = refl
       by false = spills-kept 1 (source_lanes sys j)
 
-  pub in-order : in_order [] (items_ordered (unspilt_order sys j)) ≡ true
+  pub in-order : in_order [] (items_placed (unspilt_order sys j)) ≡ true
   unfolding one_thread
   in-order =
-      in_order-front [] (items_ordered (unspilt_order sys j)) (items_ordered last_spill)
-      (subst (λ xs. in_order [] xs ≡ true) (ap items_ordered order-is ∙ map-append (λ (z : Placed). z.item) (unspilt_order sys j) last_spill) t.ordered.numbers)
+      in_order-front [] (items_placed (unspilt_order sys j)) (items_placed last_spill)
+      (subst (λ xs. in_order [] xs ≡ true) (ap items_placed order-is ∙ map-append (λ (z : Placed). z.item) (unspilt_order sys j) last_spill) t.ordered.numbers)
 
   pub ends-run : (xs : List Placed) (x : Placed) (ys : List Placed) → unspilt_order sys j ≡ xs ++ x ∷ ys → list_any (λ (z : Placed). is_end z.item.body) xs ≡ false
   unfolding one_thread
   ends-run xs x ys is =
       let here : law_order ≡ xs ++ x ∷ (ys ++ last_spill) = order-is ∙ ap (λ us. us ++ last_spill) is ∙ append_assoc xs (x ∷ ys) last_spill in
-      let split : items_ordered law_order ≡ items_ordered xs ++ x.item ∷ items_ordered (ys ++ last_spill) = ap items_ordered here ∙ map-append (λ (z : Placed). z.item) xs (x ∷ (ys ++ last_spill)) in
-      sym (any-placed xs) ∙ ends-before (items_ordered xs) x.item (items_ordered (ys ++ last_spill)) (subst (λ zs. ends_last zs ≡ true) split t.ordered.ends)
+      let split : items_placed law_order ≡ items_placed xs ++ x.item ∷ items_placed (ys ++ last_spill) = ap items_placed here ∙ map-append (λ (z : Placed). z.item) xs (x ∷ (ys ++ last_spill)) in
+      sym (any-placed xs) ∙ ends-before (items_placed xs) x.item (items_placed (ys ++ last_spill)) (subst (λ zs. ends_last zs ≡ true) split t.ordered.ends)
 
   -- a look has the stimulus that acts in it, or none; then a lane ended with a `spill`, and no look follows
   pub turn-at : (xs : List Placed) (n floor : ℕ) (ys : List Placed) → unspilt_order sys j ≡ xs ++ placed 0 (look_item n floor) ∷ ys

@@ -21,10 +21,10 @@ use Rattle.qp_model.specs.Ends.{is_spill, spills_cut}
 use Rattle.qp_model.specs.History.{Touch, Draws, Shows, Neither, touch, touch_of, all_items, hist, is_numbered, lane_items}
 use Rattle.qp_model.specs.Home.{lane_at}
 use Rattle.qp_model.specs.Lawful.{facts_of, source_lanes}
-use Rattle.qp_model.specs.OneOrder.{Placed, with_stimuli, parts_of_look, look_of, spills_from}
+use Rattle.qp_model.specs.OneOrder.{Placed, with_stimuli, parts_of_look, look_of, spills_from, items_placed}
 use Rattle.qp_model.specs.Places.{IsSerial, RecordPlace, in_order, is_next}
 use Rattle.qp_model.proofs.NumberLemmas.{every-append}
-use Rattle.qp_model_order.specs.RunOrder.{placed, items_ordered}
+use Rattle.qp_model_order.specs.RunOrder.{placed}
 use Rattle.qp_model_order.specs.Placing.{all_placed}
 use Rattle.qp_stim.specs.Rules.{StimuliFit}
 use Rattle.qp_plain_sound.specs.May.{May}
@@ -173,7 +173,7 @@ spills-each (i ∷ is) = by (is_spill i.body) refl (spills-each is)
     by true e h = (e, h)
     by false e h = h
 
-from-each : (lane : ℕ) (ls : List (List Item)) → AllByRecursion (λ i. is_spill i.body ≡ true) (items_ordered (spills_from lane ls))
+from-each : (lane : ℕ) (ls : List (List Item)) → AllByRecursion (λ i. is_spill i.body ≡ true) (items_placed (spills_from lane ls))
 unfolding spills_from
 from-each lane [] = tt
 from-each lane (l ∷ ls) =
@@ -209,16 +209,16 @@ module _ (sys : System) (stimuli : List (List Stim)) (j : Journal) (sound : IsSo
   abbrev all : List Placed
   all = unspilt_order sys j ++ last
 
-  last-each : AllByRecursion (λ i. is_spill i.body ≡ true) (items_ordered last)
+  last-each : AllByRecursion (λ i. is_spill i.body ≡ true) (items_placed last)
   last-each =
       subst (AllByRecursion (λ i. is_spill i.body ≡ true)) (sym (map-append (λ (z : Placed). z.item) (all_placed 0 (spills (lane_items (lane_at j 0)))) (spills_from 1 (source_lanes sys j))))
       (every-append (λ i. is_spill i.body ≡ true) _ _ (subst (AllByRecursion (λ i. is_spill i.body ≡ true)) (sym (items-placed 0 (spills (lane_items (lane_at j 0))))) (spills-each (lane_items (lane_at j 0))))
       (from-each 1 (source_lanes sys j)))
 
-  numbers : in_order [] (items_ordered all) ≡ true
+  numbers : in_order [] (items_placed all) ≡ true
   numbers =
       subst (λ us. in_order [] us ≡ true) (sym (map-append (λ (z : Placed). z.item) (unspilt_order sys j) last))
-      (order-spills [] (items_ordered (unspilt_order sys j)) (items_ordered last) (in-order sys stimuli j t) last-each)
+      (order-spills [] (items_placed (unspilt_order sys j)) (items_placed last) (in-order sys stimuli j t) last-each)
 
   in-last : (a : ℕ) → (a ≡ 0 → ⊥) → lane_in last a ≡ lane_in (spills_from 1 (source_lanes sys j)) a
   in-last a some =
@@ -278,7 +278,7 @@ module _ (sys : System) (stimuli : List (List Stim)) (j : Journal) (sound : IsSo
   serial = places-serial j.lanes all lanes-are numbers
 
   -- at each place of it stands a sound world that may make the next record
-  stood : (xs : List Placed) (z : Placed) (ys : List Placed) → all ≡ xs ++ z ∷ ys → Stood sys (items_ordered xs) z.item
+  stood : (xs : List Placed) (z : Placed) (ys : List Placed) → all ≡ xs ++ z ∷ ys → Stood sys (items_placed xs) z.item
   stood xs z ys split =
       let cut : order ≡ places_of [] xs ++ place_behind xs z ∷ places_of (xs ++ z ∷ []) ys = ap (places_of []) split ∙ places_of-append [] xs (z ∷ ys) in
       let goes : RerunGoesOn sys j.lanes (places_of [] xs) (place_behind xs z ∷ places_of (xs ++ z ∷ []) ys) =
@@ -289,14 +289,14 @@ module _ (sys : System) (stimuli : List (List Stim)) (j : Journal) (sound : IsSo
         lanes = (made j.lanes (places_of [] xs)).lanes;
         order = (made j.lanes (places_of [] xs)).order;
         world = goes.sound;
-        log = ap items_ordered (goes.log ∙ placed-back j.lanes all lanes-are [] xs (z ∷ ys) split);
+        log = ap items_placed (goes.log ∙ placed-back j.lanes all lanes-are [] xs (z ∷ ys) split);
         may = subst (λ (i : Item). May sys (made j.lanes (places_of [] xs)).lanes (hands_in sys (made j.lanes (places_of [] xs)).lanes (made j.lanes (places_of [] xs)).order) i.of i.body) at.item next.may;
       }
 
   -- the history of a word is the same in the order
-  hist-order : (w : Word) → is_numbered w (all_items j.lanes) ≡ true → hist w (all_items j.lanes) ≡ hist w (items_ordered all)
+  hist-order : (w : Word) → is_numbered w (all_items j.lanes) ≡ true → hist w (all_items j.lanes) ≡ hist w (items_placed all)
   hist-order w its_numbers =
-      hist-line j.lanes order serial.all serial.numbers w its_numbers ∙ ap (on_word w) (items-back j.lanes all lanes-are [] all refl) ∙ sym (ordered-hist w (items_ordered all) numbers)
+      hist-line j.lanes order serial.all serial.numbers w its_numbers ∙ ap (on_word w) (items-back j.lanes all lanes-are [] all refl) ∙ sym (ordered-hist w (items_placed all) numbers)
 
   tidy : IsTidy sys j
   unfolding facts_of
@@ -304,7 +304,7 @@ module _ (sys : System) (stimuli : List (List Stim)) (j : Journal) (sound : IsSo
     named = names-all sys (all_items j.lanes) (named-records sys stimuli j sound fit its.lawful);
     events = λ xs x ys f l m e split is.
         let at = taken-stays sys all numbers stood xs x (ys ++ last) f l m e (ap (λ us. us ++ last) split ∙ append_assoc xs (x ∷ ys) last) is in
-        event-by sys (all_items j.lanes) (items_ordered all) e
+        event-by sys (all_items j.lanes) (items_placed all) e
         (λ some. (
           hist-order (word.Pool e.pool) (its.lawful.words.pools e.pool (block-pool sys e.pool e.block (at.1 some)).0).numbers,
           hist-order (word.Block e.pool e.block) (its.lawful.words.blocks e.pool e.block (at.1 some)).numbers,

@@ -11,10 +11,9 @@ use Rattle.qp_model.specs.declared.record.Rec.{Rec}
 use Rattle.qp_model.specs.declared.words.Word.{Word}
 use Rattle.qp_model.specs.Record.{Item, item_of}
 use Rattle.qp_model.specs.History.{Touch, Draws, Shows, Neither, touch, drawn_on, lane_items, total}
-use Rattle.qp_model.specs.OneOrder.{Placed}
+use Rattle.qp_model.specs.OneOrder.{Placed, items_placed}
 use Rattle.qp_model.specs.Places.{IsSerial, RecordPlace, in_order, is_next, item_at, items_at, must_precede, places, touch_at, touch_first}
 use Rattle.qp_model.proofs.KnowingLemmas.{same_word-is}
-use Rattle.qp_model_order.specs.RunOrder.{items_ordered}
 use Rattle.qp_replay.specs.Remaining.{record_place}
 use Rattle.qp_replay.proofs.OrderLemmas.{irreflexive, taken, taken-all, taken-more, taken-none}
 use Rattle.qp_replay.specs.RerunLaws.{placed_at, record_at}
@@ -113,7 +112,7 @@ module _ (lanes : List (List Rec)) (all : List Placed) (are : (a : ℕ) → lane
       ∙ ap (λ i. record { lane = z.lane; item = i } ∷ placed_at lanes (places_of (xs ++ z ∷ []) zs)) h.item
       ∙ ap (λ us. z ∷ us) (placed-back (xs ++ z ∷ []) zs ys (split ∙ sym (append_assoc xs (z ∷ []) (zs ++ ys))))
 
-  pub items-back : (xs zs : List Placed) → all ≡ xs ++ zs → items_at lanes (places_of xs zs) ≡ items_ordered zs
+  pub items-back : (xs zs : List Placed) → all ≡ xs ++ zs → items_at lanes (places_of xs zs) ≡ items_placed zs
   unfolding items_at
   items-back xs [] split = refl
   items-back xs (z ∷ zs) split =
@@ -213,10 +212,10 @@ module _ (lanes : List (List Rec)) (all : List Placed) (are : (a : ℕ) → lane
               omega (arith, none)
 
   -- Where each number is that of the operations before it, a record stands behind those that must stand before it.
-  module _ (numbers : in_order [] (items_ordered all) ≡ true) where
-    number-at : (xs : List Placed) (z : Placed) (ys : List Placed) → all ≡ xs ++ z ∷ ys → is_next (items_ordered xs) (touch z.item) ≡ true
+  module _ (numbers : in_order [] (items_placed all) ≡ true) where
+    number-at : (xs : List Placed) (z : Placed) (ys : List Placed) → all ≡ xs ++ z ∷ ys → is_next (items_placed xs) (touch z.item) ≡ true
     number-at xs z ys split =
-        in_order-at [] (items_ordered xs) z.item (items_ordered ys) (subst (λ us. in_order [] us ≡ true) (ap items_ordered split ∙ map-append (λ (x : Placed). x.item) xs (z ∷ ys)) numbers)
+        in_order-at [] (items_placed xs) z.item (items_placed ys) (subst (λ us. in_order [] us ≡ true) (ap items_placed split ∙ map-append (λ (x : Placed). x.item) xs (z ∷ ys)) numbers)
 
     -- no later record must stand before an earlier one
     touch-later : (xs : List Item) (i : Item) (ys : List Item) (k : Item) → is_next xs (touch i) ≡ true → is_next (xs ++ i ∷ ys) (touch k) ≡ true → touch_first (touch k) (touch i) ≡ true → ⊥
@@ -285,7 +284,7 @@ module _ (lanes : List (List Rec)) (all : List Placed) (are : (a : ℕ) → lane
             ap (λ o. touch_first (touch_at o) (touch z.item)) (sym (item-here (xs ++ z ∷ us) u vs later))
             ∙ ap (λ o. touch_first (touch_at (item_at lanes (place_behind (xs ++ z ∷ us) u))) (touch_at o)) (sym (item-here xs z (us ++ u ∷ vs) split)) ∙ h in
             let next = subst (λ is. is_next is (touch u.item) ≡ true) (map-append (λ (x : Placed). x.item) xs (z ∷ us)) (number-at (xs ++ z ∷ us) u vs later) in
-            touch-later (items_ordered xs) z.item (items_ordered us) u.item (number-at xs z (us ++ u ∷ vs) split) next touches
+            touch-later (items_placed xs) z.item (items_placed us) u.item (number-at xs z (us ++ u ∷ vs) split) next touches
 
     pairs : (xs zs : List Placed) → all ≡ xs ++ zs → (i k : ℕ) (x y : RecordPlace) → slice_get (places_of xs zs) i ≡ Some x → slice_get (places_of xs zs) k ≡ Some y
         → must_precede lanes x y ≡ true → i < k

@@ -35,7 +35,7 @@ use Rattle.qp_model.specs.ObjectShape.{CutGroups}
 use Rattle.qp_model.specs.KernelLane.{Setting, Halted, Reading, lane_read, lane_on, lane_next, role_next, role_of, unread, is_whole_reading}
 use Rattle.qp_model.proofs.KernelRowLemmas.{lane_on-append, lane_on-then, pieces_in-then, no-row}
 use Rattle.qp_model.specs.Points.{lane_pieces, pieces_at, pieces_in}
-use Rattle.qp_model.specs.OneOrder.{Placed}
+use Rattle.qp_model.specs.OneOrder.{Placed, items_placed}
 use Rattle.qp_model.specs.Lawful.{Lawful, ObjectHolds, EndHolds, facts_of, setting_of, cut_of, spill_cuts, reading_holds}
 use Rattle.qp_model.specs.WordLaw.{is_object}
 use Rattle.qp_model.proofs.LineLemmas.{line_is}
@@ -44,7 +44,6 @@ use Rattle.qp_check_course.specs.Machine.{State, state_after, start_state, is_co
 use Rattle.qp_check_course.specs.Decided.{reads_to, may_be_cut as list_may_end, ends_well}
 use Rattle.qp_check_course.specs.Followable.{IsFollowable}
 use Rattle.qp_check_course.proofs.FollowLemmas.{pieces-decided}
-use Rattle.qp_model_order.specs.RunOrder.{items_ordered}
 use Rattle.qp_unique.specs.Held.{IsCounted, MayComeNext}
 use Rattle.qp_unique.specs.Fronts.{held_after, draws_of_word, is_word_of, names_its}
 use Rattle.qp_unique.specs.Tidy.{unspilt_order, unspilt, IsTidy}
@@ -327,21 +326,21 @@ module _ (sys : System) (stimuli : List (List Stim)) (j : Journal) (law : Lawful
 
   -- each record of the order names words of the system
   module _ (tidy : IsTidy sys j) where
-    named-each : AllByRecursion (λ i. names_its sys i.of i.body ≡ true) (items_ordered (unspilt_order sys j))
+    named-each : AllByRecursion (λ i. names_its sys i.of i.body ≡ true) (items_placed (unspilt_order sys j))
     named-each = inside sys stimuli j t (λ i. names_its sys i.of i.body ≡ true) (all-of (λ i. names_its sys i.of i.body) (all_items j.lanes) tidy.named)
 
-    order-items : (xs : List Placed) (x : Placed) (ys : List Placed) → unspilt_order sys j ≡ xs ++ x ∷ ys → items_ordered (unspilt_order sys j) ≡ items_ordered xs ++ x.item ∷ items_ordered ys
-    order-items xs x ys is = ap items_ordered is ∙ map-append (λ (z : Placed). z.item) xs (x ∷ ys)
+    order-items : (xs : List Placed) (x : Placed) (ys : List Placed) → unspilt_order sys j ≡ xs ++ x ∷ ys → items_placed (unspilt_order sys j) ≡ items_placed xs ++ x.item ∷ items_placed ys
+    order-items xs x ys is = ap items_placed is ∙ map-append (λ (z : Placed). z.item) xs (x ∷ ys)
 
     pub comes-of : (xs : List Placed) (x : Placed) (ys : List Placed) (c : ℕ) → unspilt_order sys j ≡ xs ++ x ∷ ys → MayComeNext sys (held_to sys c xs) x.item.of (told (facts_of sys j) x.item.of c x.item.body)
     unfolding told facts_of
     comes-of xs x ys c is =
         let at = order-items xs x ys is in
-        let named = (every-parts (λ i. names_its sys i.of i.body ≡ true) (items_ordered xs) (x.item ∷ items_ordered ys) (subst (AllByRecursion (λ i. names_its sys i.of i.body ≡ true)) at named-each)).1.0 in
-        let events : Entry → Option Event = λ e. event_of_entry (record { sys = sys; items = items_ordered xs }) e in
+        let named = (every-parts (λ i. names_its sys i.of i.body ≡ true) (items_placed xs) (x.item ∷ items_placed ys) (subst (AllByRecursion (λ i. names_its sys i.of i.body ≡ true)) at named-each)).1.0 in
+        let events : Entry → Option Event = λ e. event_of_entry (record { sys = sys; items = items_placed xs }) e in
         record {
-          may = comes-front sys j.lanes law.words (items_ordered (unspilt_order sys j)) (inside sys stimuli j t) (in-order sys stimuli j t) (items_ordered xs) (items_ordered ys) events c x.item.of x.item.body at named;
-          known = known-front sys j.lanes law.words (items_ordered (unspilt_order sys j)) (inside sys stimuli j t) (in-order sys stimuli j t) (items_ordered xs) (items_ordered ys) events c x.item.of x.item.body at named
+          may = comes-front sys j.lanes law.words (items_placed (unspilt_order sys j)) (inside sys stimuli j t) (in-order sys stimuli j t) (items_placed xs) (items_placed ys) events c x.item.of x.item.body at named;
+          known = known-front sys j.lanes law.words (items_placed (unspilt_order sys j)) (inside sys stimuli j t) (in-order sys stimuli j t) (items_placed xs) (items_placed ys) events c x.item.of x.item.body at named
               (λ f l m e took. tidy.events xs x ys f l m e is took);
         }
 
@@ -349,16 +348,16 @@ module _ (sys : System) (stimuli : List (List Stim)) (j : Journal) (law : Lawful
     unfolding held_after is_object
     counted-of xs ys c is = record { counted = λ a. by a (is_object sys a) refl }
       where
-        whole : items_ordered (unspilt_order sys j) ≡ items_ordered xs ++ items_ordered ys
-        whole = ap items_ordered is ∙ map-append (λ (z : Placed). z.item) xs ys
+        whole : items_placed (unspilt_order sys j) ≡ items_placed xs ++ items_placed ys
+        whole = ap items_placed is ∙ map-append (λ (z : Placed). z.item) xs ys
 
         by : (a : ℕ) (b : Bool) → is_object sys a ≡ b
-            → length (after (line (ring_of sys a)) (draws_of_word (word.Queue a) (items_ordered xs))).entries + (after (line (ring_of sys a)) (draws_of_word (word.Queue a) (items_ordered xs))).m
-            ≡ (after (line (ring_of sys a)) (draws_of_word (word.Queue a) (items_ordered xs))).f + (after (line (ring_of sys a)) (draws_of_word (word.Queue a) (items_ordered xs))).l
+            → length (after (line (ring_of sys a)) (draws_of_word (word.Queue a) (items_placed xs))).entries + (after (line (ring_of sys a)) (draws_of_word (word.Queue a) (items_placed xs))).m
+            ≡ (after (line (ring_of sys a)) (draws_of_word (word.Queue a) (items_placed xs))).f + (after (line (ring_of sys a)) (draws_of_word (word.Queue a) (items_placed xs))).l
         by a true e =
             let queue = law.words.queues a e in
-            (line_is (ring_of sys a) (draws_of_word (word.Queue a) (items_ordered xs))
-            (allowed-front (all_items j.lanes) (items_ordered (unspilt_order sys j)) (inside sys stimuli j t) (in-order sys stimuli j t) (word.Queue a) queue.numbers (line (ring_of sys a)) queue.allowed (items_ordered xs) (items_ordered ys) whole)).counted
+            (line_is (ring_of sys a) (draws_of_word (word.Queue a) (items_placed xs))
+            (allowed-front (all_items j.lanes) (items_placed (unspilt_order sys j)) (inside sys stimuli j t) (in-order sys stimuli j t) (word.Queue a) queue.numbers (line (ring_of sys a)) queue.allowed (items_placed xs) (items_placed ys) whole)).counted
         by a false e =
-            let none = queue-none sys a e (items_ordered xs) (every-parts (λ i. names_its sys i.of i.body ≡ true) (items_ordered xs) (items_ordered ys) (subst (AllByRecursion (λ i. names_its sys i.of i.body ≡ true)) whole named-each)).0 in
+            let none = queue-none sys a e (items_placed xs) (every-parts (λ i. names_its sys i.of i.body ≡ true) (items_placed xs) (items_placed ys) (subst (AllByRecursion (λ i. names_its sys i.of i.body ≡ true)) whole named-each)).0 in
             subst (λ zs. length (after (line (ring_of sys a)) zs).entries + (after (line (ring_of sys a)) zs).m ≡ (after (line (ring_of sys a)) zs).f + (after (line (ring_of sys a)) zs).l) (sym none) (empty (ring_of sys a))

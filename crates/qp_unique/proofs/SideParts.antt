@@ -24,7 +24,7 @@ use Rattle.qp_model.specs.History.{all_items, lane_items}
 use Rattle.qp_model.specs.Home.{lane_at, home_of}
 use Rattle.qp_model.specs.Sites.{object_at}
 use Rattle.qp_model.specs.KernelLane.{Reading, lane_on, lane_next, unread}
-use Rattle.qp_model.specs.OneOrder.{Placed, acts_next, is_stim_at, is_turn, no_look, turns_at, with_stimuli, parts_of_look, look_of, stim_of, look_numbers, stims_placed}
+use Rattle.qp_model.specs.OneOrder.{Placed, acts_next, is_stim_at, is_turn, no_look, turns_at, with_stimuli, parts_of_look, look_of, stim_of, look_numbers, stims_placed, items_placed}
 use Rattle.qp_model.specs.Sources.{SourceEnd, InStimulus, IsSourceLane, SourceRuns, source_records, may_end}
 use Rattle.qp_model.specs.Kernels.{port}
 use Rattle.qp_model.specs.Lawful.{Lawful, EndHolds, SourceLanes, facts_of, setting_of, source_lanes, lanes_before, one_thread}
@@ -33,7 +33,7 @@ use Rattle.qp_check_ends.specs.SourceState.{SourceState, Between, source_after, 
 use Rattle.qp_check_ends.proofs.LawLemmas.{call-laws}
 use Rattle.qp_check_ends.proofs.StopLemmas.{lane-stops}
 use Rattle.qp_check_ends.proofs.LaneLemmas.{runs-flag}
-use Rattle.qp_model_order.specs.RunOrder.{placed, items_ordered, has_stim}
+use Rattle.qp_model_order.specs.RunOrder.{placed, has_stim}
 use Rattle.qp_model_order.specs.Placing.{look_item}
 use Rattle.qp_unique.specs.Tidy.{unspilt_order, spill_free, unspilt}
 use Rattle.qp_unique.proofs.SourceSteps.{lane_in-append}
@@ -68,33 +68,33 @@ look-found (i ∷ is) n h = by (look_of i.body) refl h (λ k. look-found is n k)
         on true same h = let number : l.0 ≡ n = grind (arith, nat_tests) in ([], i, l.1, is, refl, e ∙ ap (λ m. Some (m, l.1)) number)
         on false same h = let more = later h in (i ∷ more.0, more.1, more.2, more.3, ap (λ us. i ∷ us) more.4, more.5)
 
-count-items : (f : Item → Bool) (xs : List Placed) → count_by (λ (z : Placed). f z.item) xs ≡ count_by f (items_ordered xs)
+count-items : (f : Item → Bool) (xs : List Placed) → count_by (λ (z : Placed). f z.item) xs ≡ count_by f (items_placed xs)
 count-items f [] = refl
-count-items f (x ∷ xs) = sum_by-cons (λ (z : Placed). cond (f z.item) 1 0) x xs ∙ ap (λ n. cond (f x.item) 1 0 + n) (count-items f xs) ∙ sym (sum_by-cons (λ i. cond (f i) 1 0) x.item (items_ordered xs))
+count-items f (x ∷ xs) = sum_by-cons (λ (z : Placed). cond (f z.item) 1 0) x xs ∙ ap (λ n. cond (f x.item) 1 0 + n) (count-items f xs) ∙ sym (sum_by-cons (λ i. cond (f i) 1 0) x.item (items_placed xs))
 
 count-none : (f : Item → Bool) (xs : List Item) → AllByRecursion (λ i. f i ≡ false) xs → count_by f xs ≡ 0
 count-none f [] h = refl
 count-none f (x ∷ xs) h = sum_by-cons (λ i. cond (f i) 1 0) x xs ∙ rw h.0 (let rest = count-none f xs h.1 in omega (arith, rest))
 
 count-merged : (f : Item → Bool) (cuts : Bool) (sources : List (List Item)) (lane0 : List Item) → AllByRecursion (λ l. AllByRecursion (λ i. f i ≡ false) l) sources
-    → count_by f (items_ordered (with_stimuli cuts sources lane0)) ≡ count_by f lane0
+    → count_by f (items_placed (with_stimuli cuts sources lane0)) ≡ count_by f lane0
 unfolding with_stimuli
 count-merged f cuts sources [] h = refl
 count-merged f cuts sources (i ∷ is) h =
-    sum_by-cons (λ i. cond (f i) 1 0) i (items_ordered (own (look_of i.body) ++ with_stimuli cuts sources is))
-    ∙ ap (λ n. cond (f i) 1 0 + n) (ap (count_by f) (map-append (λ (z : Placed). z.item) (own (look_of i.body)) (with_stimuli cuts sources is)) ∙ count-append f (items_ordered (own (look_of i.body))) (items_ordered (with_stimuli cuts sources is))
-    ∙ ap (λ n. n + count_by f (items_ordered (with_stimuli cuts sources is))) (none (look_of i.body)) ∙ zero-plus ∙ count-merged f cuts sources is h)
+    sum_by-cons (λ i. cond (f i) 1 0) i (items_placed (own (look_of i.body) ++ with_stimuli cuts sources is))
+    ∙ ap (λ n. cond (f i) 1 0 + n) (ap (count_by f) (map-append (λ (z : Placed). z.item) (own (look_of i.body)) (with_stimuli cuts sources is)) ∙ count-append f (items_placed (own (look_of i.body))) (items_placed (with_stimuli cuts sources is))
+    ∙ ap (λ n. n + count_by f (items_placed (with_stimuli cuts sources is))) (none (look_of i.body)) ∙ zero-plus ∙ count-merged f cuts sources is h)
     ∙ sym (sum_by-cons (λ i. cond (f i) 1 0) i is)
   where
     own : Option (ℕ × ℕ) → List Placed
     own o = option_map_or (λ (l : ℕ × ℕ). parts_of_look 1 l.0 cuts sources) o []
 
-    zero-plus : 0 + count_by f (items_ordered (with_stimuli cuts sources is)) ≡ count_by f (items_ordered (with_stimuli cuts sources is))
+    zero-plus : 0 + count_by f (items_placed (with_stimuli cuts sources is)) ≡ count_by f (items_placed (with_stimuli cuts sources is))
     zero-plus = omega arith
 
-    none : (o : Option (ℕ × ℕ)) → count_by f (items_ordered (own o)) ≡ 0
+    none : (o : Option (ℕ × ℕ)) → count_by f (items_placed (own o)) ≡ 0
     none None = refl
-    none (Some l) = count-none f (items_ordered (parts_of_look 1 l.0 cuts sources)) (parts-all (λ i. f i ≡ false) 1 l.0 cuts sources h)
+    none (Some l) = count-none f (items_placed (parts_of_look 1 l.0 cuts sources)) (parts-all (λ i. f i ≡ false) 1 l.0 cuts sources h)
 
 -- what is true of each lane by its place
 pub each-by : (P : List Item → Type 0) (ls : List (List Item)) → ((front : List (List Item)) (l : List Item) (back : List (List Item)) → ls ≡ front ++ l ∷ back → P l) → AllByRecursion P ls
@@ -392,7 +392,7 @@ module _ (sys : System) (stimuli : List (List Stim)) (j : Journal) (law : Lawful
   sources-untaken p some = each-by (λ l. AllByRecursion (λ i. takes_of p i ≡ false) l) (source_lanes sys j) (λ front l back is. untaken p some l (raw-own front l back is))
 
   -- how many entries an object has taken
-  pub count-order : (p : ℕ) → (p ≡ 0 → ⊥) → count_by (takes_of p) (items_ordered (unspilt_order sys j)) ≡ count_by (takes_of p) (all_items j.lanes)
+  pub count-order : (p : ℕ) → (p ≡ 0 → ⊥) → count_by (takes_of p) (items_placed (unspilt_order sys j)) ≡ count_by (takes_of p) (all_items j.lanes)
   unfolding unspilt_order
   count-order p some =
       let each = sources-untaken p some in
@@ -400,7 +400,7 @@ module _ (sys : System) (stimuli : List (List Stim)) (j : Journal) (law : Lawful
       let whole : count_by (takes_of p) (all_items j.lanes) ≡ count_by (takes_of p) (lane_items t.first) + count_by (takes_of p) (all_items t.others) =
       ap (count_by (takes_of p)) (all-split sys stimuli j t) ∙ count-append (takes_of p) (lane_items t.first) (all_items t.others) in
       let zero_is : count_by (takes_of p) (lane_items (lane_at j 0)) ≡ count_by (takes_of p) (lane_items t.first) = ap (count_by (takes_of p)) (lane0-is sys stimuli j t) in
-      let merged : count_by (takes_of p) (items_ordered (with_stimuli true (kept_sources sys j) (kept_zero j))) ≡ count_by (takes_of p) (kept_zero j) =
+      let merged : count_by (takes_of p) (items_placed (with_stimuli true (kept_sources sys j) (kept_zero j))) ≡ count_by (takes_of p) (kept_zero j) =
       count-merged (takes_of p) true (kept_sources sys j) (kept_zero j) (lanes-kept (λ i. takes_of p i ≡ false) (source_lanes sys j) each) in
       let bare : count_by (takes_of p) (kept_zero j) ≡ count_by (takes_of p) (lane_items (lane_at j 0)) = count-kept p (lane_items (lane_at j 0)) in
       omega (arith, others, whole, zero_is, merged, bare)
@@ -480,7 +480,7 @@ module _ (sys : System) (stimuli : List (List Stim)) (j : Journal) (law : Lawful
     counted-here =
         let whole = ap (count_by (λ (z : Placed). takes_of p z.item)) is ∙ count-append (λ (z : Placed). takes_of p z.item) xs (placed 0 (record { of = p; body = b }) ∷ ys) in
         let cons = sum_by-cons (λ (z : Placed). cond (takes_of p z.item) 1 0) (placed 0 (record { of = p; body = b })) ys in
-        let items : count_by (λ (z : Placed). takes_of p z.item) (unspilt_order sys j) ≡ count_by (takes_of p) (items_ordered (unspilt_order sys j)) = count-items (takes_of p) (unspilt_order sys j) in
+        let items : count_by (λ (z : Placed). takes_of p z.item) (unspilt_order sys j) ≡ count_by (takes_of p) (items_placed (unspilt_order sys j)) = count-items (takes_of p) (unspilt_order sys j) in
         sym (whole ∙ ap (λ n. count_by (λ (z : Placed). takes_of p z.item) xs + n) cons) ∙ items ∙ count-order p some
 
   pub within-of : (xs : List Placed) (p f l m : ℕ) (e : Entry) (ys : List Placed) → unspilt_order sys j ≡ xs ++ placed 0 (record { of = p; body = body.Took f l m e }) ∷ ys
@@ -505,8 +505,8 @@ module _ (sys : System) (stimuli : List (List Stim)) (j : Journal) (law : Lawful
   unfolding EndHolds
   spent-of xs p ys is some =
       let each = inside sys stimuli j t (λ i. is_spent i.body ≡ true → took_count (all_items j.lanes) i.of ≡ j.budget) (spents-each sys j 0 j.lanes law.end.spents) in
-      let split : items_ordered (unspilt_order sys j) ≡ items_ordered xs ++ record { of = p; body = body.Spent } ∷ items_ordered ys = ap items_ordered is ∙ map-append (λ (z : Placed). z.item) xs _ in
-      let took : took_count (all_items j.lanes) p ≡ j.budget = (every-parts (λ i. is_spent i.body ≡ true → took_count (all_items j.lanes) i.of ≡ j.budget) (items_ordered xs) _ (subst (AllByRecursion (λ i. is_spent i.body ≡ true → took_count (all_items j.lanes) i.of ≡ j.budget)) split each)).1.0 refl in
+      let split : items_placed (unspilt_order sys j) ≡ items_placed xs ++ record { of = p; body = body.Spent } ∷ items_placed ys = ap items_placed is ∙ map-append (λ (z : Placed). z.item) xs _ in
+      let took : took_count (all_items j.lanes) p ≡ j.budget = (every-parts (λ i. is_spent i.body ≡ true → took_count (all_items j.lanes) i.of ≡ j.budget) (items_placed xs) _ (subst (AllByRecursion (λ i. is_spent i.body ≡ true → took_count (all_items j.lanes) i.of ≡ j.budget)) split each)).1.0 refl in
       let here = counted-here xs p body.Spent ys is some in
       let none : count_by (λ (z : Placed). takes_of p z.item) ys ≡ 0 = by ys is in
       omega (arith, took, here, none)

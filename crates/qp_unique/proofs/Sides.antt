@@ -20,10 +20,10 @@ use Rattle.qp_model.specs.Course.{actor, first_config}
 use Rattle.qp_model.specs.KernelLane.{Setting, Reading, unread, lane_on, is_whole_reading, Ended}
 use Rattle.qp_model.specs.Points.{pieces_in}
 use Rattle.qp_model.specs.Sources.{SourceEnd, InStimulus}
-use Rattle.qp_model.specs.OneOrder.{Placed, with_stimuli, turns_at, acts_next, is_turn}
+use Rattle.qp_model.specs.OneOrder.{Placed, with_stimuli, turns_at, acts_next, is_turn, items_placed}
 use Rattle.qp_check_course.specs.Machine.{State, start_state, state_after, is_course_end as is_end_of_course, expects_point}
 use Rattle.qp_check_ends.specs.SourceState.{SourceState, Between, source_after, source_stops}
-use Rattle.qp_model_order.specs.RunOrder.{placed, items_ordered, has_stim}
+use Rattle.qp_model_order.specs.RunOrder.{placed, has_stim}
 use Rattle.qp_model_order.specs.Placing.{look_item}
 use Rattle.qp_unique.specs.Held.{WordsHeld, IsCounted, MayComeNext}
 use Rattle.qp_unique.specs.Fronts.{held_after}
@@ -52,11 +52,11 @@ in_kernel kernel sys has = record { sys = sys; kernel = kernel; has_stimulus = h
 
 -- the facts that some records tell
 abbrev pub facts_to : System → List Placed → Facts
-facts_to sys xs = record { sys = sys; items = items_ordered xs }
+facts_to sys xs = record { sys = sys; items = items_placed xs }
 
 -- what the words hold after some records of the order
 abbrev pub held_to : System → ℕ → List Placed → WordsHeld
-held_to sys ceiling xs = held_after sys (λ e. event_of_entry (facts_to sys xs) e) ceiling (items_ordered xs)
+held_to sys ceiling xs = held_after sys (λ e. event_of_entry (facts_to sys xs) e) ceiling (items_placed xs)
 
 -- a state in which a list may end: that of a whole course, or at a point
 abbrev pub MayEnd : Bool → State → Type 0

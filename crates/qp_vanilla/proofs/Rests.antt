@@ -7,9 +7,8 @@ use Rattle.qp_model.specs.declared.bodies.Body.TheVariants as body
 use Rattle.qp_model.specs.declared.words.Word.TheVariants as word
 use Rattle.qp_model.specs.Record.{item_of}
 use Rattle.qp_model.specs.Sound.{IsSound}
-use Rattle.qp_model.specs.Told.{plain}
+use Rattle.qp_model.specs.Told.{plain, untold}
 use Rattle.qp_model_order.specs.RunOrder.{placed}
-use Rattle.qp_model_order.specs.SourceRun.{untold}
 use Rattle.qp_calls.specs.LaneView.{GrowsOf, LaneView, Roomier, ceiling_in, mark_after, mark_by, own_after, Own}
 use Rattle.qp_calls.specs.Notes.{spills_told, told_note}
 use Rattle.qp_calls.specs.Tokens.{hands_after, hands_by}

@@ -10,7 +10,8 @@ use Rattle.qp_model.specs.Told.{ToldItem, for_object, plain}
 use Rattle.qp_model.proofs.NumberLemmas.{count-append}
 use Rattle.qp_wait.specs.Parked.{is_empty_look, is_park_place}
 use Rattle.qp_kernel.specs.Turning.{seen_told}
-use Rattle.qp_port_lanes.specs.Takes.{AddsEmpty, AddsNoTake, AddsTook, is_take, is_took}
+use Rattle.qp_port_lanes.specs.Takes.{AddsEmpty, AddsNoTake, AddsTook, is_take}
+use Rattle.qp_model.specs.OutputSummary.{is_took}
 use Rattle.qp_wait.specs.Waiting.{holds_place, is_nil_at, steps_in}
 
 self-test : (n : ℕ) → (n == n) ≡ true

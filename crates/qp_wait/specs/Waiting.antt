@@ -8,7 +8,7 @@ use Rattle.qp_model.specs.Told.{ToldItem}
 use Rattle.qp_dispatch.specs.declared.objects.Turn.{Turn}
 use Rattle.qp_dispatch.specs.declared.objects.Turn.TheVariants as turn
 use Rattle.qp_kernel_turns.specs.declared.halting.Halt.{Halt}
-use Rattle.qp_port_lanes.specs.Takes.{is_took}
+use Rattle.qp_model.specs.OutputSummary.{is_took}
 use Rattle.qp_wait_bells.specs.Tallies.{one_where}
 use Rattle.qp_wait.specs.declared.lane.BellLane.{BellLane}
 use Rattle.qp_wait.specs.Lane.{bell_view, empty_looks, last_takes, openings}

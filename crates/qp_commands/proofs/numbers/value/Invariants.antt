@@ -1,5 +1,5 @@
 use Rattle.std.proofs.Common.{◌≡◌, ◌<◌, ◌^◌, drop}
-use Rattle.qp_text.specs.Numbers.{value_after}
+use Rattle.qp_chart_text.specs.Tokens.{value_after}
 use Rattle.qp_commands.proofs.numbers.value.Given as goal
 
 abbrev pub invariant-loop-digit : goal.invariant-loop-digit

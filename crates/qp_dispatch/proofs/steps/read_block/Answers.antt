@@ -2,7 +2,8 @@ use Rattle.std.proofs.Common.{◌≡◌, ◌<◌, ◌+◌, ◌++◌, ◌∷◌, 
 use Rattle.qp_model.specs.Record.{entry}
 use Rattle.qp_model.specs.Told.{Event}
 use Rattle.qp_calls.specs.LaneView.{LaneView}
-use Rattle.qp_calls.specs.Clauses.{StandsHold, params_of}
+use Rattle.qp_calls.specs.Clauses.{StandsHold}
+use Rattle.qp_model.specs.Parts.{params_of}
 use Rattle.qp_dispatch.proofs.ResumeLemmas.{event-parts, params-most, take-one, take-whole}
 use Rattle.qp_dispatch.proofs.steps.read_block.Goals as goal
 

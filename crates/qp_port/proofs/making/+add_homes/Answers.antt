@@ -1,6 +1,7 @@
 use Rattle.std.proofs.Common.{◌∷◌, sym, subst}
 use Rattle.qp_port.specs.declared.job.Job.TheVariants as job
-use Rattle.qp_port.specs.Making.{AddsAll, HomesMade, IsFreshWorker, IsThis, MadesHome}
+use Rattle.qp_port.specs.Making.{HomesMade, IsThis, MadesHome}
+use Rattle.qp_port_lanes.specs.Workers.{AddsAll, IsFreshWorker}
 use Rattle.qp_port.proofs.Coming.{adds-more, adds-none, made-home, no-homes, on-ok}
 use Rattle.qp_port.proofs.making.+add_homes.Goals as goal
 

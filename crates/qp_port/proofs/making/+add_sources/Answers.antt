@@ -1,4 +1,5 @@
-use Rattle.qp_port.specs.Making.{IsFreshSource, SourcesMade}
+use Rattle.qp_port.specs.Making.{IsFreshSource}
+use Rattle.qp_port_lanes.specs.Workers.{SourcesMade}
 use Rattle.qp_port.proofs.Coming.{adds-none, no-sources}
 use Rattle.qp_port.proofs.making.+add_sources.Goals as goal
 

@@ -1,4 +1,5 @@
-use Rattle.qp_port_qk.specs.Making.{IsFreshQkSource, SourcesMade}
+use Rattle.qp_port_qk.specs.Making.{IsFreshQkSource}
+use Rattle.qp_port_lanes.specs.Workers.{SourcesMade}
 use Rattle.qp_port_qk.proofs.Coming.{adds-none, none-made}
 use Rattle.qp_port_qk.proofs.making.+add_sources.Goals as goal
 

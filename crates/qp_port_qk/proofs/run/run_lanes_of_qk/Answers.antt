@@ -15,7 +15,7 @@ use Rattle.qp_model_order.specs.SourceRun.{untold_all}
 use Rattle.qp_kernel.specs.Starts.{AreStarts}
 use Rattle.qp_port_phases.specs.Starting.{StartFirst}
 use Rattle.qp_port_qk.specs.Jobs.{QkJobIsAlone, qk_starts_of}
-use Rattle.qp_port_qk.specs.Rows.{AreSameLanes}
+use Rattle.qp_port_lanes.specs.Workers.{AreSameLanes}
 use Rattle.qp_port_qk.specs.Workers.{FirstBegins, IsSameQkWorker, QkMayBegin, QkMayEnd, QkMayTurn, IsBlank, OthersAre}
 use Rattle.qp_port_qk.proofs.Ending.{either-end}
 use Rattle.qp_port_qk.proofs.Rows.{ready-map}

@@ -3,7 +3,8 @@ use Rattle.std.specs.List.{AllByRecursion}
 use Rattle.qp_port_lanes.specs.Answers.{IsFed}
 use Rattle.qp_port_phases.specs.Stopping.{AnyStopped}
 use Rattle.qp_port_qk.specs.Ends.{HasQkRun}
-use Rattle.qp_port_qk.specs.Rows.{AreNewQkLanes, AreSameLanes}
+use Rattle.qp_port_qk.specs.Rows.{AreNewQkLanes}
+use Rattle.qp_port_lanes.specs.Workers.{AreSameLanes}
 use Rattle.qp_port_runs.proofs.Worlds.{ok-one, ok-three, ok-two, through}
 use Rattle.qp_port_runs.proofs.alone.run_alone.Goals as goal
 

@@ -4,7 +4,8 @@ use Rattle.qp_table.specs.declared.view.View.{View}
 use Rattle.qp_calls_log.specs.Meeting.{Met}
 use Rattle.qp_side.specs.Told.{both_of, side_onlooker}
 use Rattle.qp_side.specs.declared.view.SideView.{SideView}
-use Rattle.qp_shared_lane.specs.Holds.{LaneHolds, side_mark, told_by}
+use Rattle.qp_shared_lane.specs.Holds.{LaneHolds, told_by}
+use Rattle.qp_side.specs.Seat.{side_mark}
 use Rattle.qp_shared_lane.specs.Lane.{lane_context, lane_with, world_of_lane, state_view}
 use Rattle.qp_shared_lane.specs.declared.lane.LaneState.{LaneState}
 use Rattle.qp_shared_lane.proofs.Used.{ends-same}

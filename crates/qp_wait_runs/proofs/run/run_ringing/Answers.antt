@@ -4,7 +4,8 @@ use Rattle.std.specs.List.{AllByRecursion}
 use Rattle.qp_port_lanes.specs.Answers.{IsFed}
 use Rattle.qp_port_phases.specs.Stopping.{AnyStopped}
 use Rattle.qp_port_runs.specs.Handed.{HasRun}
-use Rattle.qp_port_runs.specs.Handed.{AreNewLanes, AreSameLanes}
+use Rattle.qp_port_runs.specs.Handed.{AreNewLanes}
+use Rattle.qp_port_lanes.specs.Workers.{AreSameLanes}
 use Rattle.qp_port_runs.proofs.Worlds.{ok-one, ok-three, ok-two}
 use Rattle.qp_port_runs.specs.Handed.{lane_view}
 use Rattle.qp_wait.specs.Handed.{bell_view}

@@ -5,7 +5,8 @@ use Rattle.qp_model.specs.declared.record.Rec.{Rec}
 use Rattle.qp_model.specs.Ends.{is_spill}
 use Rattle.qp_model.specs.History.{lane_items}
 use Rattle.qp_calls.specs.LaneView.{NotShown}
-use Rattle.qp_calls_log.specs.Lane.{is_caused_in, last_nil_in, nil_of, spill_place}
+use Rattle.qp_calls_log.specs.Lane.{last_nil_in, nil_of, spill_place}
+use Rattle.qp_calls.specs.LaneLaws.{is_caused_in}
 use Rattle.qp_calls_log.proofs.LogLemmas.{regular, spills, regular-more, spills-same, nils-now, causes-more}
 use Rattle.qp_calls_log.proofs.log.Log.add_nil.Goals as goal
 

@@ -3,7 +3,8 @@ use Rattle.std.specs.List.{list_all}
 use Rattle.qp_model.specs.declared.record.Rec.{Rec}
 use Rattle.qp_model.specs.History.{lane_items}
 use Rattle.qp_calls.specs.LaneView.{NotShown}
-use Rattle.qp_calls_log.specs.Lane.{is_caused_in, last_nil_in, nil_of, spill_place}
+use Rattle.qp_calls_log.specs.Lane.{last_nil_in, nil_of, spill_place}
+use Rattle.qp_calls.specs.LaneLaws.{is_caused_in}
 use Rattle.qp_calls_log.proofs.LogLemmas.{regular, spills, length-kinds}
 use Rattle.qp_calls_log.proofs.log.Log.make_room.Goals as goal
 use Rattle.qp_model.proofs.RecordLemmas.{lane-length}

@@ -5,7 +5,8 @@ use Rattle.qp_model.specs.declared.record.Rec.{Rec}
 use Rattle.qp_model.specs.History.{lane_items}
 use Rattle.qp_calls.specs.declared.answers.Counts as counts
 use Rattle.qp_calls.specs.LaneView.{NotShown}
-use Rattle.qp_calls_log.specs.Lane.{nil_of, last_nil_in, is_caused_in}
+use Rattle.qp_calls_log.specs.Lane.{nil_of, last_nil_in}
+use Rattle.qp_calls.specs.LaneLaws.{is_caused_in}
 use Rattle.qp_calls_log.proofs.LogLemmas.{regular, spills}
 use Rattle.qp_calls_log.proofs.log.Log.new.Goals as goal
 
