@@ -17,6 +17,7 @@ use Rattle.qp_check_shapes.proofs.GroupsActionLemmas.{publish-either}
 use Rattle.qp_check_shapes.proofs.GroupsFrontLemmas.{AnyFront}
 use Rattle.qp_check_shapes.proofs.ObjectFrontLemmas.{CutLaws, object-front, object-back}
 use Rattle.qp_check_shapes.proofs.ObjectDefinedLemmas.{object-of, of-object}
+use Rattle.qp_check_shapes.proofs.GroupsEndLemmas.{cut-last}
 
 -- a last has fronts
 last-front : (sys : System) (o : ℕ) (now : Option Entry) (stops : Bool) (g m back : List Told) → IsLast sys o now stops g → g ≡ m ++ back → AnyFront (IsWhole sys o now) (IsCut sys o now) m
@@ -28,9 +29,6 @@ last-front sys o now stops g m back (StopsInPublication sig pars reserve answer 
       publish-either sys o now sig pars reserve answer (m ++ (back ++ more))
           (subst (FitsAny sys o now (call.Publish sig pars reserve) answer) (ap (λ us. us ++ more) is ∙ append_assoc m back more) h),
     )
-
-cut-last : (sys : System) (o : ℕ) (now : Option Entry) (stops : Bool) (g : List Told) → IsCut sys o now g → IsLast sys o now stops g
-cut-last sys o now stops g c = Asserts c.0 c.1 c.2 c.3
 
 -- each entry can be released
 pub released : (e : Entry) → (rel : List Told) × Drops e rel

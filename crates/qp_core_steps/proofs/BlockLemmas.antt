@@ -33,6 +33,7 @@ use Rattle.qp_core_steps.specs.Keeps.{StepKeeps}
 use Rattle.qp_core_steps.specs.declared.seats.Seat.{Seat}
 use Rattle.qp_core_steps.proofs.ListLemmas.{any-many, none-many}
 use Rattle.qp_core_steps.proofs.Standing.{has-room}
+use Rattle.qp_table.proofs.Meeting.{both}
 
 -- the parts of a test
 pub adds : (lanes : ℕ) (x : Seat) (t : Bool) → (may_add lanes x && t) ≡ true → ((nat_lt x.number lanes ≡ true) × (nat_lt (sum_over (λ g. length g.recs) x.logs) 1000001 ≡ true)) × (t ≡ true)
@@ -144,10 +145,6 @@ with-more x r g p b k here = rw here refl
 with-first : (x : Seat) (r : Rec) (g : Glance) (p b k : ℕ) → list_any (is_ref_to p b) x.hands ≡ false → with_ref x r g p b k ≡ record (noting r g x) { fresh = without (is_spot p b) x.fresh; gives = without (gives_of p b) x.gives; hands = x.hands ++ ref p b k ∷ [] }
 with-first x r g p b k here = rw here refl
 
-either-way : {T : Type 0} (t : Bool) → (t ≡ true → T) → (t ≡ false → T) → T
-either-way true f g = f refl
-either-way false f g = g refl
-
 module _ (sys : System) (lanes : ℕ) (words : List ℕ) (x : Seat) (own : nat_lt x.number lanes ≡ true → 0 < length x.logs) (words' : List ℕ) (x' : Seat) where
   -- the step's own lemma gives the rule for equal words and an equal view
   along : (views : List View) (id : ℕ) (ws : List ℕ) (u : View) → ws ≡ words' → u ≡ as_view x' → Holds sys ws (set views id u) → Holds sys words' (set views id (as_view x'))
@@ -197,7 +194,7 @@ module _ (sys : System) (lanes : ℕ) (words : List ℕ) (x : Seat) (own : nat_l
       let u : View = began v (block_at p b) (w + 4294967297) made.0 p b (number_of_word w) in
       along views id (set words (block_at p b) (w + 4294967297)) u ws ((λ i. as_view (record (noting made.0 (glance (block_at p b) (m i)) x) { fresh = u.fresh; gives = u.gives; hands = u.hands })) ∙ (λ i. as_view (sym (made.3 ∙ with-first x made.0 (glance (block_at p b) (added w 4294967297)) p b (number_of_word w) here) i)))
       (begins sys words views holds id v at_id room x.by p b t.1 (w + 4294967297) made.0 made.1 (any-many (is_spot p b) x.fresh r.0) (done-none x.fills p b x.gives r.1) refl)) in
-      either-way (list_any (is_ref_to p b) x.hands) more first
+      both (list_any (is_ref_to p b) x.hands) more first
 
   -- the give that asks for the word
   asking : (views : List View) (id : ℕ) (holds : Holds sys words views) → get_elem? views id ≡ some (as_view x) → (p b j n : ℕ) (gs : List PendingGive) → Each (Tells holds.now) gs → list_any (asks_for x.fills p b j n) gs ≡ true

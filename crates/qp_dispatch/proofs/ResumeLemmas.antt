@@ -46,12 +46,12 @@ use Rattle.qp_dispatch.specs.Parts.{held_by, left_by}
 use Rattle.qp_dispatch.specs.SoundFor.{MayTask}
 use Rattle.qp_dispatch.specs.Runs.{RunAsserts, RunCut, Runs, ObjectSetting, hand_of, tasks_in}
 use Rattle.qp_dispatch.specs.Resume.{BeginsOn, EndsAsserted, StepHalts, IsGoing, IsLaneOf, ReleasesEntry, Resumes, ToEnd, ToPoint, entry_here, event_in_hand, step_event, held_in, remainder_of, step_entry}
-use Rattle.qp_dispatch.proofs.ActLemmas.{calm-quiet, counts-join, stand-change}
+use Rattle.qp_dispatch.proofs.ActLemmas.{calm-quiet, counts-join, stand-change, all-right}
 use Rattle.qp_dispatch.proofs.Quiet.{quiet-drops}
 use Rattle.qp_model.proofs.GroupLemmas.{bare-append}
 use Rattle.qp_dispatch.proofs.PartLemmas.{stand-in}
 use Rattle.qp_dispatch.proofs.PublishLemmas.{one-less}
-use Rattle.qp_dispatch.proofs.RunLemmas.{able-behind, stand-hand, stand-left}
+use Rattle.qp_dispatch.proofs.RunLemmas.{stand-hand, stand-left}
 use Rattle.qp_model.proofs.ListLemmas.{list_all-front, every-at, nil-front, every-behind}
 
 -- What is left of a step.
@@ -65,7 +65,7 @@ unfolding tasks_left publishing_left
 leaf-of None ts leaf = refl
 leaf-of (Some u) ts leaf = refl
 
-tasks-of : (u : Option Under) (ts : List Task) (leaf : ℕ) → (left_by u ts leaf).tasks ≡ ts
+pub tasks-of : (u : Option Under) (ts : List Task) (leaf : ℕ) → (left_by u ts leaf).tasks ≡ ts
 unfolding tasks_left publishing_left
 tasks-of None ts leaf = refl
 tasks-of (Some u) ts leaf = refl
@@ -170,7 +170,7 @@ module _ (home : ObjectSetting) (ceiling later : ℕ) (k m : Lasting) (g : Going
       hand = going.hand;
       is = going.is;
       may = every-behind (MayTask home.sys home.me (Some going.hand)) r.done (tasks_in home left) (subst (λ ts. AllByRecursion (MayTask home.sys home.me (Some going.hand)) ts) r.split going.may);
-      able = able-behind (task_able home.sys true) r.done (tasks_in home left) (subst (λ ts. list_all (task_able home.sys true) ts ≡ true) r.split going.able);
+      able = all-right (task_able home.sys true) r.done (tasks_in home left) (subst (λ ts. list_all (task_able home.sys true) ts ≡ true) r.split going.able);
       publishing = r.publishing;
       stand = r.stand (going.hand ∷ []) going.stand;
       few = subst (λ n. length (kept_in m.list) ≤ n) (sym r.keeps.room) (r.keeps.few going.few);

@@ -36,7 +36,7 @@ use Rattle.qp_dispatch.specs.Acting.{ActionKeeps}
 use Rattle.qp_dispatch.specs.Parts.{PartGoes, Asserts, CutShort, FewerLeft, GoesFurther, IsPublishing, Parts, held_by, left_by, publishing_of, entries_under}
 use Rattle.qp_dispatch.specs.SoundFor.{MayTask}
 use Rattle.qp_dispatch.specs.Runs.{MayRun, NothingLeft, PartDoes, RunAsserts, RunCut, Runs, ObjectSetting, hand_of, weight}
-use Rattle.qp_dispatch.proofs.ActLemmas.{counts-join}
+use Rattle.qp_dispatch.proofs.ActLemmas.{counts-join, all-right}
 use Rattle.qp_dispatch.proofs.FailLemmas.{left-tells, point-behind}
 use Rattle.qp_dispatch.proofs.PartLemmas.{stand-fewer, stand-in}
 use Rattle.qp_model.proofs.ListLemmas.{list_all-front, every-behind}
@@ -55,10 +55,6 @@ stand-list k u hand v all = stand-left k.list.entries.items (entries_under u) v 
 
 pub stand-under : (k : Lasting) (u : Option Under) (from : Under) (hand : Option HeldEntry) (v : LaneView) → u ≡ Some from → StandAll (held_by k u ++ hand_of hand) v → StandAll (held_by k (Some from)) v
 stand-under k u from hand v is all = stand-left (held_by k (Some from)) (hand_of hand) v (subst (λ o. StandAll (held_by k o ++ hand_of hand) v) is all)
-
-pub able-behind : {X : Type 0} (p : X → Bool) (xs ys : List X) → list_all p (xs ++ ys) ≡ true → list_all p ys ≡ true
-able-behind p [] ys h = h
-able-behind p (x ∷ xs) ys h = able-behind p xs ys (and_parts (p x) (list_all p (xs ++ ys)) h).1
 
 -- Weights.
 
@@ -257,10 +253,10 @@ module _ (stops : Bool) (home : ObjectSetting) (at : Moment) (ceiling : ℕ) (k 
         before leaf = subst (λ ps. AgendaReaches v.sys a at (left_by u ts leaf) (config_of k) ps (left_by x mids leaf) (config_of l)) (append-nil r.ps) (r.reaches leaf)
 
         able_mids : list_all (task_able v.sys (is_some at.entry)) mids ≡ true
-        able_mids = able-behind (task_able v.sys (is_some at.entry)) r.done mids (subst (λ us. list_all (task_able v.sys (is_some at.entry)) us ≡ true) r.split able)
+        able_mids = all-right (task_able v.sys (is_some at.entry)) r.done mids (subst (λ us. list_all (task_able v.sys (is_some at.entry)) us ≡ true) r.split able)
 
         able_rest : list_all (task_able v.sys (is_some at.entry)) rest ≡ true
-        able_rest = able-behind (task_able v.sys (is_some at.entry)) pre rest (subst (λ us. list_all (task_able v.sys (is_some at.entry)) us ≡ true) split able_mids)
+        able_rest = all-right (task_able v.sys (is_some at.entry)) pre rest (subst (λ us. list_all (task_able v.sys (is_some at.entry)) us ≡ true) split able_mids)
 
         by : (leaf : ℕ) → (h.g ≡ []) ⊎ GoesFurther home.me at pre l x h.g w → Begun leaf (r.ps ++ tell h.g)
         by leaf (inl none) =

@@ -79,7 +79,7 @@ unmarked-end [] [] h = let wrong : true ≡ false = h.0 in absurd (cc)
 unmarked-end [] (y ∷ ys) h = unmarked-end [] ys h.1
 unmarked-end (x ∷ xs) ys h = unmarked-end xs ys h.1
 
-no-assert : (b : Body) → is_end b ≡ false → is_assert b ≡ false
+pub no-assert : (b : Body) → is_end b ≡ false → is_assert b ≡ false
 no-assert (body.NoEntry a f l m) h = absurd (cc)
 no-assert (body.NoBlock p n free) h = absurd (cc)
 no-assert (body.Armed t n c) h = absurd (cc)

@@ -71,7 +71,7 @@ pass-both o us ws a b =
     ap (λ (ts : List Told). dispatched ts) (own-append o us ws) ∙ filter-append (λ (t : Told). not (is_turn_mark t.body)) (own_told o us) (own_told o ws)
     ∙ ap (λ x. x ++ dispatched (own_told o ws)) a ∙ b
 
-pass-spent : (o p : ℕ) → PassBy o (for_object p (plain body.Spent) ∷ [])
+pub pass-spent : (o p : ℕ) → PassBy o (for_object p (plain body.Spent) ∷ [])
 pass-spent o p = by (p == o)
   where
     by : (b : Bool) → dispatched (told_alone (cond b (for_object p (plain body.Spent) ∷ []) [])) ≡ []

@@ -20,7 +20,7 @@ use Rattle.qp_dispatch.proofs.SoundAble.{sound-able, sound-ready}
 use Rattle.qp_kernel.specs.Turning.{AreAble, AreNumbered}
 use Rattle.qp_kernel_turns.specs.Knowing.{IsObjectWithChart}
 
-found-self : (front : List ObjectDef) (d : ObjectDef) (ds : List ObjectDef) → AllByRecursion (λ x. x.priority < d.priority) front → find (λ x. x.priority == d.priority) (front ++ d ∷ ds) ≡ Some d
+pub found-self : (front : List ObjectDef) (d : ObjectDef) (ds : List ObjectDef) → AllByRecursion (λ x. x.priority < d.priority) front → find (λ x. x.priority == d.priority) (front ++ d ∷ ds) ≡ Some d
 found-self [] d ds all = let self : (d.priority == d.priority) ≡ true = grind (arith, nat_tests) in rw self refl
 found-self (x ∷ xs) d ds all = let lt = all.0 in let other : (x.priority == d.priority) ≡ false = grind (arith, nat_tests) in rw other (found-self xs d ds all.1)
 

@@ -88,6 +88,7 @@ use Rattle.qp_kernel_turns.proofs.Staying.{all-put, others-wait, paused-waits}
 use Rattle.qp_kernel_turns.proofs.Halted.{agreed, last-told, same-lanes}
 use Rattle.qp_kernel_turns.proofs.Closing.{closes-left}
 use Rattle.qp_model.proofs.AbleLemmas.{some-same}
+use Rattle.qp_dispatch.proofs.ResumeLemmas.{tasks-of}
 
 -- the lane went on by records of p and of the kernel
 pub record AddsAlone (p : ℕ) (v w : LaneView) : Type 0 where
@@ -144,11 +145,6 @@ under-way-by home k (standing.Within g) o v h = record {
   stand = stand-by (held_by k g.left.under ++ h.hand ∷ []) o v h.stand;
   few = h.few;
 }
-
-pub tasks-of : (u : Option Under) (ts : List Task) (leaf : ℕ) → (left_by_under u ts leaf).tasks ≡ ts
-unfolding tasks_left publishing_left
-tasks-of None ts leaf = refl
-tasks-of (Some u) ts leaf = refl
 
 -- The ceiling that the kernel's lane reads is that of its records.
 reads-ceiling : (st : Sitting) (k m : Reading) (ts : List ToldItem) → lane_on st k (map untold ts) ≡ Some m → m.ceiling ≡ ceiling_in k.ceiling ts

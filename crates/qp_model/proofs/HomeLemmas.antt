@@ -76,11 +76,11 @@ pub All-snoc : {A : Type 0} (P : A → Type 0) (xs : List A) (y : A) → AllByRe
 All-snoc P [] y h k = (k, tt)
 All-snoc P (x ∷ xs) y h k = (h.0, All-snoc P xs y h.1 k)
 
-below-next : (front : List ObjectDef) (d : ObjectDef) (ds : List ObjectDef) → AreBelow front ds → AllByRecursion (λ x. d.priority < x.priority) ds → AreBelow (front ++ d ∷ []) ds
+pub below-next : (front : List ObjectDef) (d : ObjectDef) (ds : List ObjectDef) → AreBelow front ds → AllByRecursion (λ x. d.priority < x.priority) ds → AreBelow (front ++ d ∷ []) ds
 below-next front d [] h k = tt
 below-next front d (e ∷ ds) h k = (All-snoc (λ x. x.priority < e.priority) front d h.0 k.0, below-next front d ds h.1 k.1)
 
-differ : (front : List ObjectDef) (o : ℕ) → AllByRecursion (λ x. x.priority < o) front → AllByRecursion (λ x. (x.priority == o) ≡ false) front
+pub differ : (front : List ObjectDef) (o : ℕ) → AllByRecursion (λ x. x.priority < o) front → AllByRecursion (λ x. (x.priority == o) ≡ false) front
 differ [] o h = tt
 differ (x ∷ front) o h = let less : x.priority < o = h.0 in (grind (arith, nat_tests, less), differ front o h.1)
 

@@ -101,7 +101,7 @@ found_at (x ∷ front) d rest = go (x.priority == d.priority) (found_at front d 
     go true h = refl
     go false h = h
 
-none_below : (ds : List ObjectDef) → AreBelow [] ds
+pub none_below : (ds : List ObjectDef) → AreBelow [] ds
 none_below [] = tt
 none_below (d ∷ ds) = (tt, none_below ds)
 

@@ -142,7 +142,7 @@ plain-lookless : (g : List Told) → ArePlain g → LooksNone (source_items g)
 plain-lookless [] h = tt
 plain-lookless (t ∷ ts) h = (h.0.look, plain-lookless ts h.1)
 
-plain-calm : (g : List Told) → ArePlain g → list_any (λ i. is_end i.body) (source_items g) ≡ false
+pub plain-calm : (g : List Told) → ArePlain g → list_any (λ i. is_end i.body) (source_items g) ≡ false
 plain-calm [] h = refl
 plain-calm (t ∷ ts) h = rw (h.0.calm, plain-calm ts h.1) refl
 

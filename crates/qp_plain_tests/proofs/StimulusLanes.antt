@@ -19,10 +19,7 @@ use Rattle.qp_plain_sound.specs.View.{view_of}
 use Rattle.qp_calls_stimulus.specs.Stimulating.{StimulusHappens}
 use Rattle.qp_calls_stimulus.proofs.Halting.{happens-unspilled}
 use Rattle.qp_plain_tests.specs.StimulusTrial.{IsStimulusBase}
-
-rest-told : (o k : ℕ) (r : Rec) (v : LaneView) → item_of r ≡ record { of = o; body = Rest k } → told_note r v ≡ plain (Rest k) ∷ []
-unfolding told_note
-rest-told o k r v is = rw (body-is o (Rest k) r is) refl
+use Rattle.qp_plain_tests.proofs.StepLanes.{rest-told}
 
 pub base-rest : (sys : System) (o k : ℕ) (r : Rec) (u v w : LaneView) → item_of r ≡ record { of = o; body = Rest k } → Roomier u v → GrowsOf r.of (told_note r v) v w
     → IsStimulusBase sys u → IsStimulusBase sys w

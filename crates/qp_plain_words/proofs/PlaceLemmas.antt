@@ -13,10 +13,10 @@ use Rattle.qp_model.specs.Lists.{count_up, without_all, with_number, is_first}
 use Rattle.qp_plain_words.specs.Places.{bit_places}
 use Rattle.qp_plain_words.proofs.Masks.{first-passing, without-passing, with-passing, length-one_less, filter-below, has-passing}
 
-abbrev set : ℕ → ℕ → ℕ
+abbrev pub set : ℕ → ℕ → ℕ
 set n k = bit_or n (1 * 2 ^ k % 4294967296)
 
-abbrev clear : ℕ → ℕ → ℕ
+abbrev pub clear : ℕ → ℕ → ℕ
 clear n k = bit_and n (bit_not w32 (1 * 2 ^ k % 4294967296))
 
 one : (x : ℕ) → x ≡ 1 → (x == 1) ≡ true

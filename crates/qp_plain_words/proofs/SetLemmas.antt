@@ -14,12 +14,7 @@ use Rattle.qp_chart.specs.StateTree.{has}
 use Rattle.qp_model.specs.Lists.{without_all}
 use Rattle.qp_model.specs.Subscribers.{bits_of_set}
 use Rattle.qp_plain_words.specs.Sets.{are_members}
-
-abbrev set : ℕ → ℕ → ℕ
-set n k = bit_or n (1 * 2 ^ k % 4294967296)
-
-abbrev clear : ℕ → ℕ → ℕ
-clear n k = bit_and n (bit_not w32 (1 * 2 ^ k % 4294967296))
+use Rattle.qp_plain_words.proofs.PlaceLemmas.{set, clear}
 
 other_way : (x y : ℕ) → x + y ≡ y + x
 other_way x y = omega arith

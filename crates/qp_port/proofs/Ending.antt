@@ -41,8 +41,8 @@ use Rattle.qp_port_law.specs.Sealed.{IsLaneAt}
 use Rattle.qp_port_law.specs.Homes.{HomeEnds}
 use Rattle.qp_port_law.specs.HomesRest.{RestsWith}
 use Rattle.qp_port_law.specs.SourcesLeft.{SourceLeaves}
-use Rattle.qp_port_law.proofs.HomePlaces.{below-next, nothing-before}
-use Rattle.qp_model.proofs.HomeLemmas.{AreBelow}
+use Rattle.qp_model.proofs.MeaningLemmas.{none_below}
+use Rattle.qp_model.proofs.HomeLemmas.{AreBelow, below-next}
 use Rattle.qp_port_lanes.specs.declared.home.Home.{Home}
 use Rattle.qp_port_lanes.specs.At.{IsHome}
 use Rattle.qp_port_lanes.proofs.Resting.{home-of}
@@ -61,26 +61,23 @@ use Rattle.qp_model_order.specs.SourceRun.{untold_all}
 use Rattle.qp_port.proofs.QuietHomes.{quiet-home}
 use Rattle.qp_port.proofs.Rows.{ready-none}
 use Rattle.qp_port.proofs.Standing.{priority-is}
+use Rattle.qp_kernel_turns.proofs.SoundObjects.{found-self}
 
 -- each object is the one of its priority
 abbrev pub AreFound : System → List ObjectDef → Type 0
 AreFound sys ds = AllByRecursion (λ d. object_at sys d.priority ≡ Some d) ds
-
-found-behind : (front : List ObjectDef) (d : ObjectDef) (ds : List ObjectDef) → AllByRecursion (λ x. x.priority < d.priority) front → find (λ x. x.priority == d.priority) (front ++ d ∷ ds) ≡ Some d
-found-behind [] d ds all = let self : (d.priority == d.priority) ≡ true = grind (arith, nat_tests) in rw self refl
-found-behind (x ∷ xs) d ds all = let lt = all.0 in let other : (x.priority == d.priority) ≡ false = grind (arith, nat_tests) in rw other (found-behind xs d ds all.1)
 
 module _ (sys : System) where
   found-from : (front ds : List ObjectDef) → front ++ ds ≡ sys.objects → AreBelow front ds → Ascend ds → AreFound sys ds
   unfolding object_at
   found-from front [] is below rise = tt
   found-from front (d ∷ ds) is below rise = (
-    ap (find (λ x. x.priority == d.priority)) (sym is) ∙ found-behind front d ds below.0,
+    ap (find (λ x. x.priority == d.priority)) (sym is) ∙ found-self front d ds below.0,
     found-from (front ++ d ∷ []) ds (append_assoc front (d ∷ []) ds ∙ is) (below-next front d ds below.1 rise.1) rise.2,
   )
 
   pub all-found : IsSound sys → AreFound sys sys.objects
-  all-found sound = found-from [] sys.objects refl (nothing-before sys.objects) sound.ascend
+  all-found sound = found-from [] sys.objects refl (none_below sys.objects) sound.ascend
 
 -- One object, by its lane.
 

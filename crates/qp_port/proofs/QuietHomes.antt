@@ -25,11 +25,7 @@ use Rattle.qp_port_law.specs.Homes.{HomeEnds, home_told, is_spent_home}
 use Rattle.qp_port_law.specs.HomeLanes.{LooksOnce, looks_in}
 use Rattle.qp_port_law.specs.HomeLaws.{IsHomeOf, HomeRests}
 use Rattle.qp_port_law.proofs.HomeRecords.{ends-asserts}
-
-looks-differ : (looked : Bool) (own : Own) (xs : List (ℕ × ℕ × ℕ)) → LooksOnce looked own xs → all_differ xs ≡ true
-unfolding all_differ
-looks-differ false own xs h = subst (λ x. all_differ x ≡ true) (sym h) refl
-looks-differ true own xs h = subst (λ x. all_differ x ≡ true) (sym h.1) refl
+use Rattle.qp_port_law.proofs.HomeEnding.{looks-differ}
 
 -- It is whole.
 pub quiet-home : (sys : System) (d : ObjectDef) (chart : Chart) (budget end : ℕ) (own : Own) (looked : Bool) (told : List ToldItem) (es : List Entry) (points : ℕ) (c : Config) → IsHomeOf sys d chart

@@ -17,7 +17,8 @@ use Rattle.qp_kernel_turns.specs.Halting.{FindsStop, asked_once}
 use Rattle.qp_model_order.specs.SourceRun.{untold_all}
 use Rattle.qp_port_lanes.specs.CursorAt.{tries_in}
 use Rattle.qp_port_lanes.specs.Passing.{FindsNone, Glances, IsClear, IsSeenClear, shows_empty}
-use Rattle.qp_port_lanes.proofs.Leaving.{tries-append, untold-append}
+use Rattle.qp_port_lanes.proofs.Leaving.{tries-append}
+use Rattle.qp_model_order.proofs.SourceLanes.{untold-append}
 
 all-of : (P Q : ℕ → Type 0) → ((p : ℕ) → P p → Q p) → (os : List ℕ) → AllByRecursion P os → AllByRecursion Q os
 all-of P Q on [] h = tt

@@ -28,16 +28,7 @@ use Rattle.qp_model.proofs.FitsLemmas.{all-append}
 use Rattle.qp_model.proofs.KnowingLemmas.{told-source}
 use Rattle.qp_port_law.specs.SourcesLeft.{SourceLeaves}
 use Rattle.qp_port_lanes.specs.CursorAt.{tries_in}
-use Rattle.qp_model_order.proofs.SourceLanes.{stated, stim-ends, alone-source, unspilled, calm-unspent, plain-mild}
-
-pub untold-append : (ts us : List ToldItem) → untold_all (ts ++ us) ≡ untold_all ts ++ untold_all us
-untold-append ts us = map-append untold ts us
-
-pub alone-append : (ts : List ToldItem) (g : List Told) → told_alone (ts ++ map (for_object 0) g) ≡ told_alone ts ++ g
-alone-append ts g = map-append (λ t. t.told) ts (map (for_object 0) g) ∙ ap (λ x. told_alone ts ++ x) (told-source g)
-
-source_told-append : (ts us : List ToldItem) → source_told (ts ++ us) ≡ source_told ts ++ source_told us
-source_told-append ts us = ap told_alone (filter-append (λ t. not (is_spill t.told.body)) ts us) ∙ map-append (λ t. t.told) (filter (λ t. not (is_spill t.told.body)) ts) (filter (λ t. not (is_spill t.told.body)) us)
+use Rattle.qp_model_order.proofs.SourceLanes.{stated, stim-ends, alone-source, unspilled, calm-unspent, plain-mild, untold-append, alone-append, source_told-append}
 
 pub tries-append : (ts us : List ToldItem) → tries_in (ts ++ us) ≡ tries_in ts ++ tries_in us
 tries-append ts us = ap (λ x. filter_map (λ i. entry_seen i.body) x) (untold-append ts us) ∙ filter_map-append (λ i. entry_seen i.body) (untold_all ts) (untold_all us)

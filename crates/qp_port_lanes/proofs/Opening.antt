@@ -15,7 +15,8 @@ use Rattle.qp_model_order.proofs.StimLemmas.{any-both}
 use Rattle.qp_port_lanes.specs.declared.cursor.Cursor.{Cursor}
 use Rattle.qp_port_lanes.specs.CursorAt.{IsCursorAt, IsKnownTry, IsSourceAt, at_settle_in, begins_settle, stimuli_done, mine, tries_in}
 use Rattle.qp_port_lanes.specs.Passing.{IsInSettle, Opens, opening_of}
-use Rattle.qp_port_lanes.proofs.Leaving.{tries-quiet, untold-append}
+use Rattle.qp_port_lanes.proofs.Leaving.{tries-quiet}
+use Rattle.qp_model_order.proofs.SourceLanes.{untold-append}
 use Rattle.qp_port_lanes.proofs.Going.{done-at, known-later}
 use Rattle.qp_port_lanes.proofs.Waiting.{begins-is}
 use Rattle.qp_port_lanes.proofs.Along.{along-gains, along-none}

@@ -34,7 +34,7 @@ use Rattle.qp_port_law.specs.Homes.{HomeEnds}
 use Rattle.qp_kernel_turns.specs.declared.halting.Halt.{Halt}
 use Rattle.qp_kernel_turns.specs.declared.halting.Halt.TheVariants as halt
 use Rattle.qp_kernel_turns.specs.Halting.{TurnHalts, asked_once}
-use Rattle.qp_kernel_turns.proofs.Resting.{PassBy, pass-both, pass-kernel}
+use Rattle.qp_kernel_turns.proofs.Resting.{PassBy, pass-both, pass-kernel, pass-spent}
 use Rattle.qp_kernel_turns.proofs.SoundObjects.{able, numbered}
 use Rattle.qp_kernel_turns.proofs.Taking.{seen-mark_own, nil-mark_own}
 use Rattle.qp_port_law.specs.HomeLaws.{HasMore, IsHomeOf, HomeRests}
@@ -80,14 +80,6 @@ counts-same shown.NotShown f l m same = absurd (cc)
 nil-last : (p f l m : ℕ) (told : List ToldItem) → last_nil p NotShown (told ++ for_object p (plain (body.Nil f l m)) ∷ []) ≡ shown.Counts f l m
 unfolding last_nil
 nil-last p f l m told = let self : (p == p) ≡ true = grind (arith, nat_tests) in last-append p NotShown told (for_object p (plain (body.Nil f l m)) ∷ []) ∙ rw self refl
-
--- `spent` is no record of a start or a step
-pass-spent : (p o : ℕ) → PassBy p (for_object o (plain body.Spent) ∷ [])
-pass-spent p o = by (o == p)
-  where
-    by : (b : Bool) → dispatched (told_alone (cond b (for_object o (plain body.Spent) ∷ []) [])) ≡ []
-    by true = refl
-    by false = refl
 
 nil-own : (p a f l m : ℕ) (o : Own) → own_after a o (for_object p (plain (body.Nil f l m)) ∷ []) ≡ o
 unfolding own_after

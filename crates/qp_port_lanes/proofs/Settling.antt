@@ -27,10 +27,11 @@ use Rattle.qp_port_law.specs.SourcesLeft.{SourceLeaves}
 use Rattle.qp_calls_stimulus.specs.Settling.{SeesNone, SeesSome, SettleCut}
 use Rattle.qp_port_lanes.specs.CursorAt.{IsKnownTry, IsSourceAt, tries_in}
 use Rattle.qp_port_lanes.specs.Passing.{IsClear, IsInSettle, ShowsEntry}
-use Rattle.qp_port_lanes.proofs.Leaving.{Calm, alone-append, full-lane, no-look, tries-append, tries-quiet, untold-append}
-use Rattle.qp_model_order.proofs.SourceLanes.{alone-source}
+use Rattle.qp_port_lanes.proofs.Leaving.{Calm, full-lane, no-look, tries-append, tries-quiet}
+use Rattle.qp_model_order.proofs.SourceLanes.{alone-source, alone-append, untold-append}
 use Rattle.qp_port_lanes.proofs.Going.{known-later}
-use Rattle.qp_port_lanes.proofs.Tries.{EndsTry, cut-is-plain, entry-ends, pick, plain-calm, plain-seen, same-is, settle-alone, settle-plain, settles-behind, tries-more, twice-snoc}
+use Rattle.qp_port_lanes.proofs.Tries.{EndsTry, cut-is-plain, entry-ends, pick, plain-seen, same-is, settle-alone, settle-plain, settles-behind, tries-more, twice-snoc}
+use Rattle.qp_model_order.proofs.StimulusForm.{plain-calm}
 
 -- Looks leave the hands as they were.
 

@@ -42,7 +42,8 @@ use Rattle.qp_port_law.specs.Homes.{HomeEnds}
 use Rattle.qp_kernel_turns.specs.Knowing.{IsInTurn, own_count}
 use Rattle.qp_kernel_turns.proofs.Closing.{closes-left}
 use Rattle.qp_kernel_turns.proofs.SoundObjects.{ready}
-use Rattle.qp_kernel_turns.proofs.Stepping.{under-way-by, event-by, left-by, tasks-of}
+use Rattle.qp_kernel_turns.proofs.Stepping.{under-way-by, event-by, left-by}
+use Rattle.qp_dispatch.proofs.ResumeLemmas.{tasks-of}
 use Rattle.qp_port_law.specs.HomeLaws.{HasMore, IsBusy, IsHomeOf, HomeRests}
 use Rattle.qp_port_law.proofs.HomeRecords.{AreInside, drops-inside, inside-then, own-inside}
 use Rattle.qp_port_law.proofs.HomeSteps.{done-inside, point-inside}

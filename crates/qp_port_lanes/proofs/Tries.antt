@@ -54,10 +54,6 @@ settle-alone sys kernel one h = (0, [], one, refl, refl, inr refl, h)
 
 -- Plain records in the lane of a source.
 
-pub plain-calm : (g : List Told) → ArePlain g → list_any (λ i. is_end i.body) (source_items g) ≡ false
-plain-calm [] h = refl
-plain-calm (t ∷ ts) h = rw (h.0.calm, plain-calm ts h.1) refl
-
 pub plain-seen : (g : List Told) → ArePlain g → filter_map (λ i. entry_seen i.body) (source_items g) ≡ []
 plain-seen [] h = refl
 plain-seen (t ∷ ts) h = rw (h.0.seen) (plain-seen ts h.1)

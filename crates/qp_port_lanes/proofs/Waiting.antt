@@ -30,7 +30,8 @@ use Rattle.qp_port_lanes.specs.declared.cursor.Cursor.{Cursor}
 use Rattle.qp_port_lanes.specs.CursorAt.{IsKnownTry, IsSourceAt, IsCursorAt, tries_in, mine, stimuli_done, at_settle_in, begins_settle}
 use Rattle.qp_port_lanes.specs.SourceTurning.{SourceStarves, SourceHasStopped}
 use Rattle.qp_port_lanes.specs.Passing.{FindsEntry, FindsNone, Glances, GoesAlong, IsClear, ShowsEntry, StarvesThere, StopsThere}
-use Rattle.qp_port_lanes.proofs.Leaving.{Calm, still, full-lane, alone-append, no-look}
+use Rattle.qp_port_lanes.proofs.Leaving.{Calm, still, full-lane, no-look}
+use Rattle.qp_model_order.proofs.SourceLanes.{alone-append}
 use Rattle.qp_port_lanes.proofs.Going.{known-later, done-at, same-gains, same-stops}
 use Rattle.qp_port_lanes.proofs.Turned.{handed, same-then, spill-code}
 use Rattle.qp_port_lanes.proofs.Along.{along-glances, along-once, along-then}

@@ -42,7 +42,8 @@ use Rattle.qp_kernel.proofs.ZeroLemmas.{ends-told}
 use Rattle.qp_calls.specs.LaneView.{Own}
 use Rattle.qp_port_law.specs.Homes.{home_told, is_spent_home, HomeEnds}
 use Rattle.qp_port_law.specs.HomeLanes.{nils_in, looks_in, LooksOnce, IsHomeLane, IsPartHome, IsWholeHome}
-use Rattle.qp_port_law.proofs.HomeRecords.{same-number, at-home_then, AreInside, of_it, other-zero, own-inside, drops-inside, inside-then, inside-home, inside-takes, inside-nils, inside-looks, inside-dispatched, inside-mild, own-of, home-of, home-append, dispatched-append, nils-append, looks-append, ends-asserts}
+use Rattle.qp_port_law.proofs.HomeRecords.{at-home_then, AreInside, of_it, other-zero, own-inside, drops-inside, inside-then, inside-home, inside-takes, inside-nils, inside-looks, inside-dispatched, inside-mild, own-of, home-of, home-append, dispatched-append, nils-append, looks-append, ends-asserts}
+use Rattle.qp_model.proofs.LineLemmas.{same_number}
 use Rattle.qp_port_law.proofs.HomeGrows.{home-at_end, home-new, took-more}
 use Rattle.qp_port_law.proofs.HomeSteps.{course-bare, course-goes, part-groups, part-own, step-bare}
 
@@ -58,7 +59,7 @@ pub record AreLast (o budget : ℕ) (told ts : List ToldItem) (es : List Entry) 
   pub takes : took_count (untold_all ts) o ≡ 0
 
 -- the looks of a lane that has looked once, or not at all, differ
-looks-differ : (looked : Bool) (own : Own) (xs : List (ℕ × ℕ × ℕ)) → LooksOnce looked own xs → all_differ xs ≡ true
+pub looks-differ : (looked : Bool) (own : Own) (xs : List (ℕ × ℕ × ℕ)) → LooksOnce looked own xs → all_differ xs ≡ true
 unfolding all_differ
 looks-differ false own xs h = subst (λ x. all_differ x ≡ true) (sym h) refl
 looks-differ true own xs h = subst (λ x. all_differ x ≡ true) (sym h.1) refl
@@ -192,7 +193,7 @@ module _ (sys : System) (d : ObjectDef) (budget : ℕ) (own : Own) (looked : Boo
 
 -- a `spill` behind records of the object stands right behind one
 cuts-own : (o n : ℕ) (xs : List Item) (t : Told) (g : List Told) → spill_cuts o (xs ++ (untold_all (of_it o (t ∷ g)) ++ record { of = 0; body = body.Spill n } ∷ [])) ≡ true
-cuts-own o n xs t [] = spill_cuts-last o n xs (record { of = o; body = t.body }) ∙ same-number o
+cuts-own o n xs t [] = spill_cuts-last o n xs (record { of = o; body = t.body }) ∙ same_number o
 cuts-own o n xs t (u ∷ g) =
     subst (λ is. spill_cuts o is ≡ true) (append_assoc xs (record { of = o; body = t.body } ∷ []) (untold_all (of_it o (u ∷ g)) ++ record { of = 0; body = body.Spill n } ∷ []))
     (cuts-own o n (xs ++ record { of = o; body = t.body } ∷ []) u g)

@@ -19,7 +19,8 @@ use Rattle.qp_kernel.proofs.TurnLemmas.{done-form, start-form}
 use Rattle.qp_kernel.proofs.ZeroLemmas.{ends-told}
 use Rattle.qp_port_law.specs.HomeLaws.{HasMore, OwnRises, RestingHomeLeaves, HomeStartCompletes, NilIsTold, LookIsTold, HomeStepBegins, HomeStepPauses, HomeStepEnds, UnstartedHomeEnds, HomeStartFails, HomeStartIsCut, RestingHomeEnds, FullHomeEnds, SpentHomeEnds, WaitingHomeEnds, HomeStepFails, HomeStepIsCut}
 use Rattle.qp_port_law.specs.HomeLanes.{IsHomeLane}
-use Rattle.qp_port_law.proofs.HomeRecords.{dispatched-append, home-of, own-of, other-zero, same-number}
+use Rattle.qp_port_law.proofs.HomeRecords.{dispatched-append, home-of, own-of, other-zero}
+use Rattle.qp_model.proofs.LineLemmas.{same_number}
 use Rattle.qp_port_law.proofs.HomeGrows.{home-inside, home-look, home-new, home-nil, home-took, not-looked}
 use Rattle.qp_port_law.proofs.HomeSteps.{done-calm, done-inside, part-done, part-point, part-took, point-inside, started-calm, started-inside, whole-mark, whole-started}
 use Rattle.qp_port_law.proofs.HomeEnding.{full-ends, spent-ends, start-fails, start-is_cut, step-fails, step-is_cut, step-stops, unstarted-ends, waiting-ends}
@@ -43,7 +44,7 @@ look_is_told sys d chart budget own told es points c f l m at l_is m_is empty sp
 )
   where
     as_home : home_told d.priority (seen_told d.priority f l m ∷ []) ≡ plain (body.Seen d.priority f l m) ∷ []
-    as_home = rw (same-number d.priority) (rw (same-number d.priority) refl)
+    as_home = rw (same_number d.priority) (rw (same_number d.priority) refl)
 
     as_own : dispatched (own_told d.priority (seen_told d.priority f l m ∷ [])) ≡ []
     as_own = rw (other-zero d.priority at.some).1 refl

@@ -8,11 +8,7 @@ use Rattle.qp_model.specs.declared.systems.ObjectDef.{ObjectDef}
 use Rattle.qp_model.specs.declared.journals.Journal.{Journal}
 use Rattle.qp_model.specs.Kernels.{port}
 use Rattle.qp_model.specs.Home.{home_of}
-use Rattle.qp_model.proofs.HomeLemmas.{All-snoc, AreBelow, position-front}
-
-differ : (front : List ObjectDef) (o : ℕ) → AllByRecursion (λ x. x.priority < o) front → AllByRecursion (λ x. (x.priority == o) ≡ false) front
-differ [] o h = tt
-differ (x ∷ front) o h = let less : x.priority < o = h.0 in (grind (arith, nat_tests, less), differ front o h.1)
+use Rattle.qp_model.proofs.HomeLemmas.{All-snoc, AreBelow, position-front, differ}
 
 -- the home lane of an object
 pub home-at : (sys : System) (j : Journal) → j.kernel ≡ port → (front : List ObjectDef) (d : ObjectDef) (rest : List ObjectDef) → front ++ d ∷ rest ≡ sys.objects
@@ -25,13 +21,5 @@ home-at sys j is_port front d rest at below =
     (position-front (λ x. x.priority == d.priority) front d rest (differ front d.priority below) self) in
     rw is_port (rw found refl)
 
-pub below-next : (front : List ObjectDef) (d : ObjectDef) (ds : List ObjectDef) → AreBelow front ds → AllByRecursion (λ x. d.priority < x.priority) ds → AreBelow (front ++ d ∷ []) ds
-below-next front d [] h k = tt
-below-next front d (e ∷ ds) h k = (All-snoc (λ x. x.priority < e.priority) front d h.0 k.0, below-next front d ds h.1 k.1)
-
 pub next-count : (front : List ObjectDef) (d : ObjectDef) (n : ℕ) → n ≡ length front + 1 → n + 1 ≡ length (front ++ d ∷ []) + 1
 next-count front d n here = let longer : length (front ++ d ∷ []) ≡ length front + 1 = length-append front (d ∷ []) in omega (arith, here, longer)
-
-pub nothing-before : (ds : List ObjectDef) → AreBelow [] ds
-nothing-before [] = tt
-nothing-before (d ∷ ds) = (tt, nothing-before ds)

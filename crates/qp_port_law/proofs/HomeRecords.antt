@@ -26,14 +26,12 @@ use Rattle.qp_model_order.proofs.SourceLanes.{untold-append}
 use Rattle.qp_calls.specs.LaneView.{Shown}
 use Rattle.qp_calls.specs.Clauses.{last_nil, nil_by}
 use Rattle.qp_kernel.specs.ZeroEnds.{own_told}
-use Rattle.qp_kernel.proofs.BareLemmas.{own-append}
+use Rattle.qp_kernel.proofs.BareLemmas.{own-append, no-assert}
 use Rattle.qp_kernel.proofs.ToldPieces.{AreOwn}
 use Rattle.qp_kernel.proofs.ZeroLemmas.{AreDrops, count-cons}
 use Rattle.qp_port_law.specs.Homes.{home_told, own_look}
 use Rattle.qp_port_law.specs.HomeLanes.{nils_in, looks_in}
-
-pub same-number : (o : ℕ) → (o == o) ≡ true
-same-number o = grind (arith, nat_tests)
+use Rattle.qp_model.proofs.LineLemmas.{same_number}
 
 pub other-zero : (o : ℕ) → 0 < o → ((o == 0) ≡ false) × ((0 == o) ≡ false)
 other-zero o some = (grind (arith, nat_tests, some), grind (arith, nat_tests, some))
@@ -135,7 +133,7 @@ step-inside o (body.Seen p f l m) h = absurd (cc)
 step-inside o body.Spent h = absurd (cc)
 step-inside o (body.Spill n) h = absurd (cc)
 step-inside o _ h = record {
-  home = λ spent cut. same-number o;
+  home = λ spent cut. same_number o;
   taken = λ n. refl;
   takes = refl;
   nil = refl;
@@ -187,11 +185,11 @@ inside-mild o (t ∷ ts) h = let one = step-inside o t.body h.0 in (one.spent, o
 -- what is told of the object, and with its looks at its own queue
 pub own-of : (o : ℕ) (g : List Told) → own_told o (of_it o g) ≡ g
 own-of o [] = refl
-own-of o (t ∷ ts) = let self = same-number o in rw (self, own-of o ts) refl
+own-of o (t ∷ ts) = let self = same_number o in rw (self, own-of o ts) refl
 
 pub home-of : (o : ℕ) (g : List Told) → 0 < o → home_told o (of_it o g) ≡ g
 home-of o [] some = refl
-home-of o (t ∷ ts) some = let self = same-number o in let other = (other-zero o some).0 in rw (other, self, home-of o ts some) refl
+home-of o (t ∷ ts) some = let self = same_number o in let other = (other-zero o some).0 in rw (other, self, home-of o ts some) refl
 
 pub home-append : (o : ℕ) (ts us : List ToldItem) → home_told o (ts ++ us) ≡ home_told o ts ++ home_told o us
 home-append o ts us = ap (own_told o) (map-append (own_look o) ts us) ∙ own-append o (map (own_look o) ts) (map (own_look o) us)
@@ -210,15 +208,6 @@ unfolding last_nil
 last-append o x [] us = refl
 last-append o x (t ∷ ts) us = last-append o (nil_by o x t.of t.told.body) ts us
 
--- Where nothing follows what ends a lane, nothing follows an assertion of the object.
-no-assert : (b : Body) → is_end b ≡ false → is_assert b ≡ false
-no-assert (body.NoEntry a f l m) h = absurd (cc)
-no-assert (body.NoBlock p n free) h = absurd (cc)
-no-assert (body.Armed t n c) h = absurd (cc)
-no-assert (body.BadTicks t n i) h = absurd (cc)
-no-assert (body.NoLifo a f l m) h = absurd (cc)
-no-assert _ h = refl
-
 none-after : (ts : List Told) → nothing_after false ts ≡ true
 none-after [] = refl
 none-after (t ∷ ts) = refl
@@ -235,7 +224,7 @@ home-cons o t ts = go ((t.of == 0) && is_look_at o t.told.body) refl
     own false = inr refl
 
     go : (a : Bool) → ((t.of == 0) && is_look_at o t.told.body) ≡ a → (home_told o (t ∷ ts) ≡ t.told ∷ home_told o ts) ⊎ (home_told o (t ∷ ts) ≡ home_told o ts)
-    go true e = let self = same-number o in inl (rw (e, self) refl)
+    go true e = let self = same_number o in inl (rw (e, self) refl)
     go false e = rw e (own (t.of == o))
 
 not-true : (b : Bool) → not b ≡ true → b ≡ false

@@ -16,7 +16,7 @@ use Rattle.qp_model.specs.Deferral.{kept_after}
 use Rattle.qp_model.specs.Acts.{Config}
 use Rattle.qp_model.specs.Lawful.{facts_of, dispatched}
 use Rattle.qp_model.proofs.DeferralLemmas.{kept-filter}
-use Rattle.qp_model.proofs.HomeLemmas.{AreBelow}
+use Rattle.qp_model.proofs.HomeLemmas.{AreBelow, below-next}
 use Rattle.qp_model.proofs.KnowingLemmas.{records_of-told}
 use Rattle.qp_kernel.specs.Stages as stage
 use Rattle.qp_kernel.specs.ZeroEnds.{own_told}
@@ -24,7 +24,8 @@ use Rattle.qp_kernel.proofs.DeferredLemmas.{kept-all, resting-kept}
 use Rattle.qp_kernel.proofs.ZeroLawful.{mark-other}
 use Rattle.qp_port_law.specs.HomesRest.{HomesRest, RestsWith}
 use Rattle.qp_port_law.specs.Laws.{HomesKeepDeferred}
-use Rattle.qp_port_law.proofs.HomePlaces.{below-next, home-at, next-count, nothing-before}
+use Rattle.qp_port_law.proofs.HomePlaces.{home-at, next-count}
+use Rattle.qp_model.proofs.MeaningLemmas.{none_below}
 
 module _ (sys : System) (j : Journal) (keeps : ℕ → Config) (is_port : j.kernel ≡ port) where
   -- one object, with its lane
@@ -52,4 +53,4 @@ module _ (sys : System) (j : Journal) (keeps : ℕ → Config) (is_port : j.kern
 
 pub homes-kept : HomesKeepDeferred
 homes-kept sys j keeps sound is_port rest =
-    kept-all sys j keeps sys.objects (homes-from sys j keeps is_port [] sys.objects 1 refl refl (nothing-before sys.objects) sound.ascend sound.objects rest)
+    kept-all sys j keeps sys.objects (homes-from sys j keeps is_port [] sys.objects 1 refl refl (none_below sys.objects) sound.ascend sound.objects rest)

@@ -27,7 +27,7 @@ use Rattle.qp_model.specs.Course.{Whole, Stopped, Anywhere, FollowsTo}
 use Rattle.qp_model.specs.ObjectShape.{HasShape}
 use Rattle.qp_model.specs.Lawful.{facts_of, spill_cuts, cut_of, deferral_holds, dispatched, CourseHolds, ObjectHolds, lanes_before, SourceLanes, SourcesHold, EndHolds, KernelHolds, OrderHolds, Lawful}
 use Rattle.qp_model.proofs.DeferralLemmas.{follows-deferral, kept-filter}
-use Rattle.qp_model.proofs.HomeLemmas.{AreBelow, Splits, split-homes}
+use Rattle.qp_model.proofs.HomeLemmas.{AreBelow, Splits, split-homes, below-next}
 use Rattle.qp_model.proofs.KnowingLemmas.{records_of-told}
 use Rattle.qp_model.proofs.TakenLemmas.{drop-head}
 use Rattle.qp_model.proofs.NumberLemmas.{count-append}
@@ -39,7 +39,8 @@ use Rattle.qp_kernel.proofs.ZeroLawful.{all-found, mark-other, quietly, unspent-
 use Rattle.qp_port_law.specs.Homes.{home_told, is_spent_home, HomeEnds}
 use Rattle.qp_port_law.specs.SourcesLeft.{SourceLeaves}
 use Rattle.qp_port_law.specs.PortRun.{HomesEnd, SourcesLeave, IsPortRun}
-use Rattle.qp_port_law.proofs.HomePlaces.{below-next, home-at, next-count, nothing-before}
+use Rattle.qp_port_law.proofs.HomePlaces.{home-at, next-count}
+use Rattle.qp_model.proofs.MeaningLemmas.{none_below}
 use Rattle.qp_port_law.proofs.HomeTold.{own-looks, takes-none}
 use Rattle.qp_port_law.proofs.LeavingLemmas.{lanes-from, leaves-beside}
 
@@ -164,7 +165,7 @@ module _ (sys : System) (stimuli : List (List Stim)) (j : Journal) (run : IsPort
     )
 
     pub each-home : Each 1 sys.objects
-    each-home = each-from [] sys.objects 1 refl refl (nothing-before sys.objects) run.sound.ascend run.homes
+    each-home = each-from [] sys.objects 1 refl refl (none_below sys.objects) run.sound.ascend run.homes
 
   objects : AllByRecursion (ObjectHolds sys j) sys.objects
   objects = flat sys.objects 1 (each-home (λ n d. ObjectHolds sys j d) (λ front d ds at below ends. object front d ds at below ends))
@@ -215,7 +216,7 @@ module _ (sys : System) (stimuli : List (List Stim)) (j : Journal) (run : IsPort
     takes-all : (o : ℕ) → 0 < o → is_some (find (λ d. d.priority == o) sys.objects) ≡ true → took_count (all_items j.lanes) o ≡ took_count (lane_items (lane_at j (home_of sys j o))) o
     unfolding took_count all_items
     takes-all o some found =
-        let s : Splits sys j run.kernel stimuli source-lanes o some ls = split-homes sys j run.kernel stimuli source-lanes o some [] sys.objects 1 ls refl refl (ap (drop 1) split) rest-count (nothing-before sys.objects) run.sound.ascend objects found in
+        let s : Splits sys j run.kernel stimuli source-lanes o some ls = split-homes sys j run.kernel stimuli source-lanes o some [] sys.objects 1 ls refl refl (ap (drop 1) split) rest-count (none_below sys.objects) run.sound.ascend objects found in
         let before : count_by (takes_of o) (all_items s.front) ≡ 0 = takes-none o (all_items s.front) s.before in
         let behind : count_by (takes_of o) (all_items s.back) ≡ 0 = takes-none o (all_items s.back) s.behind in
         let parts = count-lanes (takes_of o) s.front (s.lane ∷ s.back) in
@@ -271,7 +272,7 @@ module _ (sys : System) (stimuli : List (List Stim)) (j : Journal) (run : IsPort
           )
 
       all-go : AllFrom 1 ls
-      all-go = homes-go [] sys.objects 1 ls refl refl (nothing-before sys.objects) run.sound.ascend run.homes (ap (drop 1) split) rest-count
+      all-go = homes-go [] sys.objects 1 ls refl refl (none_below sys.objects) run.sound.ascend run.homes (ap (drop 1) split) rest-count
 
     -- the same of a test that asks nothing of the lane's number
     module _ (p : List Item → Bool) (nil : p [] ≡ true)

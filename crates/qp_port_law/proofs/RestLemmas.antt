@@ -11,12 +11,13 @@ use Rattle.qp_model.specs.Kernels.{port}
 use Rattle.qp_model.specs.Knowing.{records_of}
 use Rattle.qp_model.specs.Laws.{Ascend}
 use Rattle.qp_model.specs.Lawful.{facts_of}
-use Rattle.qp_model.proofs.HomeLemmas.{AreBelow}
+use Rattle.qp_model.proofs.HomeLemmas.{AreBelow, below-next}
 use Rattle.qp_model.proofs.KnowingLemmas.{records_of-told}
 use Rattle.qp_calls.specs.LaneView.{LaneView}
 use Rattle.qp_kernel.specs.ZeroEnds.{own_told}
 use Rattle.qp_port_law.specs.Sealed.{SealsLanes}
-use Rattle.qp_port_law.proofs.HomePlaces.{below-next, home-at, nothing-before}
+use Rattle.qp_port_law.proofs.HomePlaces.{home-at}
+use Rattle.qp_model.proofs.MeaningLemmas.{none_below}
 use Rattle.qp_kernel_end.specs.declared.rest.Rest.{Rest}
 use Rattle.qp_kernel_end.specs.Rests.{IsRestOf}
 use Rattle.qp_port_law.specs.Rests.{AreTold}
@@ -51,7 +52,7 @@ module _ (sys : System) (budget : ℕ) (vs : List LaneView) (j : Journal) (rests
 
 pub port-rests : PortRestsAreTold
 port-rests sys budget first homes sources j rests sound seals told =
-    told-from sys budget (first ∷ homes ++ sources) j rests seals [] sys.objects (first ∷ []) homes sources refl (nothing-before sys.objects) sound.ascend refl refl told
+    told-from sys budget (first ∷ homes ++ sources) j rests seals [] sys.objects (first ∷ []) homes sources refl (none_below sys.objects) sound.ascend refl refl told
 
 pub qk-rests : QkRestsAreTold
 unfolding by_object home_of facts_of

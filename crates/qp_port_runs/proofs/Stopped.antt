@@ -25,9 +25,7 @@ use Rattle.qp_port_law.specs.Sealed.{IsLaneAt, SealsLanes}
 use Rattle.qp_shared.specs.declared.lane.SharedLane.{SharedLane}
 use Rattle.qp_shared.specs.Lane.{lane_view}
 use Rattle.qp_shared.specs.LaneLaws.{has-causes}
-
-self-test : (n : ℕ) → (n == n) ≡ true
-self-test n = grind (arith, nat_tests)
+use Rattle.qp_model.proofs.LineLemmas.{same_number}
 
 -- a record with a code ends its lane
 ends-by : (b : Body) (code : ℕ) → nat_lt 0 code ≡ true → (stop_code b == code) ≡ true → is_end b ≡ true
@@ -104,11 +102,11 @@ module _ (sys : System) (kernel budget : ℕ) (vs : List LaneView) (j : Journal)
       found : (n : ℕ) (v : LaneView) (codes : List ℕ) → IsLaneAt vs n v → v.answered ≡ codes → 0 < length codes → (m code : ℕ) × (u : LaneView) × IsLaneAt vs m u × (has u.stops code ≡ true)
       found n v [] at is some = absurd (omega (arith, some))
       found n v (c ∷ codes) at is some =
-          let its : has v.answered c ≡ true = subst (λ xs. has xs c ≡ true) (sym is) (ap (λ b. b || has codes c) (self-test c)) in
+          let its : has v.answered c ≡ true = subst (λ xs. has xs c ≡ true) (sym is) (ap (λ b. b || has codes c) (same_number c)) in
           let r = seals.handed n c v at its in (r.0, c, r.1, r.2, r.3)
 
       by : (n : ℕ) (v : LaneView) → IsLaneAt vs n v → HasStopped v → (m code : ℕ) × (u : LaneView) × IsLaneAt vs m u × (has u.stops code ≡ true)
-      by n v at (inl h) = (n, last_code v.told, v, at, subst (λ xs. has xs (last_code v.told) ≡ true) (sym h.stops) (ap (λ b. b || has h.others (last_code v.told)) (self-test (last_code v.told))))
+      by n v at (inl h) = (n, last_code v.told, v, at, subst (λ xs. has xs (last_code v.told) ≡ true) (sym h.stops) (ap (λ b. b || has h.others (last_code v.told)) (same_number (last_code v.told))))
       by n v at (inr some) = found n v v.answered at refl some
 
   -- and its record ends the run

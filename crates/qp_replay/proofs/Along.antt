@@ -44,7 +44,8 @@ use Rattle.qp_replay.proofs.NamedRecords.{SureBody, all-from, named-records, sur
 use Rattle.qp_model.specs.Ends.{spills_in}
 use Rattle.qp_replay.proofs.LaneSpills.{SpillLast}
 use Rattle.qp_replay.proofs.NextMay.{Knows, TookGood, claims, hands-same, LeftAlike, next-may}
-use Rattle.qp_replay.proofs.NextRecords.{history, items-push, next, on_word}
+use Rattle.qp_replay.proofs.NextRecords.{history, items-push, next}
+use Rattle.qp_replay.proofs.Histories.{on_word}
 use Rattle.qp_replay.proofs.CallRecords.{Claims, Lin, Uses, hands_told, told-append}
 use Rattle.qp_model.proofs.NumberLemmas.{every-append}
 use Rattle.qp_model.proofs.ListLemmas.{take-next}

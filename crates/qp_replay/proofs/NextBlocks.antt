@@ -33,7 +33,8 @@ use Rattle.qp_plain_sound.specs.May.{May}
 use Rattle.qp_plain_sound.specs.Sound.{SoundWorld, hands_in, is_event}
 use Rattle.qp_plain_sound.specs.WordStates.{life_in, pool_in, refs_in}
 use Rattle.qp_plain_sound.proofs.Times.{stands-times}
-use Rattle.qp_replay.proofs.NextRecords.{history, on_word, pool-drawn, stands-too}
+use Rattle.qp_replay.proofs.NextRecords.{history, pool-drawn, stands-too}
+use Rattle.qp_replay.proofs.Histories.{on_word}
 
 -- The edges of a block's lives ascend.
 

@@ -22,7 +22,8 @@ use Rattle.qp_plain_sound.specs.May.{May}
 use Rattle.qp_plain_sound.specs.Sound.{SoundWorld, hands_in, is_event, is_good}
 use Rattle.qp_plain_sound.proofs.Times.{stands-times, take_out-absent, times-take_out}
 use Rattle.qp_replay.proofs.NextBlocks.{back-may, new-may}
-use Rattle.qp_replay.proofs.NextRecords.{arm-may, armed-may, dec-may, disarm-may, fire-may, full-may, idle-may, inc-may, lifo-may, nil-may, no_block-may, no_entry-may, no_lifo-may, on_word, post-may, pub-may, rearm-may, same-may, seen-may, short-may, sub-may, tick-may, took-may, unsub-may}
+use Rattle.qp_replay.proofs.NextRecords.{arm-may, armed-may, dec-may, disarm-may, fire-may, full-may, idle-may, inc-may, lifo-may, nil-may, no_block-may, no_entry-may, no_lifo-may, post-may, pub-may, rearm-may, same-may, seen-may, short-may, sub-may, tick-may, took-may, unsub-may}
+use Rattle.qp_replay.proofs.Histories.{on_word}
 use Rattle.qp_replay.proofs.CallRecords.{Claims, Rules, Uses, first-there}
 use Rattle.qp_replay.proofs.NamedRecords.{SureBody, system_names}
 

@@ -33,13 +33,9 @@ use Rattle.qp_plain_sound.specs.Sound.{SoundWorld, is_good}
 use Rattle.qp_plain_sound.specs.WordStates.{clock_in, line_in, pool_in, refs_in, set_in}
 use Rattle.qp_plain_sound.proofs.Times.{stands-times}
 use Rattle.qp_replay.proofs.SerialLemmas.{all-of}
-use Rattle.qp_replay.proofs.Histories.{hist-line}
+use Rattle.qp_replay.proofs.Histories.{hist-line, on_word}
 use Rattle.qp_model.proofs.RecordLemmas.{same_entry-is}
 use Rattle.qp_model.proofs.HistoryLemmas.{same_word-refl}
-
--- the records on a word, among these
-abbrev pub on_word : Word → List Item → List Item
-on_word w items = filter (λ i. drawn_on w (touch i)) items
 
 pub items-split : (lanes : List (List Rec)) (A B : List RecordPlace) (x : RecordPlace) (i : Item) → item_at lanes x ≡ Some i → items_at lanes (A ++ x ∷ B) ≡ items_at lanes A ++ i ∷ items_at lanes B
 unfolding items_at

@@ -22,7 +22,8 @@ use Rattle.qp_shared.specs.declared.shared.Root.{Root}
 use Rattle.qp_shared.specs.Ending.{lane_states}
 use Rattle.qp_shared.specs.Lane.{lane_view}
 use Rattle.qp_shared.specs.Starting.{AreFirst, AreGiven, FirstLane, HasLeft, IsGiven, IsRootAt, IsNewLaneOf, lane_serves, root_serves, objects_for, rest_of, serves_all, serves_one, world_name}
-use Rattle.qp_shared.proofs.Serving.{gets, none-left, and-on}
+use Rattle.qp_shared.proofs.Serving.{gets, none-left}
+use Rattle.qp_model.proofs.ListLemmas.{and-true}
 
 -- one in the midst
 pub each-mid : (P : LaneState → Type 0) (ys : List SharedLane) (l : SharedLane) (zs : List SharedLane) → Each P (lane_states (ys ++ l ∷ zs)) → P l.state
@@ -100,7 +101,7 @@ not-zero : (i : ℕ) → eqb (i + 1) 0 ≡ false
 not-zero i = ne_eqb (i + 1) 0 (λ e. absurd (omega arith))
 
 pub all-first : (s : Shared) (n : ℕ) (vs : List LaneView) → length vs ≡ n → FirstLane s n false vs → AreGiven s n false (rest_of vs) → AreFirst s n (serves_all s.sys.now) vs
-all-first s n vs = first-ones s n false (serves_all s.sys.now) vs (λ o. and-on (is_object s.sys.now o)) (λ i o. sym (λ t. not-zero i t && is_object s.sys.now o))
+all-first s n vs = first-ones s n false (serves_all s.sys.now) vs (λ o. and-true (is_object s.sys.now o)) (λ i o. sym (λ t. not-zero i t && is_object s.sys.now o))
 
 pub port-first : (s : Shared) (sound : IsSound s.sys.now) (n : ℕ) → length s.sys.now.objects < n → (vs : List LaneView) → length vs ≡ n → FirstLane s n true vs → AreGiven s n true (rest_of vs) → AreFirst s n (serves_one s.sys.now) vs
 port-first s sound n enough vs = first-ones s n true (serves_one s.sys.now) vs (λ o. none-left s.sys.now sound n o enough)

@@ -10,6 +10,7 @@ use Rattle.qp_side.specs.Told.{side_root, root_less, seat_with}
 use Rattle.qp_side.specs.declared.view.SideView.{SideView}
 use Rattle.qp_shared_ends.specs.Seats.{root_left, lane_new, as_lane_seat}
 use Rattle.qp_shared.specs.Starting.{AreFirstViews}
+use Rattle.qp_shared_ends.proofs.Marks.{length-up}
 
 numbers-are : (k : ℕ) → k < 49 → count_up k (49 - k) ≡ k ∷ count_up (k + 1) (49 - (k + 1))
 numbers-are k few = ap (count_up k) (let e : 49 - k ≡ suc (49 - (k + 1)) = omega arith in e)
@@ -22,10 +23,6 @@ without-second k some few = (λ i. cond (ne_eqb 0 k (λ e. absurd (omega arith))
 
 pub number-left : (k : ℕ) → k < 49 → 0 < many (is_number k) (count_up k (49 - k))
 number-left k few = let one = ap (λ (t : Bool). cond {A = ℕ} t 1 0) (eq-eqb k k refl) in let e = ap (many (is_number k)) (numbers-are k few) in omega arith
-
-length-up : (from k : ℕ) → length (count_up from k) ≡ k
-length-up from zero = refl
-length-up from (suc k) = let r = length-up (from + 1) k in omega arith
 
 -- the views of a lane that is given out
 pub given-views : (number count : ℕ) (t : Serve → Bool) (old : View) (beside : SideView) (v : View) (s : SideView) → 0 < number → v ≡ lane_new number t old → s ≡ seat_with number t beside → beside.view.serves ≡ old.serves → AreFirstViews number count v s

@@ -5,7 +5,7 @@ use Rattle.std.specs.Option.{option_map_or}
 use Rattle.std.specs.Int.{bit_at}
 use Rattle.std.proofs.lemmas.Nat.Bits.{bit_at-zero, bit_at-pow_same, bit_at-pow_other}
 use Rattle.std.proofs.lemmas.List.{take_all}
-use Rattle.qp_model.proofs.ListLemmas.{each-at}
+use Rattle.qp_model.proofs.ListLemmas.{each-at, and-true}
 use Rattle.std.proofs.lemmas.Option.{slice_get-get_or, slice_get_past}
 use Rattle.std.proofs.lemmas.Bool.{ltb-false}
 use borrow.Author.Tests.{ltb-true}
@@ -25,6 +25,7 @@ use Rattle.qp_table.specs.declared.view.Serve.{Serve}
 use Rattle.qp_table.proofs.Start.{object-within, serves-once}
 use Rattle.qp_side.specs.Seats.{in_set}
 use Rattle.qp_shared.specs.Starting.{objects_for, lane_serves, root_serves}
+use Rattle.qp_shared_blocks.proofs.Gives.{and-off}
 
 -- whether the set has the object
 abbrev has_bit : ℕ → ℕ → Bool
@@ -124,14 +125,6 @@ bit-of p o some there = dite (ℕ_discrete p o)
 no-bit : (o : ℕ) → has_bit 0 o ≡ false
 no-bit o = ne_eqb (bit_at 0 (o - 1)) 1 (λ e. let z = bit_at-zero (o - 1) in absurd (omega arith))
 
-and-off : (b : Bool) → (b && false) ≡ false
-and-off true = refl
-and-off false = refl
-
-pub and-on : (b : Bool) → (b && true) ≡ b
-and-on true = refl
-and-on false = refl
-
 or-on : (b : Bool) → (b || true) ≡ true
 or-on true = refl
 or-on false = refl
@@ -193,8 +186,8 @@ all-served sys sound o = any-first (first_serves sys 32) (is_object sys o) (serv
         go false false e r = r false (omega arith)
 
 pub all-left : (sys : System) (port : Bool) (o : ℕ) → root_serves sys port 1 o ≡ is_object sys o
-all-left sys true o = and-on (is_object sys o)
-all-left sys false o = and-on (is_object sys o)
+all-left sys true o = and-true (is_object sys o)
+all-left sys false o = and-true (is_object sys o)
 
 -- the bits of the objects for a lane
 pub bits-for : (sys : System) (sound : IsSound sys) (port : Bool) (k : ℕ) (d : ObjectDef) → port ≡ true → slice_get sys.objects (k - 1) ≡ Some d → 1 * 2 ^ (d.priority - 1) % 4294967296 ≡ objects_for sys port k

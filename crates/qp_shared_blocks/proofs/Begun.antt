@@ -42,7 +42,7 @@ module _ {A : Type 0} (p q : A → Bool) where
 
 -- The first reference: the give of its block is ended.
 
-spot-same : (q c p b : ℕ) (x : Spot) → is_spot p b x ≡ true → is_spot q c x ≡ (eqb p q && eqb b c)
+pub spot-same : (q c p b : ℕ) (x : Spot) → is_spot p b x ≡ true → is_spot q c x ≡ (eqb p q && eqb b c)
 spot-same q c p b x h = let z = and_parts (eqb x.pool p) (eqb x.block b) h in (λ i. eqb (eqb-true x.pool p z.0 i) q && eqb (eqb-true x.block b z.1 i) c)
 
 give-same : (q c p b : ℕ) (x : PendingGive) → gives_of p b x ≡ true → is_begun q c x ≡ true → (eqb p q && eqb b c) ≡ true

@@ -9,20 +9,11 @@ use Rattle.qp_table.specs.Counting.{many}
 use Rattle.qp_table.specs.Rule.{pool_at, block_at, is_ref, is_spot_at}
 use Rattle.qp_table.specs.After.{HasRoom, WordSteps}
 use Rattle.qp_table.specs.declared.view.View.{View}
-use Rattle.qp_table.proofs.Bounds.{Ascends, pool-ascends, map-small, bits-on}
+use Rattle.qp_table.proofs.Bounds.{Ascends, pool-ascends, map-small, bits-on, with-ascends}
 use Rattle.qp_table.proofs.Steps.{pool-of, x-is}
 use Rattle.qp_table.proofs.Tokens.{at-le, held-stands, standing, used-alone}
 use Rattle.qp_table.proofs.StepLawLemmas.{backs_tell, more_references_tell}
 use Rattle.qp_shared_blocks.specs.Ends.{AnotherTold, ReturnTold}
-
-with-ascends : (b lo n : ℕ) (xs : List ℕ) → lo ≤ b → b < n → Ascends lo n xs → Ascends lo n (with_number b xs)
-with-ascends b lo n [] l h a = (l, h, omega arith)
-with-ascends b lo n (x ∷ xs) l h a = go (λ gt. with-ascends b (x + 1) n xs gt h a.2) (nat_lt b x) (b == x) refl refl
-  where
-    go : (x + 1 ≤ b → Ascends (x + 1) n (with_number b xs)) → (s t : Bool) → nat_lt b x ≡ s → (b == x) ≡ t → Ascends lo n (cond s (b ∷ x ∷ xs) (cond t (x ∷ xs) (x ∷ with_number b xs)))
-    go rest true t e f = let lt : b < x = grind (arith, nat_tests) in (l, h, (omega arith, a.1, a.2))
-    go rest false true e f = a
-    go rest false false e f = let gt : x + 1 ≤ b = grind (arith, nat_tests) in (a.0, a.1, rest gt)
 
 pub returns-tell : (sys : System) (id : ℕ) (v : View) → HasRoom v → (o p b m : ℕ) → b < 32 → 0 < many (is_spot_at p b m) v.used → WordSteps sys id v (pool_at p) (λ n. (n + (4294967296 + 2 ^ b)) % 18446744073709551616) (ReturnTold sys o p b m v)
 returns-tell sys id v own o p b m low mine words views holds at small =

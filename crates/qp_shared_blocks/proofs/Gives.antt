@@ -33,7 +33,7 @@ use Rattle.qp_calls_log.specs.declared.log.Log.{Log}
 use Rattle.qp_table.specs.Words.{value_seen, mark_seen, shown_seen, as_shown}
 use Rattle.qp_table.specs.Lane.{lane_of, lane_mark, tokens, tokens_of_view, event_seen, told_as, lane_number}
 use Rattle.qp_table.specs.Telling.{Saw, Touches, TouchesTwo, Rises}
-use Rattle.qp_table.proofs.Gaining.{mark-here, mark-was, mark-else, mark-rises, shown-here, shown-else}
+use Rattle.qp_table.proofs.Gaining.{mark-here, mark-was, mark-else, mark-rises, shown-here, shown-else, bool-dec}
 use Rattle.qp_table.proofs.ViewLawLemmas.{seen_words_rise, gives_gain}
 use Rattle.qp_table.proofs.Saying.{same-more, logged-one, logged-number}
 use Rattle.qp_table.proofs.Hands.{eq-turned}
@@ -52,6 +52,7 @@ use Rattle.qp_shared_lane.proofs.Adding.{side-skips}
 use Rattle.qp_shared_lane.proofs.Keeping.{keeps-all}
 use Rattle.qp_shared_blocks.proofs.Begun.{still-given}
 use Rattle.qp_shared_blocks.proofs.Parts.{grown-same, read-fewer, still-same, placed-same, worn-same}
+use Rattle.qp_model.proofs.ListLemmas.{and-true}
 
 -- What the event needs.
 
@@ -183,16 +184,12 @@ any-as (g ∷ gs) w x test t h = go (eqb g.word w) (eqb g.value x) refl h (any-a
 seen-append : (xs ys : List Glance) (w : ℕ) (test : ℕ → Bool) → was_seen xs w test ≡ true → was_seen (xs ++ ys) w test ≡ true
 seen-append xs ys w test h = list_any-append (λ (g : Glance). eqb g.word w && test g.value) xs ys ∙ or_left (was_seen xs w test) (was_seen ys w test) h
 
-and-off : (x : Bool) → (x && false) ≡ false
+pub and-off : (x : Bool) → (x && false) ≡ false
 and-off true = refl
 and-off false = refl
 
-and-on : (x : Bool) → (x && true) ≡ x
-and-on true = refl
-and-on false = refl
-
 loose-false : (q c p b : ℕ) → same_token (Loose q c false) (Loose p b false) ≡ (eqb p q && eqb b c)
-loose-false q c p b = and-on ((q == p) && (c == b)) ∙ (λ i. sym (eq-turned p q) i && sym (eq-turned b c) i)
+loose-false q c p b = and-true ((q == p) && (c == b)) ∙ (λ i. sym (eq-turned p q) i && sym (eq-turned b c) i)
 
 new-hands : (hands : List Token) (v u : View) (p b from : ℕ) → ((t : Token) → tokens t hands ≡ tokens_of_view v t) → u.hands ≡ v.hands → u.fresh ≡ v.fresh ++ spot p b from ∷ [] → u.used ≡ v.used → (t : Token) → tokens t (Loose p b false ∷ hands) ≡ tokens_of_view u t
 new-hands hands v u p b from all refs fresh used t = go t (all t)
@@ -201,10 +198,6 @@ new-hands hands v u p b from all refs fresh used t = go t (all t)
     go (Held q c s) was = let i = ap (many (is_ref q c s)) refs in omega arith
     go (Loose q c false) was = let i = ap (many (is_spot q c)) fresh in let s = many-snoc (is_spot q c) v.fresh (spot p b from) in let z = ap (λ (t : Bool). cond {A = ℕ} t 1 0) (loose-false q c p b) in omega arith
     go (Loose q c true) was = let i = ap (many (is_spot q c)) used in let z = ap (λ (t : Bool). cond {A = ℕ} t 1 0) (and-off ((q == p) && (c == b))) in omega arith
-
-bool-dec : (b : Bool) {P : Type 0} → (b ≡ true → P) → (b ≡ false → P) → P
-bool-dec true t f = t refl
-bool-dec false t f = f refl
 
 new-placed : (v u : View) (p b from : ℕ) → u.fresh ≡ v.fresh ++ spot p b from ∷ [] → u.used ≡ v.used → HasPlace p b → IsPlaced v → IsPlaced u
 new-placed v u p b from fresh used place placed q c h = bool-dec (is_spot q c (spot p b from))

@@ -30,7 +30,7 @@ use Rattle.qp_table.specs.Words.{mark_seen, shown_seen}
 use Rattle.qp_table.specs.Lane.{lane_of, event_read, event_seen, tokens, tokens_of_view, has_content, is_read, told_as}
 use Rattle.qp_table.specs.Telling.{Saw}
 use Rattle.qp_table.proofs.Gaining.{mark-here, mark-was, mark-rises, shown-here}
-use Rattle.qp_table.proofs.Hands.{tokens-out, refs-in, eq-turned}
+use Rattle.qp_table.proofs.Hands.{tokens-out, refs-in, eq-turned, without-le}
 use Rattle.qp_table.specs.Told.{FirstTold, HasPlace}
 use Rattle.qp_shared_lane.specs.declared.lane.LaneState.{LaneState}
 use Rattle.qp_shared_lane.specs.Holds.{LaneHolds, told_by, IsRead}
@@ -40,8 +40,10 @@ use Rattle.qp_shared_lane.specs.Laws.{LaneGainsRecord}
 use Rattle.qp_shared_lane.proofs.LawLemmas.{table_records_keep_the_lane}
 use Rattle.qp_shared_blocks.specs.Ends.{AnotherTold}
 use Rattle.qp_shared_blocks.proofs.Lanes.{fresh-place, fresh}
-use Rattle.qp_shared_blocks.proofs.Begun.{still-first}
+use Rattle.qp_shared_blocks.proofs.Begun.{still-first, spot-same}
 use Rattle.qp_shared_blocks.proofs.Parts.{still-same, placed-same, worn-same, held-parts}
+use Rattle.qp_shared_blocks.proofs.Gives.{and-off}
+use Rattle.qp_model.proofs.ListLemmas.{and-true}
 
 -- What was read, with one event more.
 
@@ -107,19 +109,8 @@ known-more v u p b k event contents e h = subst (λ (d : Entry). IsTrue (has_con
 
 -- Hands.
 
-and-off : (x : Bool) → (x && false) ≡ false
-and-off true = refl
-and-off false = refl
-
-and-on : (x : Bool) → (x && true) ≡ x
-and-on true = refl
-and-on false = refl
-
 loose-false : (q c p b : ℕ) → same_token (Loose q c false) (Loose p b false) ≡ (eqb p q && eqb b c)
-loose-false q c p b = and-on ((q == p) && (c == b)) ∙ (λ i. sym (eq-turned p q) i && sym (eq-turned b c) i)
-
-spot-same : (q c p b : ℕ) (x : Spot) → is_spot p b x ≡ true → is_spot q c x ≡ (eqb p q && eqb b c)
-spot-same q c p b x h = let z = and_parts (eqb x.pool p) (eqb x.block b) h in (λ i. eqb (eqb-true x.pool p z.0 i) q && eqb (eqb-true x.block b z.1 i) c)
+loose-false q c p b = and-true ((q == p) && (c == b)) ∙ (λ i. sym (eq-turned p q) i && sym (eq-turned b c) i)
 
 -- the first reference: the block is no longer loose
 pub began-hands : (hands : List Token) (v u : View) (p b k : ℕ) → ((t : Token) → tokens t hands ≡ tokens_of_view v t) → IsTrue (stands (Loose p b false) hands) → 0 < many (is_spot p b) v.fresh
@@ -153,14 +144,6 @@ doubled-hands hands v u p b k all refs fresh used t = go t (all t)
     go (Held q c s) was = let r = refs-in q c s p b k v.hands in let i = ap (many (is_ref q c s)) refs in omega arith
     go (Loose q c false) was = let i = ap (many (is_spot q c)) fresh in omega arith
     go (Loose q c true) was = let i = ap (many (is_spot q c)) used in omega arith
-
-without-le : {A : Type 0} (p q : A → Bool) (xs : List A) → many q (without p xs) ≤ many q xs
-without-le p q [] = omega arith
-without-le {A} p q (x ∷ xs) = go (p x) (without-le p q xs)
-  where
-    go : (t : Bool) → many q (without p xs) ≤ many q xs → many q (cond t xs (x ∷ without p xs)) ≤ cond (q x) 1 0 + many q xs
-    go true h = omega arith
-    go false h = omega arith
 
 -- What either tells of its word.
 module _ (l : LaneState) (p b : ℕ) (u : View) (n : ℕ) (place : HasPlace p b) (saw : Saw l.sys.now (word.Block p b) l.seat.me.0 u (n + 4294967297)) (few : n % 4294967296 < 4294967295) where

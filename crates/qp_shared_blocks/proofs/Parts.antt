@@ -19,18 +19,11 @@ use Rattle.qp_table.specs.Lane.{tokens, has_content, is_read, event_seen}
 use Rattle.qp_table.specs.Asked.{is_unfinished, is_begun}
 use Rattle.qp_shared_lane.specs.Holds.{IsRead, IsStill, IsPlaced, IsWorn, was_seen}
 use Rattle.qp_shared_lane.specs.More.{KeepsContents}
+use Rattle.qp_table.proofs.Hands.{without-le}
 
 -- Where nothing else was read.
 pub grown-same : (v u : View) → u.contents ≡ v.contents → KeepsContents v u
 grown-same v u contents e has = (subst (λ (qs : List Content). IsTrue (has_content qs e)) (sym contents) has, ap (λ (qs : List Content). event_seen qs e) contents)
-
-without-le : {A : Type 0} (p q : A → Bool) (xs : List A) → many q (without p xs) ≤ many q xs
-without-le p q [] = omega arith
-without-le {A} p q (x ∷ xs) = go (p x) (without-le p q xs)
-  where
-    go : (t : Bool) → many q (without p xs) ≤ many q xs → many q (cond t xs (x ∷ without p xs)) ≤ cond (q x) 1 0 + many q xs
-    go true h = omega arith
-    go false h = omega arith
 
 pub read-fewer : (v u : View) → u.contents ≡ v.contents → ((e : Entry) → many (is_entry e) u.hands ≤ many (is_entry e) v.hands) → IsRead v → IsRead u
 read-fewer v u contents fewer read e h = let f = fewer e in let z = read e (omega arith) in (subst (λ (qs : List Content). IsTrue (is_read qs e)) (sym contents) z.0, z.1, z.2)

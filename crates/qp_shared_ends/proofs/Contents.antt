@@ -69,7 +69,7 @@ given : (b : ℕ) (xs : List Item) → IsGiven (after (life_of b) xs) (content_f
 unfolding after
 given b xs = given-from b (record { out = false; edge = 0 }) [] None xs (λ out. absurd (cc))
 
-lt-true : (a b : ℕ) → a < b → nat_lt a b ≡ true
+pub lt-true : (a b : ℕ) → a < b → nat_lt a b ≡ true
 lt-true a b l = grind (arith, nat_tests)
 
 le-true : (a b : ℕ) → a ≤ b → nat_le a b ≡ true

@@ -27,9 +27,7 @@ use Rattle.qp_table.specs.Lane.{event_read, event_seen, has_content}
 use Rattle.qp_shared_ends.specs.Lanes.{lanes_recs}
 use Rattle.qp_shared_ends.specs.SeatEnd.{AtEnd}
 use Rattle.qp_shared_ends.proofs.Histories.{pool-hist, block-hist}
-
-lt-true : (a b : ℕ) → a < b → nat_lt a b ≡ true
-lt-true a b l = grind (arith, nat_tests)
+use Rattle.qp_shared_ends.proofs.Contents.{lt-true}
 
 module _ (sys : System) (v : View) (end : AtEnd sys v) (js : List (List Rec)) (thin : Thins (λ i. on_table (touch i)) js (lanes_recs v.logs)) where
   abbrev h : Holds sys end.words end.views

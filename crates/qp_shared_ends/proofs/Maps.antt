@@ -10,15 +10,7 @@ use Rattle.qp_model.specs.Lists.{count_up, without_all, with_number}
 use Rattle.qp_model.specs.Machine.{after, is_allowed}
 use Rattle.qp_model.specs.FreeBlocks.{Pool, pool_next, pool_may, free_blocks}
 use Rattle.qp_model.proofs.MachineLemmas.{after-keeps}
-use Rattle.qp_table.proofs.Bounds.{Ascends}
-
-ascends-up : (lo k n : ℕ) → lo + k ≤ n → Ascends lo n (count_up lo k)
-ascends-up lo zero n h = omega arith
-ascends-up lo (suc k) n h = (omega arith, omega arith, ascends-up (lo + 1) k n (omega arith))
-
-ascends-less : (lo hi n : ℕ) (xs : List ℕ) → lo ≤ hi → Ascends hi n xs → Ascends lo n xs
-ascends-less lo hi n [] le a = omega arith
-ascends-less lo hi n (x ∷ xs) le a = let l = a.0 in (omega arith, a.1, a.2)
+use Rattle.qp_table.proofs.Bounds.{Ascends, ascends-up, ascends-less, with-ascends}
 
 without-ascends : (b lo n : ℕ) (xs : List ℕ) → Ascends lo n xs → Ascends lo n (without_all b xs)
 without-ascends b lo n [] a = a
@@ -27,15 +19,6 @@ without-ascends b lo n (x ∷ xs) a = let l = a.0 in go (x == b) (without-ascend
     go : (t : Bool) → Ascends (x + 1) n (without_all b xs) → Ascends lo n (cond t (without_all b xs) (x ∷ without_all b xs))
     go true r = ascends-less lo (x + 1) n (without_all b xs) (omega arith) r
     go false r = (a.0, a.1, r)
-
-with-ascends : (b lo n : ℕ) (xs : List ℕ) → lo ≤ b → b < n → Ascends lo n xs → Ascends lo n (with_number b xs)
-with-ascends b lo n [] l h a = (l, h, omega arith)
-with-ascends b lo n (x ∷ xs) l h a = go (λ gt. with-ascends b (x + 1) n xs gt h a.2) (nat_lt b x) (b == x) refl refl
-  where
-    go : (x + 1 ≤ b → Ascends (x + 1) n (with_number b xs)) → (s t : Bool) → nat_lt b x ≡ s → (b == x) ≡ t → Ascends lo n (cond s (b ∷ x ∷ xs) (cond t (x ∷ xs) (x ∷ with_number b xs)))
-    go rest true t e f = let lt : b < x = grind (arith, nat_tests) in (l, h, (omega arith, a.1, a.2))
-    go rest false true e f = a
-    go rest false false e f = let gt : x + 1 ≤ b = grind (arith, nat_tests) in (a.0, a.1, rest gt)
 
 pool-step : (n : ℕ) (s : Pool) (b : Body) → pool_may n s b ≡ true → Ascends 0 n s.free → Ascends 0 n (pool_next s b).free
 pool-step n s (New p k b from sig pars) m a = without-ascends b 0 n s.free a

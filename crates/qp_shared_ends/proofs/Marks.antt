@@ -38,7 +38,7 @@ use Rattle.qp_shared_ends.specs.SeatEnd.{AtEnd}
 use Rattle.qp_shared_ends.proofs.Histories.{pool-is, refs-is, line-is, queue-hist}
 use Rattle.qp_shared_ends.proofs.Pasts.{pool-long, block-long}
 
-length-up : (from n : ℕ) → length (count_up from n) ≡ n
+pub length-up : (from n : ℕ) → length (count_up from n) ≡ n
 length-up from zero = refl
 length-up from (suc n) = let r = length-up (from + 1) n in omega arith
 

@@ -15,26 +15,7 @@ use Rattle.qp_side.specs.declared.view.SideView.{SideView}
 use Rattle.qp_side.proofs.Places.{fits}
 use Rattle.qp_side.proofs.StepLemmas.{at-view}
 use Rattle.qp_shared_ends.specs.Seats.{as_lane_seat}
-
-total-map : {A B : Type 0} (f : A → B) (g : B → ℕ) (xs : List A) → sum_over g (map f xs) ≡ sum_over (λ x. g (f x)) xs
-total-map f g [] = refl
-total-map f g (x ∷ xs) = ap (λ k. g (f x) + k) (total-map f g xs)
-
-from-map : {A B : Type 0} (f : A → B) (xs : List A) (i : ℕ) (y : B) → get_elem? (map f xs) i ≡ some y → (x : A) × (get_elem? xs i ≡ some x) × (f x ≡ y)
-from-map f [] i y e = absurd (some-ne-none y (sym e))
-from-map f (x ∷ xs) zero y e = (x, refl, some-injective (f x) y e)
-from-map f (x ∷ xs) (suc i) y e = from-map f xs i y e
-
-fewer-one : (n : ℕ) (xs : List ℕ) → 0 < many (is_number n) xs → length (without (is_number n) xs) + 1 ≡ length xs
-fewer-one n [] h = absurd (omega arith)
-fewer-one n (x ∷ xs) h = go (is_number n x) h (fewer-one n xs)
-  where
-    go : (b : Bool) → 0 < cond b 1 0 + many (is_number n) xs → (0 < many (is_number n) xs → length (without (is_number n) xs) + 1 ≡ length xs) → length (cond b xs (x ∷ without (is_number n) xs)) + 1 ≡ suc (length xs)
-    go true h r = omega arith
-    go false h r = let z = r (omega arith) in omega arith
-
-less-one : (n k : ℕ) (xs : List ℕ) → 0 < many (is_number n) xs → many (is_number k) (without (is_number n) xs) + cond (eqb n k) 1 0 ≡ many (is_number k) xs
-less-one n k xs h = many-without (is_number n) (is_number k) (eqb n k) (λ x e. ap (λ z. eqb z k) (eqb-true x n e)) xs h
+use Rattle.qp_side.proofs.SeatLemmas.{total-map, from-map, fewer-one, less-one}
 
 module _ (sys : System) (words : List ℕ) (views : List SideView) (holds : SideHolds sys words views) (id : ℕ) (v : SideView) (at_id : get_elem? views id ≡ some v) (n : ℕ) (few : n < 49) (mine : 0 < many (is_number n) v.view.lane_numbers) (bare : v.view.logs ≡ []) where
   abbrev seat : SideView

@@ -23,10 +23,7 @@ use Rattle.qp_table.proofs.Views.{SawFrom}
 use Rattle.qp_table.proofs.Marks.{low-mark, pool-mark, block-mark, queue-mark}
 use Rattle.qp_table.specs.Words.{place_of, is_here, first_value}
 use Rattle.qp_shared_ends.specs.Seats.{IsOnePast}
-
-none-long : {X : Type 0} (xs : List X) → length xs ≡ 0 → xs ≡ []
-none-long [] e = refl
-none-long (x ∷ xs) e = absurd (omega arith)
+use Rattle.qp_table.proofs.Facts.{none-long, map-full, zero-mark}
 
 -- what a word was before its first operation, by its history h: value is what it packs
 first-of : {S : Type 0} (m : Machine S) (value : S → ℕ) (h : List Item) (now : S) (was : ℕ → ℕ) (x : ℕ)
@@ -34,22 +31,6 @@ first-of : {S : Type 0} (m : Machine S) (value : S → ℕ) (h : List Item) (now
 first-of m value h now was x leaves shows here past = dite (ℕ_discrete (length h) 0)
     (λ none. ap was (sym none) ∙ (sym here ∙ (shows ∙ (ap value (sym leaves) ∙ ap (λ k. value (after m k)) (none-long h none)))))
     (λ some_. past (omega arith))
-
-map-full : (from n : ℕ) → bits_value (count_up from n) + 2 ^ from ≡ 2 ^ (from + n)
-map-full from zero = let e : 2 ^ (from + 0) ≡ 2 ^ from = ap (λ k. 2 ^ k) (let z : from + 0 ≡ from = omega arith in z) in omega arith
-map-full from (suc n) =
-    let r : bits_value (count_up (from + 1) n) + 2 ^ (from + 1) ≡ 2 ^ (from + 1 + n) = map-full (from + 1) n in
-    let a : from + 1 ≡ suc from = omega arith in let e : from + 1 + n ≡ from + suc n = omega arith in
-    let p : 2 ^ (from + 1) ≡ 2 ^ from * 2 = ap (λ k. 2 ^ k) a ∙ pow-suc 2 from in
-    let q : 2 ^ (from + 1 + n) ≡ 2 ^ (from + suc n) = ap (λ k. 2 ^ k) e in
-    omega arith
-
-zero-mark : (w : ℕ) → mark_in w 0 ≡ 0
-zero-mark w = go (ltb w 4224)
-  where
-    go : (t : Bool) → cond {A = ℕ} t (0 / 4294967296) (0 % 2097152 + 0 / 2097152 % 2097152 + 0 / 4398046511104) ≡ 0
-    go true = refl
-    go false = refl
 
 -- before its first operation a word shows none
 pub first-mark : (sys : System) → Fitting sys → (w : Word) → IsTrue (is_here sys w) → mark_in (place_of w) (first_value sys w) ≡ 0

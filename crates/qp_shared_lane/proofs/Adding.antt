@@ -30,7 +30,7 @@ use Rattle.qp_calls_log.specs.declared.log.Log.{Log}
 use Rattle.qp_table.specs.Words.{is_here, mark_seen, shown_seen}
 use Rattle.qp_table.specs.Lane.{lane_of, lane_mark, own_of_logs, own_recs, on_table_of, event_seen, told_as, tokens, lane_number}
 use Rattle.qp_table.specs.Telling.{Rises, Touches, is_on_table}
-use Rattle.qp_table.proofs.Gaining.{mark-here, mark-rises, saw-rises, side-rises}
+use Rattle.qp_table.proofs.Gaining.{mark-here, mark-rises, saw-rises, side-rises, bool-dec}
 use Rattle.qp_table.proofs.Places.{same-is}
 use Rattle.qp_table.proofs.Saying.{same-more, logged-one, logged-number}
 use Rattle.qp_side.specs.Rule.{signal_at}
@@ -42,10 +42,6 @@ use Rattle.qp_shared_lane.specs.Lane.{lane_with}
 use Rattle.qp_shared_lane.specs.More.{IsPut, ViewFollows, SideFollows, AddsRecord, OnTable, OnSide, IsNoted}
 use Rattle.qp_shared_lane.specs.Laws.{LaneGainsRecord, TableRecordsKeepTheLane, SideRecordsKeepTheLane, NotesKeepTheLane}
 use Rattle.qp_shared_lane.proofs.Keeping.{more-holds, told-is, more-gains}
-
-bool-dec : (b : Bool) {P : Type 0} → (b ≡ true → P) → (b ≡ false → P) → P
-bool-dec true t f = t refl
-bool-dec false t f = f refl
 
 -- A record of one table is none of the other.
 

@@ -13,7 +13,7 @@ use Rattle.qp_calls.specs.Tokens.{Token, same_token, stands, hands_after}
 use Rattle.qp_calls_log.specs.declared.log.Log.{Log}
 use Rattle.qp_calls_log.proofs.LogLemmas.{length-kinds}
 use Rattle.qp_table.specs.Lane.{lane_of, own_of_logs, own_recs, event_seen, tokens}
-use Rattle.qp_table.proofs.Saying.{has-room}
+use Rattle.qp_table.proofs.Saying.{has-room, filter-length}
 use Rattle.qp_shared_lane.specs.Holds.{told_by, on_side_of, recs_of}
 use Rattle.qp_shared_lane.specs.Laws.{SpareGivesRoom, HandsStand, LanesTellTheirLogs}
 use Rattle.qp_shared_lane.proofs.Telling.{told-bare}
@@ -21,14 +21,6 @@ use Rattle.qp_shared_lane.proofs.Telling.{told-bare}
 -- a log with spare has at most 1,000,000 records
 pub few-records : (g : Log) → 0 < g.spare → length g.recs.items ≤ 1000000
 few-records g spare = let a = lane-length g.recs.items in let b = length-kinds (lane_items g.recs.items) in let c = g.few in let d = g.spills in omega arith
-
-filter-length : {X : Type 0} (p : X → Bool) (xs : List X) → length (filter p xs) ≤ length xs
-filter-length p [] = omega arith
-filter-length {X} p (x ∷ xs) = go (p x) (filter-length p xs)
-  where
-    go : (b : Bool) → length (filter p xs) ≤ length xs → length (cond b (x ∷ filter p xs) (filter p xs)) ≤ suc (length xs)
-    go true h = omega arith
-    go false h = omega arith
 
 side-length : (recs : List Rec) → length (on_side_of recs) ≤ length recs
 unfolding on_side_of

@@ -28,7 +28,7 @@ use Rattle.qp_calls_log.specs.declared.log.Log.{Log}
 use Rattle.qp_table.specs.Lane.{event_seen, has_content, known_with, told_as, tokens, tokens_of_view}
 use Rattle.qp_table.specs.Telling.{Saw, OwnTold, Touches}
 use Rattle.qp_table.proofs.Gaining.{mark-rises}
-use Rattle.qp_table.proofs.Hands.{tokens-out, refs-out, held-in, read-has}
+use Rattle.qp_table.proofs.Hands.{tokens-out, refs-out, held-in, read-has, without-le}
 use Rattle.qp_shared_lane.specs.declared.lane.LaneState.{LaneState}
 use Rattle.qp_shared_lane.specs.Holds.{is_borne_out}
 use Rattle.qp_shared_lane.specs.Lane.{state_view}
@@ -61,20 +61,12 @@ lifo-own a f lc m lo mo e c is = ap (λ (t : Bool). if t then record { l = c.l +
 
 -- A view that a post leaves.
 
-without-fewer : {A : Type 0} (p q : A → Bool) (xs : List A) → many q (without p xs) ≤ many q xs
-without-fewer p q [] = omega arith
-without-fewer {A} p q (x ∷ xs) = go (p x) (without-fewer p q xs)
-  where
-    go : (t : Bool) → many q (without p xs) ≤ many q xs → many q (cond t xs (x ∷ without p xs)) ≤ cond (q x) 1 0 + many q xs
-    go true h = omega arith
-    go false h = omega arith
-
 spent-fewer : (e d : Entry) (hands : List Entry) → 0 < many (is_entry d) (hands_without e hands) → 0 < many (is_entry d) hands
 spent-fewer e d hands = go (eqb e.pool 0)
   where
     go : (t : Bool) → 0 < many (is_entry d) (cond {A = List Entry} t hands (without (is_entry e) hands)) → 0 < many (is_entry d) hands
     go true h = h
-    go false h = let l = without-fewer (is_entry e) (is_entry d) hands in omega arith
+    go false h = let l = without-le (is_entry e) (is_entry d) hands in omega arith
 
 pub bump-serves : (a l m o : ℕ) (xs : List Serve) → list_any (is_serve o) (bump a l m xs) ≡ list_any (is_serve o) xs
 bump-serves a l m o [] = refl

@@ -28,7 +28,3 @@ module _ (v u : SideView) (xs ys : List SideSeat) (s : SideSeat) (items : ys ≡
 pub one-each : (xs : List SideSeat) → Each (λ (w : SideView). length w.view.logs ≡ 1) (map view_of xs)
 one-each [] = tt
 one-each (x ∷ xs) = (x.lane, one-each xs)
-
-pub empty-list : {A : Type 0} (xs : List A) → length xs ≡ 0 → xs ≡ []
-empty-list [] e = refl
-empty-list (x ∷ xs) e = absurd (omega arith)

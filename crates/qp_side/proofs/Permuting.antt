@@ -16,6 +16,7 @@ use Rattle.qp_model_order.proofs.Orders.{keeps-ordered, hist-ordered}
 use Rattle.qp_table.specs.Counting.{Each, many, without}
 use Rattle.qp_table.specs.Rule.{is_log}
 use Rattle.qp_table.specs.declared.view.SeatLog.{SeatLog}
+use Rattle.qp_model.proofs.BeginningLemmas.{all_items-empty}
 
 abbrev pub recs_all : List SeatLog → List (List Rec)
 recs_all logs = map (λ (g : SeatLog). g.recs) logs
@@ -137,14 +138,8 @@ permuted (x ∷ xs) logs each cover = ⊎_elim (first (λ gs e c. permuted xs gs
               (IsPermutation-sym (recs_all logs ++ [] ∷ replicate r.0 []) ([] ∷ (recs_all logs ++ replicate r.0 [])) (IsPermutation-middle (recs_all logs) [] (replicate r.0 [])))),
         )
 
--- empty lanes at the end are no matter
-empty-items : (k : ℕ) → all_items (replicate k []) ≡ []
-unfolding all_items lane_items
-empty-items zero = refl
-empty-items (suc k) = empty-items k
-
 same-items : (xs : List (List Rec)) (k : ℕ) → all_items (xs ++ replicate k []) ≡ all_items xs
-same-items xs k = all_items-append xs (replicate k []) ∙ (ap (λ z. all_items xs ++ z) (empty-items k) ∙ append-nil (all_items xs))
+same-items xs k = all_items-append xs (replicate k []) ∙ (ap (λ z. all_items xs ++ z) (all_items-empty k) ∙ append-nil (all_items xs))
 
 same-rises : (xs : List (List Rec)) (k : ℕ) (w : Word) → marks_rise w (xs ++ replicate k []) ≡ true → marks_rise w xs ≡ true
 unfolding marks_rise lane_items

@@ -24,6 +24,8 @@ use Rattle.qp_table.proofs.Views.{SawFrom}
 use Rattle.qp_table.specs.Words.{later, latest}
 use Rattle.qp_side.specs.Rule.{SideFitting}
 use Rattle.qp_side.specs.Laws.{SideWordsStandApart}
+use Rattle.qp_table.proofs.Bounds.{all-length}
+use Rattle.qp_table.proofs.Facts.{zero-mark}
 
 pub apart-words : SideWordsStandApart
 apart-words s r t u ls lr pt lt pu lu = (omega arith, omega arith, (λ e. omega arith), (λ e. omega arith))
@@ -36,11 +38,6 @@ module _ (sys : System) (fits : SideFitting sys) where
   pub timer-low : (t : ℕ) → IsTrue (is_timer sys t) → (0 < t) × (t ≤ 64)
   timer-low t h = let b = and_parts (nat_lt 0 t) (nat_le t (length sys.timers)) h in let x : nat_lt 0 t ≡ true = b.0 in let y : nat_le t (length sys.timers) ≡ true = b.1 in
       let lo : 0 < t = grind (arith, nat_tests) in let hi : t ≤ length sys.timers = grind (arith, nat_tests) in let f = fits.few_timers in (lo, omega arith)
-
-all-length : (m : ℕ) (lanes : List (List Rec)) → Each (λ (l : List Rec). length l ≤ m) lanes → length (all_items lanes) ≤ m * length lanes
-unfolding all_items
-all-length m [] e = omega arith
-all-length m (l ∷ ls) e = let r = all-length m ls e.1 in let s = lane-length l in let x = e.0 in omega (arith, length-append (lane_items l) (all_items ls), mul-add m 1 (length ls))
 
 -- a word has at most so many operations
 pub few-operations : {S : Type 0} (m : Machine S) (w : Word) (lanes : List (List Rec)) (s : S) → Counts S m → Keeps S m w lanes → after m (hist w (all_items lanes)) ≡ s → length lanes ≡ 49 → Each (λ (l : List Rec). length l ≤ 1000001) lanes → m.count s ≤ 49000049
@@ -61,13 +58,6 @@ module _ {A : Type 0} where
   fits P Q xs id u keep mine all j v e = ⊎_elim (λ (t : (j ≡ id) × (u ≡ v)). subst Q t.1 mine) (λ (t : (j ≢ id) × (get_elem? xs j ≡ some v)). keep j v t.0 t.1 (all j v t.1)) (at_set xs id j u v e)
 
 -- Glances.
-
-zero-mark : (w : ℕ) → mark_in w 0 ≡ 0
-zero-mark w = go (ltb w 4224)
-  where
-    go : (t : Bool) → cond {A = ℕ} t (0 / 4294967296) (0 % 2097152 + 0 / 2097152 % 2097152 + 0 / 4398046511104) ≡ 0
-    go true = refl
-    go false = refl
 
 module _ (words : List ℕ) (was : Was) (first : (w : ℕ) → was w 0 ≡ 0) where
   abbrev Past : ℕ → ℕ → Type 0
@@ -92,10 +82,3 @@ module _ (words : List ℕ) (was : Was) (first : (w : ℕ) → was w 0 ≡ 0) wh
   -- of a word, nothing was seen with more operations than it has
   pub seen-past : (w : ℕ) (seen : List Glance) → Each (SawFrom words was) seen → (mark_in w (latest w 0 seen) ≤ mark_in w (get_or words w 0)) × (latest w 0 seen ≡ was w (mark_in w (latest w 0 seen)))
   seen-past w seen e = let z = zero-mark w in latest-past w 0 seen (omega arith, sym (ap (was w) z ∙ first w)) e
-
-pub later-here : (w y x : ℕ) → mark_in w y ≤ mark_in w x → (mark_in w y ≡ mark_in w x → y ≡ x) → later w y x ≡ x
-later-here w y x le same = go (ltb (mark_in w y) (mark_in w x)) refl
-  where
-    go : (t : Bool) → ltb (mark_in w y) (mark_in w x) ≡ t → cond {A = ℕ} t x y ≡ x
-    go true e = refl
-    go false e = dite (ℕ_discrete (mark_in w y) (mark_in w x)) same (λ ne. let t : ltb (mark_in w y) (mark_in w x) ≡ true = lt-ltb (mark_in w y) (mark_in w x) (omega arith) in absurd (cc))

@@ -22,7 +22,7 @@ use Rattle.qp_table.proofs.Counting.{total-set, total-at, total-snoc, total-appe
 use Rattle.qp_table.proofs.Views.{total-two, SawFrom}
 use Rattle.qp_plain_words.specs.Sets.{are_members}
 use Rattle.qp_table.specs.First.{first_serves}
-use Rattle.qp_table.proofs.Ends.{lane-once}
+use Rattle.qp_table.proofs.Ends.{lane-once, replicate-get, replicate-each}
 use Rattle.qp_table.proofs.Start.{object-within, serves-once}
 use Rattle.qp_side.specs.Rule.{signal_at, timer_at, SideFitting, SideNow, AreSubscribers, KnowsItsOwn, SideHolds, views_of, member_from, member_in}
 use Rattle.qp_side.specs.Told.{root_less, seat_with, served_by, both_of, no_seat, side_root}
@@ -30,13 +30,7 @@ use Rattle.qp_side.specs.Laws.{SeatsAreGiven, SeatsJoin, SideStarts, IsSideWhole
 use Rattle.qp_side.specs.declared.view.SideView.{SideView}
 use Rattle.qp_side.proofs.Places.{fits, signal-low, timer-low}
 use Rattle.qp_side.proofs.StepLemmas.{at-view}
-
-each-append : {A : Type 0} (P : A → Type 0) (xs ys : List A) → Each P xs → Each P ys → Each P (xs ++ ys)
-each-append P [] ys p q = q
-each-append P (x ∷ xs) ys p q = (p.0, each-append P xs ys p.1 q)
-
-many-append : {A : Type 0} (t : A → Bool) (xs ys : List A) → many t (xs ++ ys) ≡ many t xs + many t ys
-many-append t xs ys = total-append (λ x. cond (t x) 1 0) xs ys
+use Rattle.qp_table.proofs.Lanes.{each-append, many-append}
 
 pub total-map : {A B : Type 0} (f : A → B) (g : B → ℕ) (xs : List A) → sum_over g (map f xs) ≡ sum_over (λ x. g (f x)) xs
 total-map f g [] = refl
@@ -57,7 +51,7 @@ parted t u (x ∷ xs) = go (t x) (parted t u xs)
     go true h = omega arith
     go false h = omega arith
 
-fewer-one : (n : ℕ) (xs : List ℕ) → 0 < many (is_number n) xs → length (without (is_number n) xs) + 1 ≡ length xs
+pub fewer-one : (n : ℕ) (xs : List ℕ) → 0 < many (is_number n) xs → length (without (is_number n) xs) + 1 ≡ length xs
 fewer-one n [] h = absurd (omega arith)
 fewer-one n (x ∷ xs) h = go (is_number n x) h (fewer-one n xs)
   where
@@ -69,7 +63,7 @@ b2n : {x y : Bool} → x ≡ y → cond {A = ℕ} x 1 0 ≡ cond {A = ℕ} y 1 0
 b2n e = ap (λ (b : Bool). cond {A = ℕ} b 1 0) e
 
 -- one is taken out: there is one less of its number, and as many of others
-less-one : (n k : ℕ) (xs : List ℕ) → 0 < many (is_number n) xs → many (is_number k) (without (is_number n) xs) + cond (eqb n k) 1 0 ≡ many (is_number k) xs
+pub less-one : (n k : ℕ) (xs : List ℕ) → 0 < many (is_number n) xs → many (is_number k) (without (is_number n) xs) + cond (eqb n k) 1 0 ≡ many (is_number k) xs
 less-one n k xs h = many-without (is_number n) (is_number k) (eqb n k) (λ x e. ap (λ z. eqb z k) (eqb-true x n e)) xs h
 
 -- A seat is given
@@ -233,15 +227,6 @@ seats-join sys words views holds id v at other w apart there = joins sys words v
 alone-view : {V : Type 0} (P : V → Type 0) (v : V) → P v → (id : ℕ) (u : V) → get_elem? (v ∷ []) id ≡ some u → P u
 alone-view P v p zero u e = subst P (some-injective v u e) p
 alone-view P v p (suc id) u e = absurd (some-ne-none u (sym e))
-
-replicate-get : (n k : ℕ) → k < n → get_elem? {A = List Rec} (replicate n []) k ≡ some []
-replicate-get zero k l = absurd (omega arith)
-replicate-get (suc n) zero l = refl
-replicate-get (suc n) (suc k) l = replicate-get n k (omega arith)
-
-replicate-each : (n : ℕ) → Each (λ (l : List Rec). length l ≤ 1000001) (replicate n [])
-replicate-each zero = tt
-replicate-each (suc n) = (omega arith, replicate-each n)
 
 no-subscribers : (sys : System) → AreSubscribers sys []
 unfolding are_members

@@ -33,7 +33,8 @@ use Rattle.qp_table.proofs.Places.{latest-more}
 use Rattle.qp_side.specs.Rule.{SideNow, SideLeaves, SideShows, StopHolds, KnowsItsOwn, SideHolds, views_of, member_by, member_from, member_in}
 use Rattle.qp_side.specs.Told.{side_glanced, side_noted, last_seen, SideSaw}
 use Rattle.qp_side.specs.declared.view.SideView.{SideView}
-use Rattle.qp_side.proofs.Places.{fits, later-here, seen-past, at-here, at-else}
+use Rattle.qp_side.proofs.Places.{fits, seen-past, at-here, at-else}
+use Rattle.qp_table.proofs.Gaining.{later-here}
 
 -- a record more in a list
 member-snoc : (o s : ℕ) (b : Bool) (rs : List Rec) (r : Rec) → member_from o s b (rs ++ r ∷ []) ≡ member_by o s (item_of r) (member_from o s b rs)

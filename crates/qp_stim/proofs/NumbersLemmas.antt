@@ -4,10 +4,7 @@ use Rattle.std.proofs.Math.Seq.{drop-cons}
 use Rattle.std.proofs.lemmas.Bool.{le-ltb, lt-ltb}
 use Rattle.qp_chart_text.specs.Tokens.{value_after}
 use Rattle.qp_model.specs.WordOf.{fitting_number}
-
-pub decimal_from-grows : (n : ℕ) (ds : List ℕ) → n ≤ value_after n ds
-decimal_from-grows n [] = omega arith
-decimal_from-grows n (d ∷ ds) = omega (arith, decimal_from-grows (n * 10 + (d - 48)) ds)
+use Rattle.qp_chart_text.proofs.TokenLemmas.{value_above}
 
 pub held-large : (n : ℕ) → 2 ^ 64 ≤ n → fitting_number n ≡ None
 held-large n h = ap (λ b. cond b (Some n) None) (le-ltb n (2 ^ 64) h)
@@ -24,6 +21,6 @@ decimal_from-drop n i ds h =
 -- a number that has passed 64 bits stays there
 pub held-overflow : (n i : ℕ) (ds : List ℕ) → i < length ds → 2 ^ 64 ≤ n * 10 + (get_or ds i 0 - 48) → fitting_number (value_after n (drop i ds)) ≡ None
 held-overflow n i ds h large =
-    let grows = decimal_from-grows (n * 10 + (get_or ds i 0 - 48)) (drop (i + 1) ds) in
+    let grows = value_above (n * 10 + (get_or ds i 0 - 48)) (drop (i + 1) ds) in
     let same = decimal_from-drop n i ds h in
     held-large (value_after n (drop i ds)) (omega (arith, same, grows, large))

@@ -22,9 +22,7 @@ use Rattle.qp_check_course.specs.Reading.{LeavesOf, ReadsOn}
 use Rattle.qp_check_course.specs.Standing.{FollowSomehow}
 use Rattle.qp_summary.specs.Coming.{IsOnCourse}
 use Rattle.qp_summary.specs.declared.coming.Came.{Came}
-
-abbrev pub one_if : Bool → ℕ
-one_if b = cond b 1 0
+use Rattle.qp_check_course.proofs.DoneLemmas.{one_if}
 
 module _ (t : Told) (left : List Told) where
   mark-dispatched : is_turn_mark t.body ≡ true → dispatched (t ∷ left) ≡ dispatched left

@@ -17,6 +17,7 @@ use Rattle.qp_summary.specs.declared.turns.TurnCounts.{TurnCounts}
 use Rattle.qp_summary.specs.declared.blocks.Blocks.{Blocks}
 use Rattle.qp_model.proofs.NumberLemmas.{count-append}
 use Rattle.qp_model.proofs.ListLemmas.{and-true}
+use Rattle.qp_check_course.proofs.DoneLemmas.{one_if}
 
 get-set : (xs : List ℕ) (k v n : ℕ) → slice_get (slice_set xs k v) k ≡ Some n → n ≡ v
 get-set [] k v n h = absurd (cc)
@@ -39,9 +40,6 @@ get-there : (xs : List ℕ) (k : ℕ) → k < length xs → slice_get xs k ≡ S
 get-there [] k lt = absurd (omega (arith, lt))
 get-there (x ∷ xs) zero lt = refl
 get-there (x ∷ xs) (suc k) lt = get-there xs k (omega (arith, lt))
-
-abbrev one_if : Bool → ℕ
-one_if b = cond b 1 0
 
 more-counts : (test : Item → Bool) (items : List Item) (x : Item) (b : Bool) → test x ≡ b → count_by test (items ++ x ∷ []) ≡ count_by test items + one_if b
 more-counts test items x b is =

@@ -22,6 +22,7 @@ use Rattle.qp_kernel_end.specs.declared.rest.Rest.{Rest}
 use Rattle.qp_kernel_end.specs.Rests.{IsRestOf}
 use Rattle.qp_summary.specs.Resting.{LeavesRest}
 use Rattle.qp_summary.specs.Counting.{done_of, took_of}
+use Rattle.qp_check_course.proofs.DoneLemmas.{one_if}
 
 module _ (sys : System) (d : ObjectDef) (chart : Chart) (own : chart_at sys d.chart ≡ Some chart) (ts : List Told) (text : List ℕ) where
   -- its start or a step is under way
@@ -47,9 +48,6 @@ found-rest sys d chart ts (x ∷ xs) own all = by (x.priority == d.priority) ref
         → LeavesRest sys d chart ts (cond b (Some x) (find (λ y. y.priority == d.priority) xs))
     by true is rest = let same : x.priority ≡ d.priority = grind (arith, nat_tests, is) in all.0 same chart own
     by false is rest = rest
-
-abbrev one_if : Bool → ℕ
-one_if b = cond b 1 0
 
 -- what is counted of the records of an object is counted in its lane
 own-count : (w : Facts) (f : Body → Bool) (o c : ℕ) (items : List Item) → count_by (λ (t : Told). f t.body) (records_of w o c items) ≡ count_by (λ (i : Item). (i.of == o) && f i.body) items

@@ -25,9 +25,7 @@ use Rattle.qp_base.specs.Counts.{Rose}
 use Rattle.qp_base.specs.Sink.{appended, AppendsPrefix}
 use Rattle.qp_summary.specs.declared.summary.SummaryFault.TheVariants as fault
 use Rattle.qp_summary.specs.Written.{lines_joined, Writes, SummaryFails}
-
-abbrev one_if : Bool → ℕ
-one_if b = cond b 1 0
+use Rattle.qp_check_course.proofs.DoneLemmas.{one_if}
 
 -- what is counted of a list is counted of those that pass a test, where it passes the test
 filter-counts : {X : Type 0} (p q : X → Bool) → ((x : X) → p x ≡ true → q x ≡ true) → (xs : List X) → count_by p (filter q xs) ≡ count_by p xs

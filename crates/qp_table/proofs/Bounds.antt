@@ -24,7 +24,7 @@ use Rattle.qp_table.specs.Now.{Now, LeavesWords}
 use Rattle.qp_table.specs.Rule.{bits_value}
 use Rattle.qp_model.proofs.RecordLemmas.{lane-length}
 
-all-length : (m : ℕ) (lanes : List (List Rec)) → Each (λ (l : List Rec). length l ≤ m) lanes → length (all_items lanes) ≤ m * length lanes
+pub all-length : (m : ℕ) (lanes : List (List Rec)) → Each (λ (l : List Rec). length l ≤ m) lanes → length (all_items lanes) ≤ m * length lanes
 unfolding all_items
 all-length m [] e = omega arith
 all-length m (l ∷ ls) e = let r = all-length m ls e.1 in let s = lane-length l in let x = e.0 in omega (arith, length-append (lane_items l) (all_items ls), mul-add m 1 (length ls))
@@ -34,11 +34,11 @@ abbrev pub Ascends : ℕ → ℕ → List ℕ → Type 0
 Ascends lo n [] = lo ≤ n
 Ascends lo n (x ∷ xs) = (lo ≤ x) × (x < n) × Ascends (x + 1) n xs
 
-ascends-up : (lo k n : ℕ) → lo + k ≤ n → Ascends lo n (count_up lo k)
+pub ascends-up : (lo k n : ℕ) → lo + k ≤ n → Ascends lo n (count_up lo k)
 ascends-up lo zero n h = omega arith
 ascends-up lo (suc k) n h = (omega arith, omega arith, ascends-up (lo + 1) k n (omega arith))
 
-ascends-less : (lo hi n : ℕ) (xs : List ℕ) → lo ≤ hi → Ascends hi n xs → Ascends lo n xs
+pub ascends-less : (lo hi n : ℕ) (xs : List ℕ) → lo ≤ hi → Ascends hi n xs → Ascends lo n xs
 ascends-less lo hi n [] le a = omega arith
 ascends-less lo hi n (x ∷ xs) le a = let l = a.0 in (omega arith, a.1, a.2)
 
@@ -50,7 +50,7 @@ without-ascends b lo n (x ∷ xs) a = let l = a.0 in go (x == b) (without-ascend
     go true r = ascends-less lo (x + 1) n (without_all b xs) (omega arith) r
     go false r = (a.0, a.1, r)
 
-with-ascends : (b lo n : ℕ) (xs : List ℕ) → lo ≤ b → b < n → Ascends lo n xs → Ascends lo n (with_number b xs)
+pub with-ascends : (b lo n : ℕ) (xs : List ℕ) → lo ≤ b → b < n → Ascends lo n xs → Ascends lo n (with_number b xs)
 with-ascends b lo n [] l h a = (l, h, omega arith)
 with-ascends b lo n (x ∷ xs) l h a = go (λ gt. with-ascends b (x + 1) n xs gt h a.2) (nat_lt b x) (b == x) refl refl
   where

@@ -108,12 +108,12 @@ alone-view : (P : View → Type 0) (v : View) → P v → (id : ℕ) (u : View) 
 alone-view P v p zero u e = subst P (some-injective v u e) p
 alone-view P v p (suc id) u e = absurd (some-ne-none u (sym e))
 
-replicate-get : (n k : ℕ) → k < n → get_elem? {A = List Rec} (replicate n []) k ≡ some []
+pub replicate-get : (n k : ℕ) → k < n → get_elem? {A = List Rec} (replicate n []) k ≡ some []
 replicate-get zero k l = absurd (omega arith)
 replicate-get (suc n) zero l = refl
 replicate-get (suc n) (suc k) l = replicate-get n k (omega arith)
 
-replicate-each : (n : ℕ) → Each (λ (l : List Rec). length l ≤ 1000001) (replicate n [])
+pub replicate-each : (n : ℕ) → Each (λ (l : List Rec). length l ≤ 1000001) (replicate n [])
 replicate-each zero = tt
 replicate-each (suc n) = (omega arith, replicate-each n)
 

@@ -24,7 +24,7 @@ use Rattle.qp_table.proofs.Marks.{low-mark, pool-mark, block-mark, queue-mark}
 use Rattle.qp_table.specs.Words.{place_of, is_here, first_value, later, latest, value_seen, Ahead}
 use Rattle.qp_table.specs.ViewLaws.{FoundWordsAreAhead}
 
-none-long : {X : Type 0} (xs : List X) → length xs ≡ 0 → xs ≡ []
+pub none-long : {X : Type 0} (xs : List X) → length xs ≡ 0 → xs ≡ []
 none-long [] e = refl
 none-long (x ∷ xs) e = absurd (omega arith)
 
@@ -81,7 +81,7 @@ module _ (sys : System) (words : List ℕ) (views : List View) (holds : Holds sy
     same = λ e. p.1 ∙ (ap (holds.was (place_of w)) e ∙ sym (holds.seen.now (place_of w) (low w h)));
   }
 
-map-full : (from n : ℕ) → bits_value (count_up from n) + 2 ^ from ≡ 2 ^ (from + n)
+pub map-full : (from n : ℕ) → bits_value (count_up from n) + 2 ^ from ≡ 2 ^ (from + n)
 map-full from zero = let e : 2 ^ (from + 0) ≡ 2 ^ from = ap (λ k. 2 ^ k) (let z : from + 0 ≡ from = omega arith in z) in omega arith
 map-full from (suc n) =
     let r : bits_value (count_up (from + 1) n) + 2 ^ (from + 1) ≡ 2 ^ (from + 1 + n) = map-full (from + 1) n in
@@ -90,7 +90,7 @@ map-full from (suc n) =
     let q : 2 ^ (from + 1 + n) ≡ 2 ^ (from + suc n) = ap (λ k. 2 ^ k) e in
     omega arith
 
-zero-mark : (w : ℕ) → mark_in w 0 ≡ 0
+pub zero-mark : (w : ℕ) → mark_in w 0 ≡ 0
 zero-mark w = go (ltb w 4224)
   where
     go : (t : Bool) → cond {A = ℕ} t (0 / 4294967296) (0 % 2097152 + 0 / 2097152 % 2097152 + 0 / 4398046511104) ≡ 0

@@ -22,11 +22,11 @@ use Rattle.qp_table.specs.Telling.{Saw, Touches, TouchesTwo, is_on_table}
 use Rattle.qp_table.specs.ViewLaws.{SeenWordsRise, SideWordsRise, RecordsGain, GivesGain, LooksShow}
 use Rattle.qp_table.proofs.Places.{apart, same-itself, same-is, latest-more}
 
-bool-dec : (b : Bool) {P : Type 0} → (b ≡ true → P) → (b ≡ false → P) → P
+pub bool-dec : (b : Bool) {P : Type 0} → (b ≡ true → P) → (b ≡ false → P) → P
 bool-dec true t f = t refl
 bool-dec false t f = f refl
 
-later-here : (w y x : ℕ) → mark_in w y ≤ mark_in w x → (mark_in w y ≡ mark_in w x → y ≡ x) → later w y x ≡ x
+pub later-here : (w y x : ℕ) → mark_in w y ≤ mark_in w x → (mark_in w y ≡ mark_in w x → y ≡ x) → later w y x ≡ x
 later-here w y x le same = go (ltb (mark_in w y) (mark_in w x)) refl
   where
     go : (t : Bool) → ltb (mark_in w y) (mark_in w x) ≡ t → cond {A = ℕ} t x y ≡ x

@@ -17,6 +17,7 @@ use Rattle.qp_calls.specs.Tokens.{Token, Held, Loose, same_token, token_of, take
 use Rattle.qp_calls.specs.LaneView.{handled_in}
 use Rattle.qp_calls.proofs.HandLemmas.{same-equal}
 use Rattle.qp_table.specs.Lane.{tokens, tokens_of_view, has_content, is_read}
+use Rattle.qp_model.proofs.ListLemmas.{and-true}
 
 pub eq-turned : (a b : ℕ) → eqb a b ≡ (b == a)
 eq-turned a b = dite (ℕ_discrete a b)
@@ -51,12 +52,8 @@ refs-out q c s p b k xs h = many-without (is_ref p b k) (is_ref q c s) (same_tok
 pub refs-in : (q c s p b k : ℕ) (xs : List Entry) → many (is_ref q c s) (xs ++ ref p b k ∷ []) ≡ many (is_ref q c s) xs + cond (same_token (Held q c s) (Held p b k)) 1 0
 refs-in q c s p b k xs = let m = many-snoc (is_ref q c s) xs (ref p b k) in let z = ap (λ (t : Bool). cond {A = ℕ} t 1 0) (turned-three p b k q c s) in omega arith
 
-and-on : (x : Bool) → (x && true) ≡ x
-and-on true = refl
-and-on false = refl
-
 pub loose-true : (q c p b : ℕ) → same_token (Loose q c true) (Loose p b true) ≡ (eqb p q && eqb b c)
-loose-true q c p b = and-on ((q == p) && (c == b)) ∙ (λ i. sym (eq-turned p q) i && sym (eq-turned b c) i)
+loose-true q c p b = and-true ((q == p) && (c == b)) ∙ (λ i. sym (eq-turned p q) i && sym (eq-turned b c) i)
 
 -- the token that a lane handed in stands in its view
 pub held-in : (told : List ToldItem) (v : View) (p b k : ℕ) → ((t : Token) → tokens t (hands_after [] told) ≡ tokens_of_view v t) → IsTrue (stands (Held p b k) (hands_after [] told)) → 0 < many (is_ref p b k) v.hands
@@ -71,7 +68,7 @@ held-in told v p b k all h = let z = some (hands_after [] told) h in let e = all
         go true h r = omega arith
         go false h r = let z = r h in omega arith
 
-without-le : {A : Type 0} (p q : A → Bool) (xs : List A) → many q (without p xs) ≤ many q xs
+pub without-le : {A : Type 0} (p q : A → Bool) (xs : List A) → many q (without p xs) ≤ many q xs
 without-le p q [] = omega arith
 without-le {A} p q (x ∷ xs) = go (p x) (without-le p q xs)
   where

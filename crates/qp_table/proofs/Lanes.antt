@@ -24,11 +24,11 @@ use Rattle.qp_table.proofs.Counting.{each-snoc, each-map, total-set, total-at, t
 use Rattle.qp_table.proofs.Tokens.{b2n}
 use Rattle.qp_table.proofs.Views.{total-two, SawFrom}
 
-each-append : {A : Type 0} (P : A → Type 0) (xs ys : List A) → Each P xs → Each P ys → Each P (xs ++ ys)
+pub each-append : {A : Type 0} (P : A → Type 0) (xs ys : List A) → Each P xs → Each P ys → Each P (xs ++ ys)
 each-append P [] ys p q = q
 each-append P (x ∷ xs) ys p q = (p.0, each-append P xs ys p.1 q)
 
-many-append : {A : Type 0} (t : A → Bool) (xs ys : List A) → many t (xs ++ ys) ≡ many t xs + many t ys
+pub many-append : {A : Type 0} (t : A → Bool) (xs ys : List A) → many t (xs ++ ys) ≡ many t xs + many t ys
 many-append t xs ys = total-append (λ x. cond (t x) 1 0) xs ys
 
 abbrev Own : List (List Rec) → View → Type 0

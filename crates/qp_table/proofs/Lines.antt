@@ -13,7 +13,7 @@ abbrev pub restaged : ℕ → (InLine → Bool) → List InLine → List InLine
 restaged stage p [] = []
 restaged stage p (i ∷ is) = cond (p i) (record i { stage = stage } ∷ is) (i ∷ restaged stage p is)
 
-cond-zero : (b : Bool) → cond {A = ℕ} b 0 0 ≡ 0
+pub cond-zero : (b : Bool) → cond {A = ℕ} b 0 0 ≡ 0
 cond-zero true = refl
 cond-zero false = refl
 

@@ -12,7 +12,7 @@ use Rattle.qp_table.specs.Lane.{lane_of, lane_mark}
 use Rattle.qp_table.specs.Telling.{is_on_table, AreOfOne}
 use Rattle.qp_table.specs.ViewLaws.{MeetsSeeBoth}
 
-both : {P : Type 0} (t : Bool) → (t ≡ true → P) → (t ≡ false → P) → P
+pub both : {P : Type 0} (t : Bool) → (t ≡ true → P) → (t ≡ false → P) → P
 both true f g = f refl
 both false f g = g refl
 

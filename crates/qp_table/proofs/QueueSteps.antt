@@ -29,7 +29,7 @@ use Rattle.qp_table.proofs.Kept.{events-same, shows-queue, queue-same}
 use Rattle.qp_table.proofs.Step.{Lane, lane, leaves-here, drawn-step}
 use Rattle.qp_table.proofs.Marks.{high-mark, own-counts, first-small, line-shows}
 use Rattle.qp_table.proofs.Growth.{grows-queue}
-use Rattle.qp_table.proofs.Lines.{entries-length}
+use Rattle.qp_table.proofs.Lines.{entries-length, cond-zero}
 use Rattle.qp_table.proofs.Queue.{fresh_item, queue-post, queue-lifo, queue-took}
 use Rattle.qp_table.proofs.QueueSums.{tokens-line, spent-many, gained-many, item, item-eq, here-meets, else-meets, stage-apart, places-less, queues-one, serves-same, serves-else, serves-home, bump-many}
 
@@ -48,10 +48,6 @@ took-says a f l m e = refl
 
 eqb-swap : (a b : ℕ) → eqb a b ≡ eqb b a
 eqb-swap a b = dite (ℕ_discrete a b) (λ e. eq-eqb a b e ∙ sym (eq-eqb b a (sym e))) (λ n. ne_eqb a b n ∙ sym (ne_eqb b a (λ e. n (sym e))))
-
-same-either : (t : Bool) → cond {A = ℕ} t 0 0 ≡ 0
-same-either true = refl
-same-either false = refl
 
 ends : (n l : ℕ) → 0 < n → n * l ≡ (n - 1) * l + l
 ends zero l h = absurd (omega arith)
@@ -248,7 +244,7 @@ module _ (sys : System) (words : List ℕ) (views : List View) (holds : Holds sy
         (λ b y d ne. let m = places-less a j e v.takes mine b y d in let z = ap b2n (else-meets a j e 0 b y d ne) in omega arith)
         (λ b. bump-many a 0 1 b v.serves)
         (serves-home now a 0 1 t v u (omega arith) refl (omega arith) one refl (λ b. without-le (is_place a j e) (on_queue b) v.takes)
-        (λ b. let c = records-logged (is_lifo b) r v.logs own-some in let z = ap (λ (x : Item). b2n (lifo_on b x.of x.body)) says in let g = same-either (eqb b a) in omega arith)
+        (λ b. let c = records-logged (is_lifo b) r v.logs own-some in let z = ap (λ (x : Item). b2n (lifo_on b x.of x.body)) says in let g = cond-zero (eqb b a) in omega arith)
         (λ b. let c = records-logged (is_take_of b) r v.logs own-some in let z = ap (λ (x : Item). b2n (took_on b x.of x.body)) says in let g = ap b2n (eqb-swap a b) in omega arith)
         (omega arith) own.room (holds.queues.home id v at_id))
         (λ y z ne there o. serves-else now a t z (not-others serves y z ne there) o))
@@ -280,7 +276,7 @@ module _ (sys : System) (words : List ℕ) (views : List View) (holds : Holds sy
         (λ b. bump-many a 1 0 b v.serves)
         (serves-home now a 1 0 t v u refl (omega arith) (omega arith) one refl (λ b. omega arith)
         (λ b. let c = records-logged (is_lifo b) r v.logs own-some in let z = ap (λ (x : Item). b2n (lifo_on b x.of x.body)) says in let g = ap b2n (eqb-swap a b) in omega arith)
-        (λ b. let c = records-logged (is_take_of b) r v.logs own-some in let z = ap (λ (x : Item). b2n (took_on b x.of x.body)) says in let g = same-either (eqb b a) in omega arith)
+        (λ b. let c = records-logged (is_take_of b) r v.logs own-some in let z = ap (λ (x : Item). b2n (took_on b x.of x.body)) says in let g = cond-zero (eqb b a) in omega arith)
         (omega arith) own.room (holds.queues.home id v at_id))
         (λ y z ne there o. serves-else now a t z (not-others serves y z ne there) o))
         (omega arith) (let x = high-mark (queue_at a) w (omega arith) in let y = high-mark (queue_at a) (w + 2097152) (omega arith) in omega arith) refl refl refl refl _

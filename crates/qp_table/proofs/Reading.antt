@@ -34,6 +34,7 @@ use Rattle.qp_table.proofs.Steps.{pool-of}
 use Rattle.qp_table.proofs.Contents.{reads}
 use Rattle.qp_table.specs.Lane.{event_read as event_known, event_seen, has_content}
 use Rattle.qp_table.specs.StepLaws.{ReadsTell}
+use Rattle.qp_table.proofs.Records.{not-not}
 
 -- a block that is given out has a content
 given-step : (b : ℕ) (s : Life) (t : List ℕ) (x : Body) → (s.out ≡ true → 0 < length t) → (life_next b s x).out ≡ true → 0 < length (content_by b t x)
@@ -58,14 +59,10 @@ given-some : (b : ℕ) (xs : List Item) → (after (life_of b) xs).out ≡ true 
 unfolding after
 given-some b xs = given-from b (record { out = false; edge = 0 }) [] xs (λ out. absurd (cc))
 
-not-case : (x f : Bool) → f ≡ not x → f ≡ false → x ≡ true
-not-case true f e n = refl
-not-case false f e n = let y : true ≡ false = sym e ∙ n in absurd (true≢false y)
-
 module _ (sys : System) (words : List ℕ) (views : List View) (holds : Holds sys words views) where
   out-is : (p b : ℕ) → is_block sys p b ≡ true → has (holds.now.pool p).free b ≡ false → (after (life_of b) (hist (word.Pool p) (all_items holds.lanes))).out ≡ true
   out-is p b block taken = let inside = pool-of sys p b block in
-      not-case (after (life_of b) (hist (word.Pool p) (all_items holds.lanes))).out (has (after (free_blocks (blocks_of sys p)) (hist (word.Pool p) (all_items holds.lanes))).free b)
+      not-not (after (life_of b) (hist (word.Pool p) (all_items holds.lanes))).out (has (after (free_blocks (blocks_of sys p)) (hist (word.Pool p) (all_items holds.lanes))).free b)
       (free-out (blocks_of sys p) b (hist (word.Pool p) (all_items holds.lanes)) inside.1) (ap (λ (t : Pool). has t.free b) (holds.leaves.pool p inside.0) ∙ taken)
 
   -- the content of a block to which a reference stands

@@ -25,7 +25,7 @@ use Rattle.qp_table.specs.Now.{Now, with_line, with_given, content_from, LeavesW
 use Rattle.qp_model.proofs.LifeLemmas.{free-out}
 use Rattle.qp_table.proofs.Growing.{content-append, block-count, pool-leaves, queue-leaves, shown-leaves}
 
-not-not : (v f : Bool) → f ≡ not v → f ≡ false → v ≡ true
+pub not-not : (v f : Bool) → f ≡ not v → f ≡ false → v ≡ true
 not-not true f e n = refl
 not-not false f e n = let z : true ≡ false = sym e ∙ n in absurd (true≢false z)
 

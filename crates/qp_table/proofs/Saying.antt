@@ -12,6 +12,7 @@ use Rattle.qp_table.specs.After.{logged, HasRoom}
 use Rattle.qp_table.specs.declared.view.SeatLog.{SeatLog}
 use Rattle.qp_table.specs.declared.view.View.{View}
 use Rattle.qp_table.specs.Lane.{own_of_logs, own_recs, on_table_of, tell_lane, told_as, event_seen, lane_number, first_number}
+use Rattle.qp_model.proofs.RecordLemmas.{lane_items-more}
 
 length-map : (f : Rec → Item) (xs : List Rec) → length (map f xs) ≡ length xs
 length-map f [] = refl
@@ -21,11 +22,7 @@ lane-length : (lane : List Rec) → length (lane_items lane) ≡ length lane
 unfolding lane_items
 lane-length lane = length-map item_of lane
 
-lane-more : (lane : List Rec) (r : Rec) → lane_items (lane ++ r ∷ []) ≡ lane_items lane ++ item_of r ∷ []
-unfolding lane_items
-lane-more lane r = map-append item_of lane (r ∷ [])
-
-filter-length : {X : Type 0} (p : X → Bool) (xs : List X) → length (filter p xs) ≤ length xs
+pub filter-length : {X : Type 0} (p : X → Bool) (xs : List X) → length (filter p xs) ≤ length xs
 filter-length p [] = omega arith
 filter-length {X} p (x ∷ xs) = go (p x) (filter-length p xs)
   where
@@ -57,13 +54,13 @@ has-room v recs one same room = room-case v v.logs refl one (let t = table-lengt
 
 own-case : (q : Rec) (logs : List SeatLog) → length logs ≡ 1 → own_of_logs (logged q logs) ≡ own_of_logs logs ++ item_of q ∷ []
 own-case q [] one = absurd (omega arith)
-own-case q (g ∷ gs) one = lane-more g.recs q
+own-case q (g ∷ gs) one = lane_items-more g.recs q
 
 -- a record more, in the lane's list and in its view
 pub same-more : (v : View) (recs : List Rec) (r q : Rec) → length v.logs ≡ 1 → on_table_of recs ≡ own_recs v → item_of r ≡ item_of q → on_table (touch (item_of q)) ≡ true → (u : View) → u.logs ≡ logged q v.logs → on_table_of (recs ++ r ∷ []) ≡ own_recs u
 unfolding on_table_of own_recs
 same-more v recs r q one same is on u logs =
-    ap (filter (λ i. on_table (touch i))) (lane-more recs r) ∙ (filter-more (λ (i : Item). on_table (touch i)) (lane_items recs) (item_of r) (ap (λ i. on_table (touch i)) is ∙ on) ∙ ((λ i. same i ++ is i ∷ []) ∙ (sym (own-case q v.logs one) ∙ ap own_of_logs (sym logs))))
+    ap (filter (λ i. on_table (touch i))) (lane_items-more recs r) ∙ (filter-more (λ (i : Item). on_table (touch i)) (lane_items recs) (item_of r) (ap (λ i. on_table (touch i)) is ∙ on) ∙ ((λ i. same i ++ is i ∷ []) ∙ (sym (own-case q v.logs one) ∙ ap own_of_logs (sym logs))))
 
 pub logged-one : (q : Rec) (logs : List SeatLog) → length (logged q logs) ≡ length logs
 logged-one q [] = refl

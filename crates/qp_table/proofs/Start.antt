@@ -21,6 +21,7 @@ use Rattle.qp_table.specs.Whole.{first_now}
 use Rattle.qp_table.proofs.Ends.{opens}
 use Rattle.qp_table.specs.First.{first_word, first_serves, IsFreshServe, SoundSystemsStart}
 use Rattle.qp_model.proofs.ListLemmas.{each-at}
+use Rattle.qp_table.proofs.Facts.{map-full}
 
 -- What a system has
 
@@ -81,15 +82,6 @@ module _ (sys : System) (sound : IsSound sys) where
   }
 
 -- The first words
-
-map-full : (from n : ℕ) → bits_value (count_up from n) + 2 ^ from ≡ 2 ^ (from + n)
-map-full from zero = let e : 2 ^ (from + 0) ≡ 2 ^ from = ap (λ k. 2 ^ k) (let z : from + 0 ≡ from = omega arith in z) in omega arith
-map-full from (suc n) =
-    let r : bits_value (count_up (from + 1) n) + 2 ^ (from + 1) ≡ 2 ^ (from + 1 + n) = map-full (from + 1) n in
-    let a : from + 1 ≡ suc from = omega arith in let e : from + 1 + n ≡ from + suc n = omega arith in
-    let p : 2 ^ (from + 1) ≡ 2 ^ from * 2 = ap (λ k. 2 ^ k) a ∙ pow-suc 2 from in
-    let q : 2 ^ (from + 1 + n) ≡ 2 ^ (from + suc n) = ap (λ k. 2 ^ k) e in
-    omega arith
 
 zero-above : (sys : System) (k : ℕ) → 128 ≤ k → first_word sys k ≡ 0
 zero-above sys k l = let t : nat_lt k 128 ≡ false = grind (arith, nat_tests) in rw t refl

@@ -4,11 +4,7 @@ use Rattle.std.proofs.lemmas.Bool.Decides.{nat_tests}
 use Rattle.std.proofs.lemmas.List.{drop_all}
 use Rattle.qp_text.specs.Numbers.{fitting}
 use Rattle.qp_chart_text.specs.Tokens.{value_after}
-
--- more digits never make a number smaller
-pub value-grows : (n : ℕ) (digits : List ℕ) → n ≤ value_after n digits
-value-grows n [] = omega arith
-value-grows n (digit ∷ digits) = omega (arith, value-grows (n * 10 + (digit - 48)) digits)
+use Rattle.qp_chart_text.proofs.TokenLemmas.{value_above}
 
 -- one digit more
 pub value-next : (n i : ℕ) (digits : List ℕ) → i < length digits
@@ -26,7 +22,7 @@ pub value-too_large : (n i : ℕ) (digits : List ℕ) → i < length digits → 
     → value_after n (drop i digits) ≡ value_after 0 digits → None ≡ fitting (value_after 0 digits)
 value-too_large n i digits inside high so_far =
     fitting-none (value_after 0 digits)
-    (omega (arith, so_far, value-next n i digits inside, value-grows (n * 10 + (get_or digits i 0 - 48)) (drop (i + 1) digits)))
+    (omega (arith, so_far, value-next n i digits inside, value_above (n * 10 + (get_or digits i 0 - 48)) (drop (i + 1) digits)))
 
 -- behind the last digit the number is whole
 pub value-whole : (n i : ℕ) (digits : List ℕ) → length digits ≤ i → n < 2 ^ 64

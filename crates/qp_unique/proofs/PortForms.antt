@@ -21,9 +21,10 @@ use Rattle.qp_model.specs.Ends.{may_cut}
 use Rattle.qp_model.specs.Lawful.{ObjectHolds, SourceLanes, lanes_before}
 use Rattle.qp_model.specs.Sound.{IsSound}
 use Rattle.qp_model.specs.Laws.{Ascend}
-use Rattle.qp_model.proofs.HomeLemmas.{AreBelow}
+use Rattle.qp_model.proofs.HomeLemmas.{AreBelow, below-next}
 use Rattle.qp_model.proofs.TakenLemmas.{drop-head}
-use Rattle.qp_port_law.proofs.HomePlaces.{below-next, home-at, next-count, nothing-before}
+use Rattle.qp_port_law.proofs.HomePlaces.{home-at, next-count}
+use Rattle.qp_model.proofs.MeaningLemmas.{none_below}
 use Rattle.qp_unique.proofs.FormLemmas.{IsLow, its-form, sources-low}
 use Rattle.qp_unique.specs.PortFormLaws.{PortHasForms}
 
@@ -90,7 +91,7 @@ module _ (sys : System) (stimuli : List (List Stim)) (j : Journal) (is_port : j.
       let rest : length ls ≡ length sys.objects + length stimuli = omega (arith, count, whole) in
       let first : lane_at j 0 ≡ l = ap (λ x. unwrap_or (slice_get x 0) []) at in
       subst (AllByRecursion (λ lane. IsLow (lane_items lane))) (sym at)
-      (empty-low l (ap length (sym first) ∙ empty), homes-low [] sys.objects 1 ls refl refl (ap (drop 1) at) rest (nothing-before sys.objects) sound.ascend sound.priorities holds sources)
+      (empty-low l (ap length (sym first) ∙ empty), homes-low [] sys.objects 1 ls refl refl (ap (drop 1) at) rest (none_below sys.objects) sound.ascend sound.priorities holds sources)
 
 pub written-port : PortHasForms
 written-port sys stimuli j sound few is some most h =

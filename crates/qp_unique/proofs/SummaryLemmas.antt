@@ -36,7 +36,7 @@ use Rattle.qp_check_course.specs.Passing.{pass, run_told}
 use Rattle.qp_check_course.specs.Ready.{MayGoOnFrom}
 use Rattle.qp_check_course.specs.Standing.{config_left_in}
 use Rattle.qp_check_course.proofs.CourseLemmas.{course-goes}
-use Rattle.qp_check_course.proofs.DoneLemmas.{open_in, start-under, told-counts}
+use Rattle.qp_check_course.proofs.DoneLemmas.{open_in, start-under, told-counts, one_if}
 use Rattle.qp_check_course.proofs.NextLemmas.{goes-next}
 use Rattle.qp_check_course.proofs.PassLemmas.{pass-none, pass-point}
 use Rattle.qp_check_course.proofs.ReadyLemmas.{ready-next}
@@ -120,9 +120,6 @@ module _ (sys : System) (a : Actor) (able : chart_able sys a.chart ≡ true) (c 
 no-done : (b : Body) → is_turn_mark b ≡ true → is_done_record b ≡ false
 no-done body.Done mark = absurd (cc)
 no-done b mark = refl
-
-abbrev one_if : Bool → ℕ
-one_if b = cond b 1 0
 
 module _ (p : Body → Bool) (other : (b : Body) → is_turn_mark b ≡ true → p b ≡ false) where
   counts : (ts : List Told) → count_by (λ t. p t.body) (dispatched ts) ≡ count_by (λ t. p t.body) ts

@@ -22,7 +22,7 @@ use Rattle.qp_port_lanes.specs.Turning.{HomeIdles}
 use Rattle.qp_wait.specs.Parked.{is_empty_look}
 use Rattle.qp_wait.specs.Pausing.{HasLook}
 
-same-test : (n m : ℕ) → n ≡ m → (n == m) ≡ true
+pub same-test : (n m : ℕ) → n ≡ m → (n == m) ≡ true
 same-test n m is = grind (arith, nat_tests, is)
 
 counts-f : (g k n f l m : ℕ) → Counts g k n ≡ Counts f l m → (g ≡ f) × (k ≡ l) × (n ≡ m)

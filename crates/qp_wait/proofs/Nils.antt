@@ -13,9 +13,7 @@ use Rattle.qp_kernel.specs.Turning.{seen_told}
 use Rattle.qp_port_lanes.specs.Takes.{AddsEmpty, AddsNoTake, AddsTook, is_take}
 use Rattle.qp_model.specs.OutputSummary.{is_took}
 use Rattle.qp_wait.specs.Waiting.{holds_place, is_nil_at, steps_in}
-
-self-test : (n : ℕ) → (n == n) ≡ true
-self-test n = grind (arith, nat_tests)
+use Rattle.qp_model.proofs.LineLemmas.{same_number}
 
 or-true : (b : Bool) → (b || true) ≡ true
 or-true true = refl
@@ -24,7 +22,7 @@ or-true false = refl
 -- Places.
 
 pub holds-last : (ks : List ℕ) (n : ℕ) → holds_place (ks ++ n ∷ []) n ≡ true
-holds-last [] n = ap (λ b. b || false) (self-test n)
+holds-last [] n = ap (λ b. b || false) (same_number n)
 holds-last (k ∷ ks) n = ap (λ b. (k == n) || b) (holds-last ks n) ∙ or-true (k == n)
 
 pub holds-more : (ks : List ℕ) (k n : ℕ) → holds_place ks k ≡ true → holds_place (ks ++ n ∷ []) k ≡ true
@@ -138,7 +136,7 @@ module _ (old : List ToldItem) (ks : List ℕ) where
     one-nil n most h = by e.told
       where
         is-empty : is_empty_look me me (body.Nil e.f e.l e.m) ≡ true
-        is-empty = rw (self-test me, e.empty) (self-test e.m)
+        is-empty = rw (same_number me, e.empty) (same_number e.m)
 
         by : (new ≡ told) ⊎ ((new ≡ told ++ for_object me (plain (body.Nil e.f e.l e.m)) ∷ []) ⊎ (new ≡ told ++ seen_told me e.f e.l e.m ∷ [])) → (holds_place ks n ≡ true) ⊎ ((n + 1 ≡ length new) × (is_park_place me new n ≡ true))
         by (inl same) = inl (all n most (subst (λ xs. is_nil_at xs n ≡ true) same h))

@@ -8,9 +8,7 @@ use Rattle.qp_wait.specs.declared.hanging.Waking.{Waking}
 use Rattle.qp_wait.specs.declared.hanging.Rope.{Rope}
 use Rattle.qp_wait.specs.Parked.{have_all}
 use Rattle.qp_wait.specs.Ropes.{AreRopes, IsRopeOf}
-
-same-test : (n m : ℕ) → n ≡ m → (n == m) ≡ true
-same-test n m is = grind (arith, nat_tests, is)
+use Rattle.qp_wait.proofs.FoundEmpty.{same-test}
 
 -- each gave one note more
 pub all-said : (n : ℕ) (cs ds : List Cord) → have_all n cs ≡ true → map (λ c. c.pulls) ds ≡ map (λ c. (c.pulls + 1) % 2 ^ 64) cs → have_all ((n + 1) % 2 ^ 64) ds ≡ true
@@ -24,10 +22,6 @@ all-said n (c ∷ cs) (d ∷ ds) h more =
     let one : d.pulls ≡ (c.pulls + 1) % 2 ^ 64 = ap (λ xs. get_or xs 0 0) more in
     let rest : map (λ x. x.pulls) ds ≡ map (λ x. (x.pulls + 1) % 2 ^ 64) cs = ap (drop 1) more in
     and_from (d.pulls == (n + 1) % 2 ^ 64) (have_all ((n + 1) % 2 ^ 64) ds) (same-test d.pulls ((n + 1) % 2 ^ 64) (one ∙ ap (λ k. (k + 1) % 2 ^ 64) same)) (all-said n cs ds parts.1 rest)
-
--- as many stand there
-pub long-as : (cs ds : List Cord) → map (λ c. c.object) ds ≡ map (λ c. c.object) cs → length ds ≡ length cs
-long-as cs ds same = sym (length-map ds (λ c. c.object)) ∙ ap length same ∙ length-map cs (λ c. c.object)
 
 -- one rope more
 pub ropes-last : (ws : List Waking) (rs : List Rope) (w : Waking) (r : Rope) → IsRopeOf w r → AreRopes ws rs → AreRopes (ws ++ w ∷ []) (rs ++ r ∷ [])

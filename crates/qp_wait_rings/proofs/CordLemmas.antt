@@ -324,7 +324,7 @@ pub whole : {A : Type 0} (n : ℕ) (xs ys : List A) → n ≡ length ys → leng
 whole n xs ys len same =
     ap (λ k. take n (xs ++ drop k ys)) same ∙ ap (λ zs. take n (xs ++ zs)) (drop-all ys) ∙ ap (take n) (append-nil xs) ∙ ap (λ k. take k xs) (len ∙ sym same) ∙ take-all xs
 
-long-as : (cs ds : List Cord) → map (λ c. c.object) ds ≡ map (λ c. c.object) cs → length ds ≡ length cs
+pub long-as : (cs ds : List Cord) → map (λ c. c.object) ds ≡ map (λ c. c.object) cs → length ds ≡ length cs
 long-as cs ds same = sym (length-map ds (λ c. c.object)) ∙ ap length same ∙ length-map cs (λ c. c.object)
 
 pub settled-long : (a : ℕ) (old new : List Cord) (refused more : ℕ) (was is : Tally) (r : Claim) → SettlesClaim a old new refused more was is r → length new ≡ length old

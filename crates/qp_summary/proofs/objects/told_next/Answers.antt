@@ -4,7 +4,8 @@ use Rattle.qp_model.specs.OutputSummary.{is_took}
 use Rattle.qp_model.specs.Told.{Told}
 use Rattle.qp_check_course.specs.Reading.{ReadsOn}
 use Rattle.qp_check_course.specs.declared.reading.CourseReading.{CourseReading}
-use Rattle.qp_summary.proofs.ComingLemmas.{on-mark, on-step, on-none, one_if}
+use Rattle.qp_summary.proofs.ComingLemmas.{on-mark, on-step, on-none}
+use Rattle.qp_check_course.proofs.DoneLemmas.{one_if}
 use Rattle.qp_summary.proofs.objects.told_next.Goals as goal
 use Rattle.qp_summary.proofs.objects.told_next.Goals.{then-is_took, else-is_took}
 

@@ -4,16 +4,17 @@ use Rattle.qp_side.specs.Ending.{joined_last}
 use Rattle.qp_side.specs.declared.seat.SideSeat.{SideSeat}
 use Rattle.qp_side.specs.Laws.{IsSideWhole}
 use Rattle.qp_side.proofs.EndLemmas.{ends}
-use Rattle.qp_side.proofs.Finishing.{view_of, joined-next, rights-next, one-each, empty-list}
+use Rattle.qp_side.proofs.Finishing.{view_of, joined-next, rights-next, one-each}
+use Rattle.qp_table.proofs.Facts.{none-long}
 use Rattle.qp_side.proofs.side.Side.finish.Goals as goal
 
 pub returns : goal.returns
 returns c =
     let i = c.loop-next.invariant in
-    let none : c.loop-next.seats.items ≡ [] = (let ok = c.loop-next.seats.ok.0 in let e = c.in_default.ensures.cases.0 in empty-list c.loop-next.seats.items (omega arith)) in
+    let none : c.loop-next.seats.items ≡ [] = (let ok = c.loop-next.seats.ok.0 in let e = c.in_default.ensures.cases.0 in none-long c.loop-next.seats.items (omega arith)) in
     let whole : IsSideWhole c.args.self.now.words.shared.key (joined_last c.args.root.seat.me.0 (map view_of c.args.seats.items)) =
     subst (IsSideWhole c.args.self.now.words.shared.key) (ap (λ xs. joined_last c.loop-next.whole.me.0 (map view_of xs)) (sym none) ∙ i.joined) c.know_whole.ensures.told.1 in
-    ends c.args.self.now.words.shared.key c.args.self.now.fitting c.args.root.seat.me.0 (map view_of c.args.seats.items) (empty-list c.args.root.seat.me.0.view.logs c.args.root.none) (empty-list c.args.root.seat.me.0.stops c.args.root.quiet) (one-each c.args.seats.items) whole
+    ends c.args.self.now.words.shared.key c.args.self.now.fitting c.args.root.seat.me.0 (map view_of c.args.seats.items) (none-long c.args.root.seat.me.0.view.logs c.args.root.none) (none-long c.args.root.seat.me.0.stops c.args.root.quiet) (one-each c.args.seats.items) whole
 
 pub loop-next-preserved : goal.loop-next-preserved
 loop-next-preserved c =

@@ -1,8 +1,8 @@
 use Rattle.std.proofs.Common.{◌≡◌, ◌+◌, ◌%◌, ◌^◌, true, ap, length, map, subst, sym, ◌∙◌}
 use Rattle.qp_wait_rings.specs.declared.cord.Cord.{Cord}
 use Rattle.qp_wait.specs.Parked.{have_all}
-use Rattle.qp_wait_rings.proofs.CordLemmas.{whole}
-use Rattle.qp_wait.proofs.Saying.{all-said, long-as}
+use Rattle.qp_wait_rings.proofs.CordLemmas.{whole, long-as}
+use Rattle.qp_wait.proofs.Saying.{all-said}
 use Rattle.qp_wait.proofs.farewells.Farewells.say.Goals as goal
 
 pub invariant_of-self : goal.invariant_of-self
