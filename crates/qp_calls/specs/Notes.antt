@@ -8,6 +8,7 @@ use Rattle.qp_model.specs.Record.{body_of}
 use Rattle.qp_model.specs.Ends.{is_spill}
 use Rattle.qp_model.specs.Told.{Told, ToldItem, plain, raised}
 use Rattle.qp_model.specs.Shapes.{ticks_fit}
+use Rattle.qp_model.specs.Stops as stop
 use Rattle.qp_calls.specs.LaneView.{LaneView, ceiling_in}
 
 -- a note that needs spare and nothing else
@@ -84,4 +85,4 @@ last_code (t ∷ u ∷ ts) = last_code (u ∷ ts)
 
 -- a lane hands in 7 for want of memory, or the code of its last record
 abbrev pub MayStop : ℕ → LaneView → Type 0
-MayStop code v = (code ≡ 7) ⊎ ((0 < code) × (last_code v.told ≡ code))
+MayStop code v = (code ≡ stop.memory) ⊎ ((0 < code) × (last_code v.told ≡ code))

@@ -13,6 +13,7 @@ use Rattle.qp_model.specs.Parts.{is_static, members, sizes_of}
 use Rattle.qp_model.specs.Sites.{ring_of}
 use Rattle.qp_model.specs.Shapes.{Fits, Drops, MakesNew, PostsOne, PostsToAll, PostsUpTo, PublishesFirst, PublishesLast}
 use Rattle.qp_model.specs.WordLaw.{is_object}
+use Rattle.qp_model.specs.Stops as stop
 use Rattle.qp_calls.specs.declared.answers.RoomFault.{RoomFault}
 use Rattle.qp_calls.specs.declared.did.Did.{Did}
 use Rattle.qp_calls.specs.declared.did.Did.TheVariants as did
@@ -146,7 +147,7 @@ pub record PostsCut (e : model.Entry) (all : ℕ) (old new : LaneView) : Type 0 
 
 abbrev pub PostsAll : model.Entry → ℕ → LaneView → LaneView → Result Did RoomFault → Type 0
 PostsAll e all old new (Ok (did.Value n)) = (n ≡ 1) × PostsWhole e all old new
-PostsAll e all old new (Ok (did.Assert code)) = (code ≡ 1) × PostsUpToFull e all old new
+PostsAll e all old new (Ok (did.Assert code)) = (code ≡ stop.no_entry) × PostsUpToFull e all old new
 PostsAll e all old new (Err fault) = PostsCut e all old new × IsFault new fault
 
 -- the posts so far

@@ -7,6 +7,7 @@ use Rattle.qp_model.specs.declared.bodies.Body.TheVariants.{Tick, Fire}
 use Rattle.qp_model.specs.Told.{Told, ToldItem}
 use Rattle.qp_model.specs.Sites.{ring_of}
 use Rattle.qp_model.specs.Sources.{Ticks, TicksOne, FiresInVain}
+use Rattle.qp_model.specs.Stops as stop
 use Rattle.qp_calls.specs.declared.answers.RoomFault.{RoomFault}
 use Rattle.qp_calls.specs.declared.did.Did.{Did}
 use Rattle.qp_calls.specs.declared.did.Did.TheVariants as did
@@ -43,7 +44,7 @@ pub record FiredInVain (t object sig : ℕ) (old new : LaneView) : Type 0 where
 
 abbrev pub TicksTimer : ℕ → ℕ → ℕ → LaneView → LaneView → Result Did RoomFault → Type 0
 TicksTimer t object sig old new (Ok (did.Value n)) = TickedTimer t object sig old new
-TicksTimer t object sig old new (Ok (did.Assert code)) = (code ≡ 1) × FiredInVain t object sig old new
+TicksTimer t object sig old new (Ok (did.Assert code)) = (code ≡ stop.no_entry) × FiredInVain t object sig old new
 TicksTimer t object sig old new (Err fault) = Refused fault old new
 
 -- The ticks of a rate: all of them, or up to one whose post found no entry, or up to where `room` refused.
@@ -63,7 +64,7 @@ pub record TickCut (rate : ℕ) (old new : LaneView) : Type 0 where
 
 abbrev pub TicksRate : ℕ → LaneView → LaneView → Result Did RoomFault → Type 0
 TicksRate rate old new (Ok (did.Value n)) = (n ≡ 1) × TickedAll rate false old new
-TicksRate rate old new (Ok (did.Assert code)) = (code ≡ 1) × TickedAll rate true old new
+TicksRate rate old new (Ok (did.Assert code)) = (code ≡ stop.no_entry) × TickedAll rate true old new
 TicksRate rate old new (Err fault) = TickCut rate old new × IsFault new fault
 
 -- the timers of this front of the list

@@ -18,6 +18,7 @@ use Rattle.qp_model.specs.Step.{Remainder, StepGoesOn, moment, whole_step}
 use Rattle.qp_model.specs.Course.{at_start}
 use Rattle.qp_model.specs.Standing.{StepAdvances, AgendaReaches}
 use Rattle.qp_model.specs.Able.{chart_able, task_able}
+use Rattle.qp_model.specs.Stops as stop
 use Rattle.qp_calls.specs.declared.tokens.HeldEntry.{HeldEntry}
 use Rattle.qp_calls.specs.declared.tokens.HeldEntry.TheVariants as token
 use Rattle.qp_calls.specs.LaneView.{LaneView, Grows, GrowsOf, ceiling_in}
@@ -166,7 +167,7 @@ pub record EndsSpilled (home : ObjectSetting) (k : Lasting) (s : Position) (m : 
   pub begins : BeginsOn v.sys (actor_of home.me home.chart k) (step_event s v) (step_entry s) (remainder_of home k s v) (config_of k) g
   pub few : 999992 < length mid.told
   pub spills : GrowsOf 0 (plain (item.Spill (length mid.told)) ∷ []) mid full
-  pub stops : Stops 6 full w
+  pub stops : Stops stop.spent_or_full full w
   pub stand : StandAll (held_in m z) w
 
 -- memory was refused to a lane that isn't full, and it stopped

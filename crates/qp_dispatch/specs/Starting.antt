@@ -6,6 +6,7 @@ use Rattle.qp_model.specs.Told.{Told, plain}
 use Rattle.qp_model.specs.Pieces.{tell}
 use Rattle.qp_model.specs.Acts.{Config}
 use Rattle.qp_model.specs.Course.{Starts}
+use Rattle.qp_model.specs.Stops as stop
 use Rattle.qp_calls.specs.LaneView.{LaneView, Grows, GrowsOf}
 use Rattle.qp_calls.specs.Clauses.{Stops, entry_of}
 use Rattle.qp_calls.specs.Notes.{last_code}
@@ -56,7 +57,7 @@ pub record StartSpilled (home : ObjectSetting) (k m : Lasting) (v w : LaneView) 
   pub begins : BeginsStart home k g v
   pub few : 999992 < length mid.told
   pub spills : GrowsOf 0 (plain (item.Spill (length mid.told)) ∷ []) mid full
-  pub stops : Stops 6 full w
+  pub stops : Stops stop.spent_or_full full w
   pub stand : StandAll m.list.entries.items w
 
 -- memory was refused to a lane that isn't full, and it stopped

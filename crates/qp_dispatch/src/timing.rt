@@ -12,7 +12,7 @@ ghost use Rattle.qp_calls.specs.Groups.{CallReturns};
 
 use qp_base::Steps;
 use qp_calls::{Arm, Did, Ops, RoomFault};
-use qp_model::Rec;
+use qp_model::{Rec, stops};
 use std::sync::ledger::Ledger;
 
 /// Whether a timer takes so many ticks and this interval.
@@ -51,11 +51,13 @@ pub(crate) fn arm<O: Ops, L: Ledger>(
     ops.room()?;
     if !fits(ticks, interval) {
         refuse(ops, me, t, ticks, interval);
-        return Ok(Did::Assert { code: 4 });
+        return Ok(Did::Assert {
+            code: stops::BAD_TICKS,
+        });
     }
     match ops.arm(t, ticks as u16, interval as u16, steps) {
         Arm::Done => Ok(Did::Value(1)),
-        Arm::Armed { .. } => Ok(Did::Assert { code: 3 }),
+        Arm::Armed { .. } => Ok(Did::Assert { code: stops::ARMED }),
     }
 }
 
@@ -76,7 +78,9 @@ pub(crate) fn rearm<O: Ops, L: Ledger>(
     ops.room()?;
     if !fits(ticks, 0) {
         refuse(ops, me, t, ticks, 0);
-        return Ok(Did::Assert { code: 4 });
+        return Ok(Did::Assert {
+            code: stops::BAD_TICKS,
+        });
     }
     if ops.rearm(t, ticks as u16, steps) == 0 {
         return Ok(Did::Value(0));

@@ -8,6 +8,7 @@ use Rattle.qp_model.specs.History.{lane_items}
 use Rattle.qp_model.specs.End.{has_room}
 use Rattle.qp_model.specs.OneOrder.{enters, leaves}
 use Rattle.qp_model.specs.WordLaw.{is_object}
+use Rattle.qp_model.specs.Stops as stop
 use Rattle.qp_calls.specs.Notes.{stop_code}
 use Rattle.qp_plain_sound.specs.Log.{lane_recs, log_of}
 use Rattle.qp_plain_sound.specs.Sound.{SoundWorld, facts_in, hands_in}
@@ -19,7 +20,7 @@ use Rattle.qp_kernel_runs.specs.SimView.{sim_view}
 
 -- a record of these lanes ends its lane with this code
 abbrev pub has_cause : List (List Rec) → ℕ → Bool
-has_cause lanes code = (code == 7) || list_any (λ lane. list_any (λ i. stop_code i.body == code) (lane_items lane)) lanes
+has_cause lanes code = (code == stop.memory) || list_any (λ lane. list_any (λ i. stop_code i.body == code) (lane_items lane)) lanes
 
 -- These are the lanes of the world: lane 0 and the sources tell what is seen of them, the log is their order, and all words keep their laws.
 -- A code that was found is 7, or a record stands for it.

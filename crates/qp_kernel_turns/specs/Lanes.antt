@@ -10,6 +10,7 @@ use Rattle.qp_dispatch.specs.declared.steps.Step.{Step}
 use Rattle.qp_dispatch.specs.declared.steps.Step.TheVariants as step
 use Rattle.qp_kernel_turns.specs.declared.halting.Halt.{Halt}
 use Rattle.qp_kernel_turns.specs.declared.halting.Halt.TheVariants as halt
+use Rattle.qp_model.specs.Stops as stop
 
 -- It is the same lane of the same world, for the same system and stimuli, which went on from what it knew. A lane that was given to code over any
 -- lanes comes back as this, whatever the answer was.
@@ -52,7 +53,7 @@ pub record HasFound (v w : LaneView) : Type 0 where
 -- for want of memory, and only for that, the lane hands in 7
 abbrev pub HandsIn : LaneView → LaneView → Halt → Type 0
 HandsIn v w halt.Stopped = HandsCode v w ⊎ HasFound v w
-HandsIn v w halt.Memory = w.stops ≡ 7 ∷ v.stops
+HandsIn v w halt.Memory = w.stops ≡ stop.memory ∷ v.stops
 
 -- the run goes on: no code was handed in, and none was found
 pub record LaneGoes (acts : Bool) (v w : LaneView) : Type 0 where

@@ -7,6 +7,7 @@ use Rattle.qp_model.specs.Ends.{may_cut}
 use Rattle.qp_model.specs.KernelLane.{Inside}
 use Rattle.qp_model.specs.Sites.{object_at}
 use Rattle.qp_model.specs.Told.{ToldItem}
+use Rattle.qp_model.specs.Stops as stop
 use Rattle.qp_calls.specs.Clauses.{Stops}
 use Rattle.qp_calls.specs.LaneView.{Gains, IsNew, LaneView}
 use Rattle.qp_calls.specs.Notes.{last_code}
@@ -82,7 +83,7 @@ abbrev pub StartsOne : System → ℕ → Objects → Objects → LaneView → L
 StartsOne sys place xs ys v w step.Point = ⊥
 StartsOne sys place xs ys v w step.Done = HaveBegun sys (priorities_from sys place) ys w × GrowsAlong 1 xs v ys w
 StartsOne sys place xs ys v w step.Stopped = (h : StartStopped sys v w) × (h.before ≡ 0)
-StartsOne sys place xs ys v w step.Memory = GrowsAndStops 7 v w
+StartsOne sys place xs ys v w step.Memory = GrowsAndStops stop.memory v w
 
 -- all objects rest, and a kernel that has not looked yet may look
 pub record AllStarted (sys : System) (xs ys : Objects) (v w : LaneView) : Type 0 where
@@ -96,4 +97,4 @@ abbrev pub StartsAll : System → Objects → Objects → LaneView → LaneView 
 StartsAll sys xs ys v w step.Point = ⊥
 StartsAll sys xs ys v w step.Done = AllStarted sys xs ys v w
 StartsAll sys xs ys v w step.Stopped = StartStopped sys v w
-StartsAll sys xs ys v w step.Memory = GrowsAndStops 7 v w
+StartsAll sys xs ys v w step.Memory = GrowsAndStops stop.memory v w

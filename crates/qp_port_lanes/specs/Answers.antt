@@ -6,6 +6,7 @@ use Rattle.qp_dispatch.specs.declared.objects.Turn.{Turn}
 use Rattle.qp_dispatch.specs.declared.objects.Turn.TheVariants as turn
 use Rattle.qp_port_phases.specs.declared.lanes.Passed.{Passed}
 use Rattle.qp_port_phases.specs.declared.lanes.Passed.TheVariants as passed
+use Rattle.qp_model.specs.Stops as stop
 
 abbrev pub is_idle : Turn → Bool
 is_idle turn.Idle = true
@@ -26,7 +27,7 @@ turn_by passed.Memory = turn.Memory
 
 -- no 7 was handed in, which tells of want of memory
 abbrev pub IsFed : LaneView → Type 0
-IsFed v = list_any (λ code. code == 7) v.stops ≡ false
+IsFed v = list_any (λ code. code == stop.memory) v.stops ≡ false
 
 -- a turn with this answer handed in none, unless memory was refused in it
 abbrev pub Feeds : LaneView → LaneView → Turn → Type 0

@@ -6,6 +6,7 @@ use Rattle.qp_model.specs.declared.systems.System.{System}
 use Rattle.qp_model.specs.Told.{ToldItem}
 use Rattle.qp_model.specs.Kernels.{may_try}
 use Rattle.qp_model.specs.Ends.{may_cut}
+use Rattle.qp_model.specs.Stops as stop
 use Rattle.qp_calls.specs.LaneView.{LaneView}
 use Rattle.qp_dispatch.specs.declared.objects.Turn.{Turn}
 use Rattle.qp_dispatch.specs.declared.objects.Turn.TheVariants as turn
@@ -58,7 +59,7 @@ pub record SourceHasStopped (sys : System) (x y : Cursor) (v w : LaneView) : Typ
 pub record SourceStarves (v w : LaneView) : Type 0 where
   pub ts : List ToldItem
   pub told : w.told ≡ v.told ++ ts
-  pub stops : w.stops ≡ 7 ∷ v.stops
+  pub stops : w.stops ≡ stop.memory ∷ v.stops
   pub keeps : SameLane v w
 
 abbrev pub SourceTurns : System → Cursor → Cursor → LaneView → LaneView → Turn → Type 0

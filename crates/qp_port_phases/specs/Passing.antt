@@ -5,6 +5,7 @@ use Rattle.qp_model.specs.declared.words.Word.TheVariants as word
 use Rattle.qp_model.specs.Sources.{SeesEmpty, SeesEntry, priorities}
 use Rattle.qp_model.specs.Told.{Told, for_object, plain}
 use Rattle.qp_model.specs.WordLaw.{is_object}
+use Rattle.qp_model.specs.Stops as stop
 use Rattle.qp_calls.specs.declared.answers.Counts as counts
 use Rattle.qp_calls.specs.LaneView.{LaneView, Counts}
 use Rattle.qp_port_phases.specs.declared.lanes.Passed.{Passed}
@@ -49,4 +50,4 @@ abbrev pub PassesTo : LaneView → LaneView → Passed → Type 0
 PassesTo v w passed.Yes = PassesHere v w
 PassesTo v w (passed.Found p c) = FindsHere p c v w
 PassesTo v w passed.Stopped = StopsNow v w ⊎ ((w ≡ v) × HasStopped v)
-PassesTo v w passed.Memory = (w.stops ≡ 7 ∷ v.stops) ⊎ ((w ≡ v) × HasStarved v)
+PassesTo v w passed.Memory = (w.stops ≡ stop.memory ∷ v.stops) ⊎ ((w ≡ v) × HasStarved v)

@@ -2,6 +2,7 @@
 use Rattle.std.specs.Prelude.{◌≡◌, ◌⊎◌, ℕ, ◌+◌, ◌<◌, ◌≤◌, Bool, true, false, List, [], ◌∷◌, length, ⊤, IsTrue}
 use Rattle.std.specs.List.{AllByRecursion, list_all, list_any}
 use Rattle.qp_model.specs.declared.words.Word.TheVariants as word
+use Rattle.qp_model.specs.Stops as stop
 use Rattle.qp_calls.specs.LaneView.{LaneView, Counts, is_codeless}
 use Rattle.qp_port_phases.specs.Floors.{AllUnder}
 
@@ -37,7 +38,7 @@ HasEnded view remains objects (first ∷ others) = IsQuiet view remains objects 
 
 -- 7 tells of want of memory
 abbrev pub IsCodeOf : Bool → ℕ → Type 0
-IsCodeOf true code = code ≡ 7
+IsCodeOf true code = code ≡ stop.memory
 IsCodeOf false code = (0 < code) × (code ≤ 6)
 
 -- The lane has just found a code in the stop word, in this call: it found more codes than before, or has handed in one since.

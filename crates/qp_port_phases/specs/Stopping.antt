@@ -2,6 +2,7 @@
 use Rattle.std.specs.Prelude.{◌≡◌, ◌⊎◌, ℕ, ◌<◌, ◌≤◌, List, [], ◌∷◌, length}
 use Rattle.qp_calls.specs.LaneView.{LaneView}
 use Rattle.qp_calls.specs.Notes.{last_code}
+use Rattle.qp_model.specs.Stops as stop
 
 -- no code was handed in, and none found
 abbrev pub SameCodes : LaneView → LaneView → Type 0
@@ -25,7 +26,7 @@ HasStopped v = HandedLast v ⊎ (0 < length v.answered)
 -- memory was refused to it
 pub record HasStarved (v : LaneView) : Type 0 where
   pub others : List ℕ
-  pub stops : v.stops ≡ 7 ∷ others
+  pub stops : v.stops ≡ stop.memory ∷ others
 
 -- one of these lanes has stopped
 abbrev pub AnyStopped : List LaneView → Type 0

@@ -3,6 +3,7 @@ use Rattle.std.specs.Prelude.{◌≡◌, ℕ, ◌+◌, ◌<◌, true, false, Boo
 use Rattle.std.specs.declared.result.Result.{Result}
 use Rattle.qp_base.specs.declared.faults.Memory.{Memory}
 use Rattle.qp_model.specs.Told.{ToldItem}
+use Rattle.qp_model.specs.Stops as stop
 use Rattle.qp_calls.specs.Clauses.{Stopped, Stops}
 use Rattle.qp_calls.specs.LaneView.{LaneView}
 use Rattle.qp_kernel.specs.Interrupting.{is_unset}
@@ -56,7 +57,7 @@ pub record IsStopFound (old new : BellLane) : Type 0 where
 -- it couldn't park, and handed in 7 from there on
 pub record FailsToPark (from : LaneView) (old new : BellLane) : Type 0 where
   pub rests : LaneRests false old new
-  pub stops : Stops 7 from (bell_view new)
+  pub stops : Stops stop.memory from (bell_view new)
   pub parks : parks_of new.perch ≡ parks_of old.perch
 
 -- The turn is over exactly where nothing was found on the count. Else the stop word was looked at, once.
