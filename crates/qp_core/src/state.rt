@@ -4,6 +4,7 @@ ghost use Rattle.std.specs.Prelude.{◌≡◌, ℕ, ◌<◌, ◌≤◌, ◌++◌
 ghost use Rattle.std.specs.List.{position};
 ghost use Rattle.qp_model.specs.Sound.{IsSound};
 ghost use Rattle.qp_table.specs.First.{first_word, first_serve, first_serves};
+ghost use Rattle.qp_table.specs.Rule.{table_words};
 ghost use Rattle.qp_core.specs.State.{stands_as, bare_seat, lane_records, records_at, SetsBy};
 ghost use Rattle.qp_core_steps.specs.Looks.{word_in};
 ghost use Rattle.qp_core.specs.Runs.{HoldsOf, IsFirstState, first_seat};
@@ -87,8 +88,8 @@ fn first_word(sys: &System, at: usize) -> u64
 
 /// The words where nothing has happened.
 fn first_words(alloc: Global, sys: &System) -> Result<Words, Memory>
-    ensures wide { IfOk result (λ w. length w ≡ 21128) }
-    ensures each { IfOk result (λ w. (k : ℕ) → k < 21128 → slice_index w k ≡ first_word sys.now k) }
+    ensures wide { IfOk result (λ w. length w ≡ table_words) }
+    ensures each { IfOk result (λ w. (k : ℕ) → k < table_words → slice_index w k ≡ first_word sys.now k) }
 {
     let mut items = Vec::new(alloc);
     for at in 0..WORDS {

@@ -6,6 +6,7 @@ ghost use Rattle.qp_model.specs.End.{end_of};
 ghost use Rattle.qp_model.specs.Ends.{ends_last};
 ghost use Rattle.qp_model.specs.History.{all_items, lane_items};
 ghost use Rattle.qp_model.specs.Sound.{IsSound};
+ghost use Rattle.qp_model.specs.Limits.{budget_limit};
 ghost use Rattle.qp_stim.specs.Rules.{StimuliFit};
 ghost use Rattle.qp_kernel.specs.Turning.{kernel_in, under};
 ghost use Rattle.qp_kernel_runs.specs.SimView.{sim_view};
@@ -83,7 +84,7 @@ fn run<R: Wait>(
     cooperative: bool,
 ) -> Ended
     requires sound { IsSound sys.now }
-    requires few { budget ≤ 1000000 }
+    requires few { budget ≤ budget_limit }
     requires may { MayRunKernel sys.now objects.old (sim_view world.old) }
     ensures goes { KernelRunsTo sys.now (under cooperative budget) (sim_view world.old) (sim_view world.new) result.turn }
     ensures rests { RestsAfter sys.now (sim_view world.new).told result.turn result.rests.items }
@@ -150,7 +151,7 @@ fn simulate<R: Wait>(
 ) -> Result<Simulated, Memory>
     requires sound { IsSound sys.now }
     requires fit { StimuliFit sys.now stim.now }
-    requires few { budget ≤ 1000000 }
+    requires few { budget ≤ budget_limit }
     ensures run { IfOk result (λ run. IsRunOf sys.now stim.now (under cooperative budget) run.journal) }
     ensures rests { IfOk result (λ run. AreRestsIn sys.now run.journal run.rests.items) }
 {
@@ -201,7 +202,7 @@ pub fn run_sim<R: Wait>(
     requires sound { IsSound sys.now }
     requires fit { StimuliFit sys.now stim.now }
     requires some { 0 < budget }
-    requires few { budget ≤ 1000000 }
+    requires few { budget ≤ budget_limit }
     ensures { IfOk result (λ j. IsSimRun sys.now stim.now budget j) }
 {
     Ok(sim_with_rests(rt, alloc, sys, stim, budget)?.journal)
@@ -219,7 +220,7 @@ pub fn run_qv<R: Wait>(
     requires sound { IsSound sys.now }
     requires fit { StimuliFit sys.now stim.now }
     requires some { 0 < budget }
-    requires few { budget ≤ 1000000 }
+    requires few { budget ≤ budget_limit }
     ensures { IfOk result (λ j. IsQvRun sys.now stim.now budget j) }
 {
     Ok(qv_with_rests(rt, alloc, sys, stim, budget)?.journal)
@@ -236,7 +237,7 @@ pub fn sim_with_rests<R: Wait>(
     requires sound { IsSound sys.now }
     requires fit { StimuliFit sys.now stim.now }
     requires some { 0 < budget }
-    requires few { budget ≤ 1000000 }
+    requires few { budget ≤ budget_limit }
     ensures run { IfOk result (λ run. IsSimRun sys.now stim.now budget run.journal) }
     ensures rests { IfOk result (λ run. AreRestsIn sys.now run.journal run.rests.items) }
 {
@@ -254,7 +255,7 @@ pub fn qv_with_rests<R: Wait>(
     requires sound { IsSound sys.now }
     requires fit { StimuliFit sys.now stim.now }
     requires some { 0 < budget }
-    requires few { budget ≤ 1000000 }
+    requires few { budget ≤ budget_limit }
     ensures run { IfOk result (λ run. IsQvRun sys.now stim.now budget run.journal) }
     ensures rests { IfOk result (λ run. AreRestsIn sys.now run.journal run.rests.items) }
 {

@@ -3,6 +3,7 @@
 ghost use Rattle.std.specs.Prelude.{◌≡◌, ◌+◌, ◌-◌, ◌<◌, ◌≤◌, [], false, true, IfErr, IfOk, length, reverse, slice_get};
 ghost use Rattle.qp_model.specs.KernelLane.{above, floor_in};
 ghost use Rattle.qp_model.specs.Sound.{IsSound};
+ghost use Rattle.qp_model.specs.Limits.{budget_limit};
 ghost use Rattle.qp_stim.specs.Rules.{StimuliFit};
 ghost use Rattle.qp_kernel.specs.Turning.{kernel_in};
 ghost use Rattle.qp_told.specs.Steps.{TellsSteps};
@@ -132,7 +133,7 @@ fn visit<R: Wait, W: World, G: Tells>(
     place: usize,
 ) -> Result<bool, Halt>
     requires sound { IsSound at.now.sys.now }
-    requires few { at.now.budget ≤ 1000000 }
+    requires few { at.now.budget ≤ budget_limit }
     requires place { place < length at.now.sys.now.objects }
     requires knows { Stood (IsScanning at.now.sys.now (terms_of at.now) (row_below at.now.sys.now floor (place + 1))) at.now.sys.now
         (terms_of at.now)
@@ -205,7 +206,7 @@ pub fn scan<R: Wait, W: World, G: Tells>(
     floor: u8,
 ) -> Result<bool, Halt>
     requires sound { IsSound at.now.sys.now }
-    requires few { at.now.budget ≤ 1000000 }
+    requires few { at.now.budget ≤ budget_limit }
     requires knows { Stood (IsScanning at.now.sys.now (terms_of at.now) (above at.now.sys.now floor)) at.now.sys.now (terms_of at.now)
         (stand_of kernel.old objects.old (W.lane world.old)) }
     requires order { InOrder W.acts at.now.sys.now kernel.old.looks (W.lane world.old) }
@@ -282,7 +283,7 @@ fn rounds<R: Wait, W: World, G: Tells, L: Ledger>(
     requires some { 0 < blank.parts }
     requires plain { at.now.cooperative ≡ false }
     requires sound { IsSound at.now.sys.now }
-    requires few { at.now.budget ≤ 1000000 }
+    requires few { at.now.budget ≤ budget_limit }
     requires fit { StimuliFit at.now.sys.now (W.lane world.old).plan }
     requires knows { Stood (MayLook at.now.sys.now (terms_of at.now)) at.now.sys.now (terms_of at.now) (stand_of kernel.old objects.old (W.lane world.old)) }
     requires order { InOrder W.acts at.now.sys.now kernel.old.looks (W.lane world.old) }
@@ -333,7 +334,7 @@ pub fn kernel_turn<R: Wait, W: World, G: Tells>(
 ) -> Turn
     requires plain { at.now.cooperative ≡ false }
     requires sound { IsSound at.now.sys.now }
-    requires few { at.now.budget ≤ 1000000 }
+    requires few { at.now.budget ≤ budget_limit }
     requires fit { StimuliFit at.now.sys.now (W.lane world.old).plan }
     requires knows { Stood (MayLook at.now.sys.now (terms_of at.now)) at.now.sys.now (terms_of at.now) (stand_of kernel.old objects.old (W.lane world.old)) }
     requires order { InOrder W.acts at.now.sys.now kernel.old.looks (W.lane world.old) }

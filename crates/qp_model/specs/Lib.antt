@@ -59,3 +59,4 @@ pub mod OutputFrames
 pub mod OutputSummary
 pub mod TellingKinds
 pub mod Results
+pub mod Limits

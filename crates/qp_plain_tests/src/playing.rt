@@ -2,6 +2,7 @@
 
 ghost use Rattle.std.specs.Prelude.{◌≤◌};
 ghost use Rattle.qp_model.specs.Sound.{IsSound};
+ghost use Rattle.qp_model.specs.Limits.{budget_limit};
 ghost use Rattle.qp_stim.specs.Rules.{StimuliFit};
 ghost use Rattle.qp_kernel_runs.specs.SimView.{sim_view};
 ghost use Rattle.qp_kernel_turns.specs.Objects.{AreMade};
@@ -38,7 +39,7 @@ fn run<R: Wait, G: Gate>(
     gate: &G,
 ) -> (Turn, u64)
     requires sound { IsSound sys.now }
-    requires few { budget ≤ 1000000 }
+    requires few { budget ≤ budget_limit }
     requires made { AreMade sys.now objects.old }
     requires fresh { IsFreshLane sys.now (sim_view world.old) }
     requires fit { StimuliFit sys.now (sim_view world.old).plan }
@@ -72,7 +73,7 @@ pub(crate) fn play<R: Wait, G: Gate>(
 ) -> Result<Played, Memory>
     requires sound { IsSound sys.now }
     requires fit { StimuliFit sys.now stim.now }
-    requires few { budget ≤ 1000000 }
+    requires few { budget ≤ budget_limit }
 {
     let plain = PlainWorld::new(alloc, sys, stim.sources.len() as u32 + 1)?;
     let mut world = SimWorld::new(alloc, plain, stim)?;

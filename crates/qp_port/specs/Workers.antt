@@ -6,6 +6,7 @@ use Rattle.qp_port_lanes.specs.Answers.{IsFed, is_short}
 use Rattle.qp_port_lanes.proofs.Hearing.{hears-itself, hears-then}
 use Rattle.qp_model.specs.declared.systems.System.{System}
 use Rattle.qp_model.specs.Sound.{IsSound}
+use Rattle.qp_model.specs.Limits.{budget_limit}
 use Rattle.qp_calls.specs.LaneView.{LaneView}
 use Rattle.qp_calls.proofs.Advancing.{advances-none, advances-then}
 use Rattle.qp_calls_log.specs.Meeting.{IsTogether}
@@ -19,7 +20,7 @@ use Rattle.qp_port.specs.Jobs.{IsSameJob, JobBegins, JobEnds, JobStands}
 -- it hasn't started
 pub record MayBegin (sys : System) (budget : ℕ) (t : Turn) (x : Job) (v : LaneView) : Type 0 where
   pub sound : IsSound sys
-  pub few : budget ≤ 1000000
+  pub few : budget ≤ budget_limit
   pub idle : t ≡ turn.Idle
   pub begins : JobBegins sys x v
   pub none : v.told ≡ []
@@ -29,7 +30,7 @@ pub record MayBegin (sys : System) (budget : ℕ) (t : Turn) (x : Job) (v : Lane
 -- alone.
 pub record MayTurn (sys : System) (budget : ℕ) (t : Turn) (x : Job) (v : LaneView) : Type 0 where
   pub sound : IsSound sys
-  pub few : budget ≤ 1000000
+  pub few : budget ≤ budget_limit
   pub stands : JobStands sys budget t x v
   pub fed : is_short t ≡ false → IsFed v
 

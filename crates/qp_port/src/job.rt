@@ -4,6 +4,7 @@ ghost use Rattle.std.specs.Prelude.{◌≡◌, ◌≤◌, true, []};
 ghost use Rattle.qp_port_phases.specs.Passing.{PassesTo};
 ghost use Rattle.qp_port_phases.specs.Stopping.{Hears};
 ghost use Rattle.qp_model.specs.Sound.{IsSound};
+ghost use Rattle.qp_model.specs.Limits.{budget_limit};
 ghost use Rattle.qp_kernel_turns.specs.Lanes.{SameLane};
 ghost use Rattle.qp_port_lanes.specs.Answers.{Feeds, turn_by};
 ghost use Rattle.qp_port.specs.declared.job.Job.TheVariants as job;
@@ -81,7 +82,7 @@ pub(crate) fn run_job<R: Wait, O: Ops, G: Tells, T: Turns<O>>(
     turns: &T,
 ) -> Turn
     requires sound { IsSound sys.now }
-    requires few { budget ≤ 1000000 }
+    requires few { budget ≤ budget_limit }
     requires rests { JobRests sys.now budget job.old (O.lane ops.old) }
     ensures stands { JobStands sys.now budget result job.new (O.lane ops.new) }
     ensures same { IsSameJob job.old job.new }

@@ -3,6 +3,7 @@
 ghost use Rattle.std.specs.Prelude.{◌≡◌, ◌≤◌, ◌⊎◌, IfOk, OnOk, length, map, true, false};
 ghost use Rattle.std.specs.List.{AllByRecursion, list_all, list_any};
 ghost use Rattle.qp_model.specs.Sound.{IsSound};
+ghost use Rattle.qp_model.specs.Limits.{budget_limit};
 ghost use Rattle.qp_stim.specs.Rules.{StimuliFit};
 ghost use Rattle.qp_port_phases.specs.declared.phases.PhasesEnd.TheVariants as ended;
 ghost use Rattle.qp_port_phases.specs.Stopping.{AnyStopped};
@@ -116,7 +117,7 @@ pub fn run_lanes_of<R: Threads + Wait + Sync, O: Meets + Send + Drop, G: Gate, T
 ) -> Result<PortRun<O>, Memory>
     requires sound { IsSound at.now.sys.now }
     requires fit { StimuliFit at.now.sys.now at.now.stim.now }
-    requires few { at.now.budget ≤ 1000000 }
+    requires few { at.now.budget ≤ budget_limit }
     requires sources { rounds.now.sources ≡ length at.now.stim.now }
     requires lanes { AreNewLanes at.now.sys.now at.now.stim.now (map O.lane lanes.items) }
     ensures lanes { IfOk result (λ run. AreSameLanes (map O.lane lanes.items) (map O.lane run.lanes.items)) }
@@ -144,7 +145,7 @@ pub fn run_lanes_of_port<R: Threads + Wait + Sync, O: Meets + Send + Drop, G: Ga
 ) -> Result<PortRun<O>, Memory>
     requires sound { IsSound sys.now }
     requires fit { StimuliFit sys.now stim.now }
-    requires few { budget ≤ 1000000 }
+    requires few { budget ≤ budget_limit }
     requires lanes { AreNewLanes sys.now stim.now (map O.lane lanes.items) }
     ensures lanes { IfOk result (λ run. AreSameLanes (map O.lane lanes.items) (map O.lane run.lanes.items)) }
     ensures run { IfOk result (λ run. HasRun sys.now stim.now budget run.done run.rests.items (map O.lane run.lanes.items)) }

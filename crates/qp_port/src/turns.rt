@@ -3,6 +3,7 @@
 ghost use Rattle.std.specs.Prelude.{ℕ, ◌≡◌, ◌≤◌, false};
 ghost use Rattle.qp_dispatch.specs.declared.objects.Turn.{Turn};
 ghost use Rattle.qp_model.specs.Sound.{IsSound};
+ghost use Rattle.qp_model.specs.Limits.{budget_limit};
 ghost use Rattle.qp_kernel_turns.specs.Lanes.{LaneTurns};
 ghost use Rattle.qp_told.specs.Steps.{TellsSteps};
 ghost use Rattle.qp_port_lanes.specs.At.{IsHome};
@@ -38,7 +39,7 @@ pub trait Turns<O: Ops> {
         gate: &mut Told<'_, G>,
     ) -> Turn
         requires sound { IsSound sys.now }
-        requires few { budget ≤ 1000000 }
+        requires few { budget ≤ budget_limit }
         requires knows { IsHome sys.now budget home.old (O.lane ops.old) }
         ensures goes { HomeTurns sys.now budget home.old.me home.new (O.lane ops.new) result }
         ensures lane { LaneTurns false (O.lane ops.old) (O.lane ops.new) result }

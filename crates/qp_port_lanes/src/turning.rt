@@ -2,6 +2,7 @@
 
 ghost use Rattle.std.specs.Prelude.{◌≡◌, ◌≤◌, false};
 ghost use Rattle.qp_model.specs.Sound.{IsSound};
+ghost use Rattle.qp_model.specs.Limits.{budget_limit};
 ghost use Rattle.qp_kernel_turns.specs.Lanes.{LaneTo, LaneTurns};
 ghost use Rattle.qp_told.specs.Steps.{TellsSteps};
 ghost use Rattle.qp_port_lanes.specs.At.{IsBusyHome, IsHome};
@@ -72,7 +73,7 @@ pub fn begin_step<R: Wait, O: Ops, G: Tells>(
     gate: &mut Told<'_, G>,
 ) -> Result<bool, Halt>
     requires sound { IsSound sys.now }
-    requires few { budget ≤ 1000000 }
+    requires few { budget ≤ budget_limit }
     requires knows { IsHome sys.now budget home.old (O.lane ops.old) }
     ensures goes { NextTo sys.now budget home.old.me home.new (O.lane ops.new) result }
     ensures never { UnlessOver (O.lane ops.old) (O.lane ops.new) result }
@@ -145,7 +146,7 @@ fn rounds<R: Wait, O: Ops, G: Tells>(
     gate: &mut Told<'_, G>,
 ) -> Result<(), Halt>
     requires sound { IsSound sys.now }
-    requires few { budget ≤ 1000000 }
+    requires few { budget ≤ budget_limit }
     requires knows { IsHome sys.now budget home.old (O.lane ops.old) }
     ensures goes { HomeLooksTo sys.now budget home.old.me home.new (O.lane ops.new) result }
     ensures never { UnlessFound (O.lane ops.old) (O.lane ops.new) result }
@@ -175,7 +176,7 @@ pub fn object_turn<R: Wait, O: Ops, G: Tells>(
     gate: &mut Told<'_, G>,
 ) -> Turn
     requires sound { IsSound sys.now }
-    requires few { budget ≤ 1000000 }
+    requires few { budget ≤ budget_limit }
     requires knows { IsHome sys.now budget home.old (O.lane ops.old) }
     ensures goes { HomeTurns sys.now budget home.old.me home.new (O.lane ops.new) result }
     ensures never { NeverEmptyUnlessIdle (O.lane ops.old) (O.lane ops.new) result }

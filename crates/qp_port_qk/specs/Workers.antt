@@ -3,6 +3,7 @@ use Rattle.std.proofs.Common.{◌∙◌}
 use Rattle.std.specs.Prelude.{◌≡◌, ℕ, ◌≤◌, Bool, false, List, [], ◌∷◌, ⊤, refl}
 use Rattle.qp_model.specs.declared.systems.System.{System}
 use Rattle.qp_model.specs.Sound.{IsSound}
+use Rattle.qp_model.specs.Limits.{budget_limit}
 use Rattle.qp_calls.specs.LaneView.{LaneView}
 use Rattle.qp_calls.proofs.Advancing.{advances-none, advances-then}
 use Rattle.qp_calls_log.specs.Meeting.{IsTogether}
@@ -22,7 +23,7 @@ use Rattle.qp_port_qk.specs.Jobs.{IsSameQkJob, QkJobBegins, QkJobEnds, QkJobStan
 pub record QkMayTurn (acts : Bool) (sys : System) (budget : ℕ) (t : Turn) (x : QkJob) (v : LaneView) : Type 0 where
   pub alone : acts ≡ false
   pub sound : IsSound sys
-  pub few : budget ≤ 1000000
+  pub few : budget ≤ budget_limit
   pub stands : QkJobStands sys budget t x v
   pub fed : is_short t ≡ false → IsFed v
 
@@ -30,7 +31,7 @@ pub record QkMayTurn (acts : Bool) (sys : System) (budget : ℕ) (t : Turn) (x :
 pub record QkMayBegin (acts : Bool) (sys : System) (budget : ℕ) (t : Turn) (x : QkJob) (v : LaneView) : Type 0 where
   pub alone : acts ≡ false
   pub sound : IsSound sys
-  pub few : budget ≤ 1000000
+  pub few : budget ≤ budget_limit
   pub idle : t ≡ turn.Idle
   pub begins : QkJobBegins sys x v
   pub none : v.told ≡ []

@@ -4,6 +4,7 @@ ghost use Rattle.std.specs.Prelude.{◌≡◌, ◌≤◌, true, false, []};
 ghost use Rattle.qp_dispatch.specs.declared.objects.Turn.TheVariants as turn;
 ghost use Rattle.qp_port_qk.specs.declared.job.QkJob.TheVariants as job;
 ghost use Rattle.qp_model.specs.Sound.{IsSound};
+ghost use Rattle.qp_model.specs.Limits.{budget_limit};
 ghost use Rattle.qp_kernel_turns.specs.Lanes.{SameLane};
 ghost use Rattle.qp_port_phases.specs.Passing.{PassesTo};
 ghost use Rattle.qp_port_phases.specs.Rows.{CountsOn, PassCounts};
@@ -89,7 +90,7 @@ fn run_kernel<R: Wait, W: World, G: Tells>(
     gate: &G,
 ) -> Turn
     requires sound { IsSound sys.now }
-    requires few { budget ≤ 1000000 }
+    requires few { budget ≤ budget_limit }
     requires alone { W.acts ≡ false }
     requires rests { KernelRests sys.now budget objects.old kernel.old (W.lane world.old) }
     ensures stands { KernelStands sys.now budget result objects.new kernel.new (W.lane world.new) }
@@ -120,7 +121,7 @@ pub(crate) fn run_job<R: Wait, W: World, G: Tells>(
     gate: &G,
 ) -> Turn
     requires sound { IsSound sys.now }
-    requires few { budget ≤ 1000000 }
+    requires few { budget ≤ budget_limit }
     requires alone { W.acts ≡ false }
     requires rests { QkJobRests sys.now budget job.old (W.lane world.old) }
     ensures stands { QkJobStands sys.now budget result job.new (W.lane world.new) }

@@ -3,6 +3,7 @@
 ghost use Rattle.std.specs.Prelude.{◌≡◌, ◌≤◌, ◌⊎◌, IfOk, OnOk, Some, map, true, false};
 ghost use Rattle.std.specs.List.{AllByRecursion, list_all, list_any};
 ghost use Rattle.qp_model.specs.Sound.{IsSound};
+ghost use Rattle.qp_model.specs.Limits.{budget_limit};
 ghost use Rattle.qp_stim.specs.Rules.{StimuliFit};
 ghost use Rattle.qp_port_phases.specs.declared.phases.PhasesEnd.TheVariants as ended;
 ghost use Rattle.qp_port_phases.specs.Stopping.{AnyStopped};
@@ -143,7 +144,7 @@ pub fn run_lanes_of_qk<R: Threads + Wait + Sync, W: World + Meets + Send + Drop,
     requires alone { W.acts ≡ false }
     requires sound { IsSound sys.now }
     requires fit { StimuliFit sys.now stim.now }
-    requires few { budget ≤ 1000000 }
+    requires few { budget ≤ budget_limit }
     requires lanes { AreNewQkLanes sys.now stim.now (map W.lane lanes.items) }
     ensures lanes { IfOk result (λ run. AreSameLanes (map W.lane lanes.items) (map W.lane run.lanes.items)) }
     ensures run { IfOk result (λ run. HasQkRun sys.now stim.now budget run.done run.rests.items (map W.lane run.lanes.items)) }

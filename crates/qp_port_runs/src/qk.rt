@@ -3,6 +3,7 @@
 ghost use Rattle.std.specs.Prelude.{◌≡◌, ◌≤◌, IfOk};
 ghost use Rattle.qp_model.specs.Kernels.{qk};
 ghost use Rattle.qp_model.specs.Sound.{IsSound};
+ghost use Rattle.qp_model.specs.Limits.{budget_limit};
 ghost use Rattle.qp_stim.specs.Rules.{StimuliFit};
 ghost use Rattle.qp_kernel_end.specs.Rests.{AreRestsIn};
 ghost use Rattle.qp_port_law.specs.ThreadRun.{IsThreadRun};
@@ -32,7 +33,7 @@ pub fn run_qk<R: Threads + Wait + Sync, G: Gate>(
 ) -> Result<Threaded, Memory>
     requires sound { IsSound sys.now }
     requires fit { StimuliFit sys.now stim.now }
-    requires few { budget ≤ 1000000 }
+    requires few { budget ≤ budget_limit }
     ensures run { IfOk result (λ run. IsThreadRun qk sys.now stim.now budget run.sealed.journal) }
     ensures sealed { IfOk result (λ run. WasSealedFor sys.now run.sealed.journal) }
     ensures rests { IfOk result (λ run. AreRestsIn sys.now run.sealed.journal run.rests.items) }

@@ -6,6 +6,7 @@ ghost use Rattle.qp_model.specs.Ends.{ends_last};
 ghost use Rattle.qp_model.specs.History.{lane_items};
 ghost use Rattle.qp_model.specs.Output.{has_form, is_in_range};
 ghost use Rattle.qp_model.specs.Sound.{IsSound};
+ghost use Rattle.qp_model.specs.Limits.{budget_limit};
 ghost use Rattle.qp_kernel_end.specs.Rests.{AreRestsIn};
 ghost use Rattle.qp_stim.specs.Rules.{StimuliFit};
 ghost use Rattle.qp_summary.specs.Written.{HasStimuli};
@@ -106,7 +107,7 @@ fn run_alone<R: Wait>(
     requires sound { IsSound system.now }
     requires fit { StimuliFit system.now stimuli.now }
     requires some { 0 < budget }
-    requires few { budget ≤ 1000000 }
+    requires few { budget ≤ budget_limit }
     ensures run { IfOk result (λ run. IsRunUnder Sim system.now stimuli.now budget run.journal) }
     ensures rests { IfOk result (λ run. AreRestsIn system.now run.journal run.rests.items) }
 {
@@ -124,7 +125,7 @@ fn run_in_turn<R: Wait>(
     requires sound { IsSound system.now }
     requires fit { StimuliFit system.now stimuli.now }
     requires some { 0 < budget }
-    requires few { budget ≤ 1000000 }
+    requires few { budget ≤ budget_limit }
     ensures run { IfOk result (λ run. IsRunUnder Qv system.now stimuli.now budget run.journal) }
     ensures rests { IfOk result (λ run. AreRestsIn system.now run.journal run.rests.items) }
 {
@@ -144,7 +145,7 @@ fn run_under<R: Threads + Wait + Sync, G: Gate>(
     requires sound { IsSound system.now }
     requires fit { StimuliFit system.now stimuli.now }
     requires some { 0 < budget }
-    requires few { budget ≤ 1000000 }
+    requires few { budget ≤ budget_limit }
     ensures run { IfOk result (λ ran. IsRunUnder kernel system.now stimuli.now budget (journal_of_run ran)) }
     ensures rests { IfOk result (λ ran. AreRestsIn system.now (journal_of_run ran) (rests_of ran)) }
     ensures seal { IfOk result (λ ran. sealed_in ran ≡ if has_threads kernel then Some (journal_of_run ran) else None) }
@@ -175,7 +176,7 @@ fn run_and_print<R: Threads + Wait + Sync, O: Sink, G: Gate>(
     requires sound { IsSound system.now }
     requires fit { StimuliFit system.now stimuli.now }
     requires some { 0 < budget }
-    requires few { budget ≤ 1000000 }
+    requires few { budget ≤ budget_limit }
     requires form { is_form_of kernel form ≡ true }
     ensures out { IsPrinted (PrintsRun system.now stimuli.now kernel budget output (number_of_form form))
         (O.written out.old) (O.written out.new) (O.faults out.old) (O.faults out.new) result.status }
@@ -241,7 +242,7 @@ pub fn run_files<R: Threads + Wait + Sync, F: Shelf, O: Sink, G: Gate>(
     gate: &G,
 ) -> Finished
     requires some { 0 < budget }
-    requires few { budget ≤ 1000000 }
+    requires few { budget ≤ budget_limit }
     requires form { is_form_of kernel form ≡ true }
     ensures told { AgreesRun (F.holds files.old) system.now stimuli.now kernel budget result.status }
     ensures about { result.status ≢ Status.Words }

@@ -9,6 +9,7 @@ ghost use Rattle.qp_model.specs.Ends.{is_assert, is_end};
 ghost use Rattle.qp_model.specs.End.{end_of};
 ghost use Rattle.qp_table.specs.Counting.{Each};
 ghost use Rattle.qp_table.specs.After.{views_joined};
+ghost use Rattle.qp_table.specs.Rule.{table_words};
 ghost use Rattle.qp_side.specs.Told.{both_of};
 ghost use Rattle.qp_shared_ends.specs.Joining.{all_both, all_joined, recs_in, side_of, table_of};
 ghost use Rattle.qp_shared.specs.Ending.{IsOn, lane_states};
@@ -87,7 +88,7 @@ fn take_in(
     beside: &mut Seat<(), SideView>,
     lane: SharedLane<'_>,
 ) -> Lane
-    requires own { (seat.old.table_id ≡ words.now.shared.table_id) × (words.now.shared.table_id.words ≡ 21128) }
+    requires own { (seat.old.table_id ≡ words.now.shared.table_id) × (words.now.shared.table_id.words ≡ table_words) }
     requires beside { (beside.old.table_id ≡ side.now.shared.table_id) × (side.now.shared.table_id.words ≡ 4489) }
     requires on { IsOn words.now.shared.table_id side.now.shared.table_id lane.state }
     ensures own { seat.new.table_id ≡ seat.old.table_id }
@@ -120,7 +121,7 @@ pub(crate) fn gather(
     lanes: Vec<SharedLane<'_>>,
     room: Vec<Lane>,
 ) -> Vec<Lane>
-    requires own { (seat.old.table_id ≡ words.now.shared.table_id) × (words.now.shared.table_id.words ≡ 21128) }
+    requires own { (seat.old.table_id ≡ words.now.shared.table_id) × (words.now.shared.table_id.words ≡ table_words) }
     requires beside { (beside.old.table_id ≡ side.now.shared.table_id) × (side.now.shared.table_id.words ≡ 4489) }
     requires on { Each (IsOn words.now.shared.table_id side.now.shared.table_id) (lane_states lanes.items) }
     requires room { length room.items + length lanes.items ≤ vec_capacity room }

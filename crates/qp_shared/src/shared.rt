@@ -2,6 +2,7 @@
 
 ghost use Rattle.std.specs.Prelude.{◌≡◌, IfOk};
 ghost use Rattle.qp_model.specs.Sound.{IsSound};
+ghost use Rattle.qp_table.specs.Rule.{table_words};
 
 use atomic_table::Seat;
 use qp_base::Memory;
@@ -19,7 +20,7 @@ pub struct Shared<'s> {
     pub(crate) alloc: Global,
     pub(crate) words: Words,
     pub(crate) side: qp_side::Words,
-    ghost wide: { words.shared.table_id.words ≡ 21128 },
+    ghost wide: { words.shared.table_id.words ≡ table_words },
     ghost side_wide: { side.shared.table_id.words ≡ 4489 },
     ghost key: { words.shared.key ≡ sys.now },
     ghost side_key: { side.shared.key ≡ sys.now },

@@ -3,7 +3,7 @@
 
 ghost use Rattle.std.specs.Prelude.{◌≡◌, ◌<◌};
 ghost use Rattle.qp_table.specs.Counting.{many};
-ghost use Rattle.qp_table.specs.Rule.{is_ref, is_spot_at};
+ghost use Rattle.qp_table.specs.Rule.{is_ref, is_spot_at, table_words};
 ghost use Rattle.qp_table.specs.After.{HasRoom};
 ghost use Rattle.qp_table.specs.Told.{HasPlace};
 ghost use Rattle.qp_shared_blocks.specs.Ends.{AnotherTold, ReturnTold};
@@ -26,7 +26,7 @@ pub fn put_back(
     at: u64,
 ) -> u64
     requires own { seat.old.table_id ≡ words.now.shared.table_id }
-    requires wide { words.now.shared.table_id.words ≡ 21128 }
+    requires wide { words.now.shared.table_id.words ≡ table_words }
     requires place { HasPlace pool block }
     requires room { HasRoom seat.old.me.0 }
     requires used { 0 < many (is_spot_at pool block at) seat.old.me.0.used }
@@ -53,7 +53,7 @@ pub(crate) fn another(
     name: u64,
 ) -> u64
     requires own { seat.old.table_id ≡ words.now.shared.table_id }
-    requires wide { words.now.shared.table_id.words ≡ 21128 }
+    requires wide { words.now.shared.table_id.words ≡ table_words }
     requires place { HasPlace pool block }
     requires room { HasRoom seat.old.me.0 }
     requires hand { 0 < many (is_ref pool block name) seat.old.me.0.hands }

@@ -2,7 +2,7 @@
 
 ghost use Rattle.std.specs.Prelude.{◌≡◌, ◌+◌, ◌<◌, [], length};
 ghost use Rattle.qp_table.specs.Counting.{many};
-ghost use Rattle.qp_table.specs.Rule.{is_number};
+ghost use Rattle.qp_table.specs.Rule.{is_number, table_words};
 ghost use Rattle.qp_table.specs.After.{empty_view, onlooker, views_joined};
 ghost use Rattle.qp_table.specs.declared.view.View.{View};
 ghost use Rattle.qp_side.specs.Seats.{in_set};
@@ -60,7 +60,7 @@ pub fn give_lane(
     objects: u32,
 ) -> Seat<(), View>
     requires own { root.old.table_id ≡ words.now.shared.table_id }
-    requires wide { words.now.shared.table_id.words ≡ 21128 }
+    requires wide { words.now.shared.table_id.words ≡ table_words }
     requires few { number < 49 }
     requires left { 0 < many (is_number number) root.old.me.0.lane_numbers }
     requires lane { 0 < length root.old.me.0.logs }
@@ -76,7 +76,7 @@ pub fn give_lane(
 /// A seat that has seen what another has, which stays as it is.
 pub fn look_on(words: &Words, seat: &mut Seat<(), View>) -> Seat<(), View>
     requires own { seat.old.table_id ≡ words.now.shared.table_id }
-    requires wide { words.now.shared.table_id.words ≡ 21128 }
+    requires wide { words.now.shared.table_id.words ≡ table_words }
     ensures same { (seat.new.table_id ≡ seat.old.table_id) × (seat.new.id ≡ seat.old.id) }
     ensures stays { seat.new.me.0 ≡ seat.old.me.0 }
     ensures table { (result.table_id ≡ seat.old.table_id) × (result.me.1 ≡ []) }
@@ -88,7 +88,7 @@ pub fn look_on(words: &Words, seat: &mut Seat<(), View>) -> Seat<(), View>
 /// A seat that has all that another had.
 pub fn move_all(words: &Words, seat: &mut Seat<(), View>) -> Seat<(), View>
     requires own { seat.old.table_id ≡ words.now.shared.table_id }
-    requires wide { words.now.shared.table_id.words ≡ 21128 }
+    requires wide { words.now.shared.table_id.words ≡ table_words }
     ensures table { (result.table_id ≡ seat.old.table_id) × (result.me.1 ≡ []) }
     ensures seat { result.me.0 ≡ seat.old.me.0 }
 {
@@ -107,7 +107,7 @@ impl Join<View> for Together {
 /// A seat takes over another.
 pub fn join_seats(words: &Words, seat: &mut Seat<(), View>, other: Seat<(), View>)
     requires own { seat.old.table_id ≡ words.now.shared.table_id }
-    requires wide { words.now.shared.table_id.words ≡ 21128 }
+    requires wide { words.now.shared.table_id.words ≡ table_words }
     requires other { (other.table_id ≡ words.now.shared.table_id) × (other.me.1 ≡ []) }
     ensures same { (seat.new.table_id ≡ seat.old.table_id) × (seat.new.id ≡ seat.old.id) }
     ensures both { seat.new.me.0 ≡ views_joined seat.old.me.0 other.me.0 }
@@ -118,7 +118,7 @@ pub fn join_seats(words: &Words, seat: &mut Seat<(), View>, other: Seat<(), View
 /// A look that changes nothing. It tells that all that the seat saw of a word at one number of operations is one value.
 pub fn know_past(words: &Words, seat: &mut Seat<(), View>)
     requires own { seat.old.table_id ≡ words.now.shared.table_id }
-    requires wide { words.now.shared.table_id.words ≡ 21128 }
+    requires wide { words.now.shared.table_id.words ≡ table_words }
     ensures same { (seat.new.table_id ≡ seat.old.table_id) × (seat.new.id ≡ seat.old.id) }
     ensures told { StaysTold (IsOnePast words.now.shared.key) seat.old.me.0 seat.new.me.0 }
 {
@@ -128,7 +128,7 @@ pub fn know_past(words: &Words, seat: &mut Seat<(), View>)
 /// The seat with all lanes, and with all numbers that were given to none, looks and so knows the end of the table.
 pub fn know_end(words: &Words, seat: &mut Seat<(), View>)
     requires own { seat.old.table_id ≡ words.now.shared.table_id }
-    requires wide { words.now.shared.table_id.words ≡ 21128 }
+    requires wide { words.now.shared.table_id.words ≡ table_words }
     requires all { length seat.old.me.0.logs + length seat.old.me.0.lane_numbers ≡ 49 }
     ensures same { (seat.new.table_id ≡ seat.old.table_id) × (seat.new.id ≡ seat.old.id) }
     ensures told { StaysTold (AtEnd words.now.shared.key) seat.old.me.0 seat.new.me.0 }

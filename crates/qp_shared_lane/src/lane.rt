@@ -3,6 +3,7 @@
 ghost use Rattle.std.specs.Prelude.{◌≡◌};
 ghost use Rattle.qp_shared_lane.specs.Used.{HasEnds};
 ghost use Rattle.qp_shared_lane.specs.Holds.{LaneHolds, LaneHolds-prop};
+ghost use Rattle.qp_table.specs.Rule.{table_words};
 
 use crate::ends::Ends;
 use crate::rings::Rings;
@@ -30,7 +31,7 @@ pub struct LaneState<'a> {
     pub log: Log,
     pub numbers: Numbers,
     ghost own: { seat.table_id ≡ words.now.shared.table_id },
-    ghost wide: { words.now.shared.table_id.words ≡ 21128 },
+    ghost wide: { words.now.shared.table_id.words ≡ table_words },
     ghost rings_key: { rings.sys.now ≡ sys.now },
     ghost key: { words.now.shared.key ≡ sys.now },
     ghost side_key: { side.words.now.shared.key ≡ sys.now },

@@ -6,7 +6,7 @@ ghost use Rattle.qp_model.specs.declared.words.Word.TheVariants as word;
 ghost use Rattle.qp_model.specs.Sites.{ring_of};
 ghost use Rattle.qp_model.specs.WordLaw.{is_object};
 ghost use Rattle.qp_table.specs.Counting.{many};
-ghost use Rattle.qp_table.specs.Rule.{queue_at, mark_in, on_queue, is_serve, Codable, code};
+ghost use Rattle.qp_table.specs.Rule.{queue_at, mark_in, on_queue, is_serve, Codable, code, table_words};
 ghost use Rattle.qp_table.specs.After.{HasRoom, InHand};
 ghost use Rattle.qp_table.specs.Words.{value_seen};
 ghost use Rattle.qp_shared_loops.specs.Ends.{PostEnds, PostFirstEnds};
@@ -72,7 +72,7 @@ pub fn post_entry<L: Ledger>(
     steps: &mut Steps<L>,
 ) -> (u64, bool)
     requires own { seat.old.table_id ≡ words.now.shared.table_id }
-    requires wide { words.now.shared.table_id.words ≡ 21128 }
+    requires wide { words.now.shared.table_id.words ≡ table_words }
     requires object { IsTrue (is_object words.now.shared.key object) }
     requires low { object < 33 }
     requires ring { ring ≡ ring_of words.now.shared.key object }
@@ -109,7 +109,7 @@ pub fn post_entry_last_in<L: Ledger>(
     steps: &mut Steps<L>,
 ) -> (u64, bool)
     requires own { seat.old.table_id ≡ words.now.shared.table_id }
-    requires wide { words.now.shared.table_id.words ≡ 21128 }
+    requires wide { words.now.shared.table_id.words ≡ table_words }
     requires object { IsTrue (is_object words.now.shared.key object) }
     requires low { object < 33 }
     requires ring { ring ≡ ring_of words.now.shared.key object }

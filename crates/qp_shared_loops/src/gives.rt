@@ -6,7 +6,7 @@ ghost use Rattle.std.specs.List.{list_any};
 ghost use Rattle.qp_model.specs.declared.words.Word.TheVariants as word;
 ghost use Rattle.qp_model.specs.WordLaw.{is_pool};
 ghost use Rattle.qp_table.specs.Counting.{many};
-ghost use Rattle.qp_table.specs.Rule.{pool_at, mark_in, is_spot, IsContent};
+ghost use Rattle.qp_table.specs.Rule.{pool_at, mark_in, is_spot, IsContent, table_words};
 ghost use Rattle.qp_table.specs.After.{HasRoom, fills_for};
 ghost use Rattle.qp_table.specs.Words.{value_seen};
 ghost use Rattle.qp_table.specs.Asked.{size_of, is_unfinished, is_asked};
@@ -54,7 +54,7 @@ fn give_lowest<L: Ledger>(
     steps: &mut Steps<L>,
 ) -> (u64, Option<u8>)
     requires own { seat.old.table_id ≡ words.now.shared.table_id }
-    requires wide { words.now.shared.table_id.words ≡ 21128 }
+    requires wide { words.now.shared.table_id.words ≡ table_words }
     requires small { pool < 16 }
     requires pool { IsTrue (is_pool words.now.shared.key pool) }
     requires room { HasRoom seat.old.me.0 }
@@ -87,7 +87,7 @@ fn give_lowest<L: Ledger>(
 /// Writes the event of a block that was given out: its signal, then its parameters.
 fn write_event(words: &Words, seat: &mut Seat<(), View>, pool: u8, block: u8, ev: &Ev)
     requires own { seat.old.table_id ≡ words.now.shared.table_id }
-    requires wide { words.now.shared.table_id.words ≡ 21128 }
+    requires wide { words.now.shared.table_id.words ≡ table_words }
     requires place { HasPlace pool block }
     requires fresh { 0 < many (is_spot pool block) seat.old.me.0.fresh }
     requires left { seat.old.me.0.fills ≡ fills_for pool block 0 (ev.now.sig ∷ ev.now.pars.items) }
@@ -118,7 +118,7 @@ pub fn give_block<L: Ledger>(
     steps: &mut Steps<L>,
 ) -> (u64, Option<Life>)
     requires own { seat.old.table_id ≡ words.now.shared.table_id }
-    requires wide { words.now.shared.table_id.words ≡ 21128 }
+    requires wide { words.now.shared.table_id.words ≡ table_words }
     requires small { pool < 16 }
     requires pool { IsTrue (is_pool words.now.shared.key pool) }
     requires room { HasRoom seat.old.me.0 }

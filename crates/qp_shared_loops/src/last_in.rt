@@ -6,7 +6,7 @@ ghost use Rattle.qp_model.specs.declared.words.Word.TheVariants as word;
 ghost use Rattle.qp_model.specs.Sites.{ring_of};
 ghost use Rattle.qp_model.specs.WordLaw.{is_object};
 ghost use Rattle.qp_table.specs.Counting.{many};
-ghost use Rattle.qp_table.specs.Rule.{queue_at, mark_in, on_queue, is_serve};
+ghost use Rattle.qp_table.specs.Rule.{queue_at, mark_in, on_queue, is_serve, table_words};
 ghost use Rattle.qp_table.specs.After.{HasRoom, InHand};
 ghost use Rattle.qp_table.specs.Words.{value_seen};
 ghost use Rattle.qp_table.specs.Told.{free_in, EyeLastTold, LastTold};
@@ -25,7 +25,7 @@ use std::sync::ledger::Ledger;
 /// Looks at a queue for a last-in post, with a record where it is full.
 fn look_before_last_in(words: &Words, seat: &mut Seat<(), View>, object: u8) -> u64
     requires own { seat.old.table_id ≡ words.now.shared.table_id }
-    requires wide { words.now.shared.table_id.words ≡ 21128 }
+    requires wide { words.now.shared.table_id.words ≡ table_words }
     requires object { IsTrue (is_object words.now.shared.key object) }
     requires room { HasRoom seat.old.me.0 }
     ensures same { (seat.new.table_id ≡ seat.old.table_id) × (seat.new.id ≡ seat.old.id) }
@@ -51,7 +51,7 @@ fn claim_last_in<L: Ledger>(
     steps: &mut Steps<L>,
 ) -> u64
     requires own { seat.old.table_id ≡ words.now.shared.table_id }
-    requires wide { words.now.shared.table_id.words ≡ 21128 }
+    requires wide { words.now.shared.table_id.words ≡ table_words }
     requires object { IsTrue (is_object words.now.shared.key object) }
     requires room { HasRoom seat.old.me.0 }
     requires hand { InHand words.now.shared.key (record { pool = pool; block = block; name = name }) seat.old.me.0 }
@@ -92,7 +92,7 @@ pub fn claim_entry_last_in<L: Ledger>(
     steps: &mut Steps<L>,
 ) -> (u64, bool)
     requires own { seat.old.table_id ≡ words.now.shared.table_id }
-    requires wide { words.now.shared.table_id.words ≡ 21128 }
+    requires wide { words.now.shared.table_id.words ≡ table_words }
     requires object { IsTrue (is_object words.now.shared.key object) }
     requires ring { ring ≡ ring_of words.now.shared.key object }
     requires room { HasRoom seat.old.me.0 }

@@ -4,7 +4,7 @@ ghost use Rattle.std.specs.Prelude.{◌≡◌, ◌+◌, ◌≤◌, IsTrue};
 ghost use Rattle.qp_model.specs.declared.words.Word.TheVariants as word;
 ghost use Rattle.qp_model.specs.Sites.{ring_of};
 ghost use Rattle.qp_model.specs.WordLaw.{is_object};
-ghost use Rattle.qp_table.specs.Rule.{queue_at, mark_in};
+ghost use Rattle.qp_table.specs.Rule.{queue_at, mark_in, table_words};
 ghost use Rattle.qp_table.specs.After.{HasRoom, InHand};
 ghost use Rattle.qp_table.specs.Words.{value_seen};
 ghost use Rattle.qp_table.specs.Told.{free_in};
@@ -43,7 +43,7 @@ pub fn claim_entry<L: Ledger>(
     steps: &mut Steps<L>,
 ) -> (u64, bool)
     requires own { seat.old.table_id ≡ words.now.shared.table_id }
-    requires wide { words.now.shared.table_id.words ≡ 21128 }
+    requires wide { words.now.shared.table_id.words ≡ table_words }
     requires object { IsTrue (is_object words.now.shared.key object) }
     requires ring { ring ≡ ring_of words.now.shared.key object }
     requires room { HasRoom seat.old.me.0 }

@@ -7,7 +7,7 @@ ghost use Rattle.qp_model.specs.Sites.{ring_of};
 ghost use Rattle.qp_model.specs.WordLaw.{is_object};
 ghost use Rattle.qp_calls.specs.Clauses.{entry_of};
 ghost use Rattle.qp_table.specs.Counting.{many};
-ghost use Rattle.qp_table.specs.Rule.{is_place, on_queue, is_serve};
+ghost use Rattle.qp_table.specs.Rule.{is_place, on_queue, is_serve, table_words};
 ghost use Rattle.qp_table.specs.After.{HasRoom};
 ghost use Rattle.qp_table.specs.Told.{FreeTold};
 ghost use Rattle.qp_shared_words.specs.Fronts.{KnowsFront};
@@ -71,7 +71,7 @@ fn empty_if_laid(
     cell: u16,
 ) -> Option<HeldEntry>
     requires own { seat.old.table_id ≡ words.now.shared.table_id }
-    requires wide { words.now.shared.table_id.words ≡ 21128 }
+    requires wide { words.now.shared.table_id.words ≡ table_words }
     requires object { IsTrue (is_object words.now.shared.key object) }
     requires low { (object < 33) × (cell < 256) }
     requires front { KnowsFront words.now.shared.key object cell seat.old.me.0 }
@@ -100,7 +100,7 @@ fn empty_once_laid<R: Wait>(
     cell: u16,
 ) -> HeldEntry
     requires own { seat.old.table_id ≡ words.now.shared.table_id }
-    requires wide { words.now.shared.table_id.words ≡ 21128 }
+    requires wide { words.now.shared.table_id.words ≡ table_words }
     requires object { IsTrue (is_object words.now.shared.key object) }
     requires low { (object < 33) × (cell < 256) }
     requires front { KnowsFront words.now.shared.key object cell seat.old.me.0 }
@@ -124,7 +124,7 @@ fn empty_when_laid<R: Wait>(
     cell: u16,
 ) -> HeldEntry
     requires own { seat.old.table_id ≡ words.now.shared.table_id }
-    requires wide { words.now.shared.table_id.words ≡ 21128 }
+    requires wide { words.now.shared.table_id.words ≡ table_words }
     requires object { IsTrue (is_object words.now.shared.key object) }
     requires low { (object < 33) × (cell < 256) }
     requires front { KnowsFront words.now.shared.key object cell seat.old.me.0 }
@@ -148,7 +148,7 @@ fn free_entry(
     name: u64,
 ) -> u64
     requires own { seat.old.table_id ≡ words.now.shared.table_id }
-    requires wide { words.now.shared.table_id.words ≡ 21128 }
+    requires wide { words.now.shared.table_id.words ≡ table_words }
     requires object { IsTrue (is_object words.now.shared.key object) }
     requires room { HasRoom seat.old.me.0 }
     requires serves { IsTrue (list_any (is_serve object) seat.old.me.0.serves) }
@@ -185,7 +185,7 @@ pub fn take_entry<R: Wait>(
     last: Option<Counts>,
 ) -> (u64, Option<HeldEntry>)
     requires own { seat.old.table_id ≡ words.now.shared.table_id }
-    requires wide { words.now.shared.table_id.words ≡ 21128 }
+    requires wide { words.now.shared.table_id.words ≡ table_words }
     requires object { IsTrue (is_object words.now.shared.key object) }
     requires low { object < 33 }
     requires ring { ring ≡ ring_of words.now.shared.key object }

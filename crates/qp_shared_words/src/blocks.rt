@@ -5,7 +5,7 @@ ghost use Rattle.std.specs.List.{list_any};
 ghost use Rattle.qp_model.specs.declared.words.Word.TheVariants as word;
 ghost use Rattle.qp_model.specs.WordLaw.{is_pool};
 ghost use Rattle.qp_table.specs.Counting.{many};
-ghost use Rattle.qp_table.specs.Rule.{is_ref, is_spot, is_spot_at, fills_of, fills_with, IsContent};
+ghost use Rattle.qp_table.specs.Rule.{is_ref, is_spot, is_spot_at, fills_of, fills_with, IsContent, table_words};
 ghost use Rattle.qp_table.specs.After.{HasRoom, ref};
 ghost use Rattle.qp_table.specs.Words.{value_seen};
 ghost use Rattle.qp_table.specs.Lane.{has_content};
@@ -39,7 +39,7 @@ pub fn drop_reference(
     name: u64,
 ) -> u64
     requires own { seat.old.table_id ≡ words.now.shared.table_id }
-    requires wide { words.now.shared.table_id.words ≡ 21128 }
+    requires wide { words.now.shared.table_id.words ≡ table_words }
     requires place { HasPlace pool block }
     requires room { HasRoom seat.old.me.0 }
     requires hand { 0 < many (is_ref pool block name) seat.old.me.0.hands }
@@ -59,7 +59,7 @@ pub fn drop_reference(
 /// Makes the first reference to a fresh block whose give is finished, and answers its word as it was.
 pub fn first_reference(words: &Words, seat: &mut Seat<(), View>, by: u8, pool: u8, block: u8) -> u64
     requires own { seat.old.table_id ≡ words.now.shared.table_id }
-    requires wide { words.now.shared.table_id.words ≡ 21128 }
+    requires wide { words.now.shared.table_id.words ≡ table_words }
     requires place { HasPlace pool block }
     requires room { HasRoom seat.old.me.0 }
     requires fresh { 0 < many (is_spot pool block) seat.old.me.0.fresh }
@@ -80,7 +80,7 @@ pub fn first_reference(words: &Words, seat: &mut Seat<(), View>, by: u8, pool: u
 /// Reads the word of a fresh block. Its number of operations is where the block's life begins.
 pub fn read_beginning(words: &Words, seat: &mut Seat<(), View>, pool: u8, block: u8) -> u64
     requires own { seat.old.table_id ≡ words.now.shared.table_id }
-    requires wide { words.now.shared.table_id.words ≡ 21128 }
+    requires wide { words.now.shared.table_id.words ≡ table_words }
     requires place { HasPlace pool block }
     requires fresh { 0 < many (is_spot pool block) seat.old.me.0.fresh }
     ensures same { (seat.new.table_id ≡ seat.old.table_id) × (seat.new.id ≡ seat.old.id) }
@@ -97,7 +97,7 @@ pub fn read_beginning(words: &Words, seat: &mut Seat<(), View>, pool: u8, block:
 /// Writes an event word of a fresh block, which its give asks for.
 pub fn fill(words: &Words, seat: &mut Seat<(), View>, pool: u8, block: u8, place: u8, value: u64)
     requires own { seat.old.table_id ≡ words.now.shared.table_id }
-    requires wide { words.now.shared.table_id.words ≡ 21128 }
+    requires wide { words.now.shared.table_id.words ≡ table_words }
     requires place { HasPlace pool block }
     requires low { place < 9 }
     requires fresh { 0 < many (is_spot pool block) seat.old.me.0.fresh }
@@ -126,7 +126,7 @@ pub fn read_event(
     place: u8,
 ) -> u64
     requires own { seat.old.table_id ≡ words.now.shared.table_id }
-    requires wide { words.now.shared.table_id.words ≡ 21128 }
+    requires wide { words.now.shared.table_id.words ≡ table_words }
     requires place { HasPlace pool block }
     requires low { place < 9 }
     requires hand { 0 < many (is_ref pool block name) seat.old.me.0.hands }
@@ -153,7 +153,7 @@ pub fn look_at_pool(
     reserve: Option<u8>,
 ) -> u64
     requires own { seat.old.table_id ≡ words.now.shared.table_id }
-    requires wide { words.now.shared.table_id.words ≡ 21128 }
+    requires wide { words.now.shared.table_id.words ≡ table_words }
     requires small { pool < 16 }
     requires pool { IsTrue (is_pool words.now.shared.key pool) }
     requires room { HasRoom seat.old.me.0 }
@@ -184,7 +184,7 @@ pub fn try_give<L: Ledger>(
     steps: &mut Steps<L>,
 ) -> u64
     requires own { seat.old.table_id ≡ words.now.shared.table_id }
-    requires wide { words.now.shared.table_id.words ≡ 21128 }
+    requires wide { words.now.shared.table_id.words ≡ table_words }
     requires small { (pool < 16) × (block < 32) × (old < 9223372036854775808) }
     requires pool { IsTrue (is_pool words.now.shared.key pool) }
     requires room { HasRoom seat.old.me.0 }

@@ -5,6 +5,7 @@ ghost use Rattle.qp_model.specs.Sound.{IsSound};
 ghost use Rattle.qp_table.specs.After.{newcomer};
 ghost use Rattle.qp_table.specs.Whole.{later_lanes};
 ghost use Rattle.qp_table.specs.First.{all_free, first_word, first_serves};
+ghost use Rattle.qp_table.specs.Rule.{table_words};
 
 use crate::steps::Words;
 use atomic_table::{Seat, Table};
@@ -37,8 +38,8 @@ fn first_word(sys: &System, at: usize) -> u64
 
 /// All words where nothing has happened.
 fn first_words(alloc: Global, sys: &System) -> Result<Vec<u64>, Memory>
-    ensures wide { IfOk result (λ w. length w.items ≡ 21128) }
-    ensures each { IfOk result (λ w. (k : ℕ) → k < 21128 → slice_index w.items k ≡ first_word sys.now k) }
+    ensures wide { IfOk result (λ w. length w.items ≡ table_words) }
+    ensures each { IfOk result (λ w. (k : ℕ) → k < table_words → slice_index w.items k ≡ first_word sys.now k) }
 {
     let mut items = Vec::new(alloc);
     for at in 0..21128 {
@@ -51,7 +52,7 @@ fn first_words(alloc: Global, sys: &System) -> Result<Vec<u64>, Memory>
 /// every object.
 pub fn new_words(alloc: Global, sys: &System) -> Result<(Words, Seat<(), View>), Memory>
     requires sound { IsSound sys.now }
-    ensures wide { IfOk result (λ t. t.0.shared.table_id.words ≡ 21128) }
+    ensures wide { IfOk result (λ t. t.0.shared.table_id.words ≡ table_words) }
     ensures key { IfOk result (λ t. t.0.shared.key ≡ sys.now) }
     ensures seat { IfOk result (λ t. (t.1.table_id ≡ t.0.shared.table_id) × (t.1.id ≡ 0)) }
     ensures view { IfOk result (λ t. t.1.me.0 ≡ newcomer later_lanes (first_serves sys.now 32)) }

@@ -6,7 +6,7 @@ ghost use Rattle.qp_model.specs.declared.words.Word.TheVariants as word;
 ghost use Rattle.qp_model.specs.Sites.{ring_of};
 ghost use Rattle.qp_model.specs.WordLaw.{is_object};
 ghost use Rattle.qp_table.specs.Counting.{many};
-ghost use Rattle.qp_table.specs.Rule.{is_place, code};
+ghost use Rattle.qp_table.specs.Rule.{is_place, code, table_words};
 ghost use Rattle.qp_table.specs.After.{HasRoom, InHand};
 ghost use Rattle.qp_table.specs.QueueLaws.{cells_of};
 ghost use Rattle.qp_table.specs.Words.{value_seen};
@@ -27,7 +27,7 @@ use std::sync::ledger::Ledger;
 /// Looks at a queue.
 pub fn look_at_queue(words: &Words, seat: &mut Seat<(), View>, object: u8) -> u64
     requires own { seat.old.table_id ≡ words.now.shared.table_id }
-    requires wide { words.now.shared.table_id.words ≡ 21128 }
+    requires wide { words.now.shared.table_id.words ≡ table_words }
     requires object { IsTrue (is_object words.now.shared.key object) }
     ensures same { (seat.new.table_id ≡ seat.old.table_id) × (seat.new.id ≡ seat.old.id) }
     ensures told { LookTold words.now.shared.key object seat.old.me.0 result seat.new.me.0 }
@@ -42,7 +42,7 @@ pub fn look_at_queue(words: &Words, seat: &mut Seat<(), View>, object: u8) -> u6
 /// Looks at a queue, with a record of its counts.
 pub fn see_queue(words: &Words, seat: &mut Seat<(), View>, object: u8) -> u64
     requires own { seat.old.table_id ≡ words.now.shared.table_id }
-    requires wide { words.now.shared.table_id.words ≡ 21128 }
+    requires wide { words.now.shared.table_id.words ≡ table_words }
     requires object { IsTrue (is_object words.now.shared.key object) }
     requires room { HasRoom seat.old.me.0 }
     ensures same { (seat.new.table_id ≡ seat.old.table_id) × (seat.new.id ≡ seat.old.id) }
@@ -63,7 +63,7 @@ pub fn look_before_take(
     last: Option<Counts>,
 ) -> u64
     requires own { seat.old.table_id ≡ words.now.shared.table_id }
-    requires wide { words.now.shared.table_id.words ≡ 21128 }
+    requires wide { words.now.shared.table_id.words ≡ table_words }
     requires object { IsTrue (is_object words.now.shared.key object) }
     requires room { HasRoom seat.old.me.0 }
     ensures same { (seat.new.table_id ≡ seat.old.table_id) × (seat.new.id ≡ seat.old.id) }
@@ -86,7 +86,7 @@ pub fn look_before_post(
     margin: Option<u8>,
 ) -> u64
     requires own { seat.old.table_id ≡ words.now.shared.table_id }
-    requires wide { words.now.shared.table_id.words ≡ 21128 }
+    requires wide { words.now.shared.table_id.words ≡ table_words }
     requires object { IsTrue (is_object words.now.shared.key object) }
     requires room { HasRoom seat.old.me.0 }
     ensures same { (seat.new.table_id ≡ seat.old.table_id) × (seat.new.id ≡ seat.old.id) }
@@ -116,7 +116,7 @@ pub fn claim<L: Ledger>(
     steps: &mut Steps<L>,
 ) -> u64
     requires own { seat.old.table_id ≡ words.now.shared.table_id }
-    requires wide { words.now.shared.table_id.words ≡ 21128 }
+    requires wide { words.now.shared.table_id.words ≡ table_words }
     requires object { IsTrue (is_object words.now.shared.key object) }
     requires room { HasRoom seat.old.me.0 }
     requires hand { InHand words.now.shared.key (record { pool = pool; block = block; name = name }) seat.old.me.0 }
@@ -153,7 +153,7 @@ pub fn lay(
     value: u64,
 )
     requires own { seat.old.table_id ≡ words.now.shared.table_id }
-    requires wide { words.now.shared.table_id.words ≡ 21128 }
+    requires wide { words.now.shared.table_id.words ≡ table_words }
     requires object { IsTrue (is_object words.now.shared.key object) }
     requires low { (object < 33) × (cell < 256) }
     requires inside { cell < cells_of words.now.shared.key object }
@@ -178,7 +178,7 @@ pub fn lay(
 /// Looks at a cell, which tells the lane nothing.
 pub fn look_at_cell(words: &Words, seat: &mut Seat<(), View>, object: u8, cell: u16) -> u64
     requires own { seat.old.table_id ≡ words.now.shared.table_id }
-    requires wide { words.now.shared.table_id.words ≡ 21128 }
+    requires wide { words.now.shared.table_id.words ≡ table_words }
     requires low { (object < 33) × (cell < 256) }
     ensures same { (seat.new.table_id ≡ seat.old.table_id) × (seat.new.id ≡ seat.old.id) }
     ensures still { seat.new.me.0 ≡ seat.old.me.0 }
@@ -193,7 +193,7 @@ pub fn look_at_cell(words: &Words, seat: &mut Seat<(), View>, object: u8, cell: 
 /// Empties the front cell, which the lane that serves the queue knows by its own counts, and answers what was found there.
 pub fn empty_front(words: &Words, seat: &mut Seat<(), View>, object: u8, cell: u16) -> u64
     requires own { seat.old.table_id ≡ words.now.shared.table_id }
-    requires wide { words.now.shared.table_id.words ≡ 21128 }
+    requires wide { words.now.shared.table_id.words ≡ table_words }
     requires object { IsTrue (is_object words.now.shared.key object) }
     requires low { (object < 33) × (cell < 256) }
     requires front { KnowsFront words.now.shared.key object cell seat.old.me.0 }

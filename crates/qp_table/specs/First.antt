@@ -4,7 +4,7 @@ use Rattle.qp_model.specs.declared.systems.System.{System}
 use Rattle.qp_model.specs.Sites.{blocks_of}
 use Rattle.qp_model.specs.Sound.{IsSound}
 use Rattle.qp_model.specs.WordLaw.{is_pool, is_object}
-use Rattle.qp_table.specs.Rule.{Holds}
+use Rattle.qp_table.specs.Rule.{Holds, table_words}
 use Rattle.qp_table.specs.After.{newcomer}
 use Rattle.qp_table.specs.declared.view.Serve.{Serve}
 use Rattle.qp_table.specs.Whole.{later_lanes}
@@ -31,4 +31,4 @@ IsFreshServe x = (x.lifos ≡ 0) × (x.takes ≡ 0)
 
 -- the first words of a sound system, and a view that has lane 0 and serves every object, meet the rule
 abbrev pub SoundSystemsStart : Type 0
-SoundSystemsStart = (sys : System) (words : List ℕ) → IsSound sys → length words ≡ 21128 → ((k : ℕ) → k < 21128 → slice_index words k ≡ first_word sys k) → Holds sys words (newcomer later_lanes (first_serves sys 32) ∷ [])
+SoundSystemsStart = (sys : System) (words : List ℕ) → IsSound sys → length words ≡ table_words → ((k : ℕ) → k < table_words → slice_index words k ≡ first_word sys k) → Holds sys words (newcomer later_lanes (first_serves sys 32) ∷ [])

@@ -38,6 +38,10 @@ use Rattle.qp_table.specs.declared.view.Serve.{Serve}
 use Rattle.qp_table.specs.declared.view.Glance.{Glance}
 use Rattle.qp_table.specs.declared.view.View.{View}
 
+-- the words of the event table: those of pools, blocks, queues and cells, then the event words
+abbrev pub table_words : ℕ
+table_words = 21128
+
 -- Where each word stands: pools, blocks, queues, cells, then the event words
 abbrev pub pool_at : ℕ → ℕ
 pool_at p = 8 * p
@@ -83,7 +87,7 @@ mark_in w x = cond (ltb w 4224) (x / 4294967296) (x % 2097152 + x / 2097152 % 20
 
 -- the words show the states
 pub record Shows (sys : System) (words : List ℕ) (now : Now) : Type 0 where
-  pub wide : length words ≡ 21128
+  pub wide : length words ≡ table_words
   pub pools : (p : ℕ) → IsTrue (is_pool sys p) → slice_index words (pool_at p) ≡ pool_value (now.pool p)
   pub blocks : (p b : ℕ) → IsTrue (is_block sys p b) → slice_index words (block_at p b) ≡ refs_value (now.refs p b)
   pub queues : (a : ℕ) → IsTrue (is_object sys a) → slice_index words (queue_at a) ≡ line_value (now.line a)

@@ -3,6 +3,7 @@
 ghost use Rattle.std.specs.Prelude.{◌≡◌, ◌<◌, ◌≤◌, [], false, true, IfErr, IfOk};
 ghost use Rattle.qp_kernel.specs.Turning.{under};
 ghost use Rattle.qp_model.specs.Sound.{IsSound};
+ghost use Rattle.qp_model.specs.Limits.{budget_limit};
 ghost use Rattle.qp_stim.specs.Rules.{StimuliFit};
 ghost use Rattle.qp_kernel_turns.specs.AtRest.{HaltsAtRest, StopsAtRest};
 ghost use Rattle.qp_kernel_turns.specs.Counting.{AreCounted, TurnsCounted};
@@ -69,7 +70,7 @@ fn rounds<R: Wait, W: World, G: Gate, L: Ledger>(
     requires sound { IsSound at.now.sys.now }
     requires cooperative { at.now.cooperative ≡ true }
     requires single { at.now.threaded ≡ false }
-    requires few { at.now.budget ≤ 1000000 }
+    requires few { at.now.budget ≤ budget_limit }
     requires fit { StimuliFit at.now.sys.now (W.lane world.old).plan }
     requires knows { Stood (MayLook at.now.sys.now (terms_of at.now)) at.now.sys.now (terms_of at.now) (stand_of kernel.old objects.old (W.lane world.old)) }
     requires order { InOrder W.acts at.now.sys.now kernel.old.looks (W.lane world.old) }
@@ -119,7 +120,7 @@ pub fn vanilla_turn<R: Wait, W: World, G: Gate>(
     gate: &mut Told<'_, G>,
 ) -> Turn
     requires sound { IsSound sys.now }
-    requires few { budget ≤ 1000000 }
+    requires few { budget ≤ budget_limit }
     requires fit { StimuliFit sys.now (W.lane world.old).plan }
     requires knows { Stood (MayLook sys.now (under true budget)) sys.now (under true budget) (stand_of vanilla.old.kernel objects.old (W.lane world.old)) }
     requires order { InOrder W.acts sys.now vanilla.old.kernel.looks (W.lane world.old) }

@@ -2,6 +2,7 @@
 
 ghost use Rattle.std.specs.Prelude.{◌≡◌, ◌≤◌, false};
 ghost use Rattle.qp_model.specs.Sound.{IsSound};
+ghost use Rattle.qp_model.specs.Limits.{budget_limit};
 ghost use Rattle.qp_kernel_turns.specs.Lanes.{LaneTo};
 ghost use Rattle.qp_told.specs.Steps.{TellsSteps};
 ghost use Rattle.qp_port_lanes.specs.At.{IsBusyHome, IsHome};
@@ -29,7 +30,7 @@ pub(crate) fn begin<R: Wait, G: Tells>(
     gate: &mut Told<'_, G>,
 ) -> Result<bool, Halt>
     requires sound { IsSound sys.now }
-    requires few { budget ≤ 1000000 }
+    requires few { budget ≤ budget_limit }
     requires knows { IsHome sys.now budget home.old (bell_view lane.old) }
     ensures goes { NextTo sys.now budget home.old.me home.new (bell_view lane.new) result }
     ensures lane { LaneTo false (bell_view lane.old) (bell_view lane.new) result }

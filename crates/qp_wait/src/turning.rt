@@ -2,6 +2,7 @@
 
 ghost use Rattle.std.specs.Prelude.{◌≡◌, ◌≤◌, false};
 ghost use Rattle.qp_model.specs.Sound.{IsSound};
+ghost use Rattle.qp_model.specs.Limits.{budget_limit};
 ghost use Rattle.qp_kernel_turns.specs.Lanes.{LaneTo, LaneTurns};
 ghost use Rattle.qp_told.specs.Steps.{TellsSteps};
 ghost use Rattle.qp_port_lanes.specs.At.{IsHome};
@@ -31,7 +32,7 @@ fn rounds<R: Wait, G: Tells>(
     gate: &mut Told<'_, G>,
 ) -> Result<(), Halt>
     requires sound { IsSound sys.now }
-    requires few { budget ≤ 1000000 }
+    requires few { budget ≤ budget_limit }
     requires knows { IsHome sys.now budget home.old (bell_view lane.old) }
     ensures goes { HomeLooksTo sys.now budget home.old.me home.new (bell_view lane.new) result }
     ensures lane { LaneTo false (bell_view lane.old) (bell_view lane.new) result }
@@ -67,7 +68,7 @@ pub fn wait_turn<R: Wait, G: Tells>(
     gate: &mut Told<'_, G>,
 ) -> Turn
     requires sound { IsSound sys.now }
-    requires few { budget ≤ 1000000 }
+    requires few { budget ≤ budget_limit }
     requires knows { IsHome sys.now budget home.old (bell_view lane.old) }
     ensures goes { HomeTurns sys.now budget home.old.me home.new (bell_view lane.new) result }
     ensures lane { LaneTurns false (bell_view lane.old) (bell_view lane.new) result }

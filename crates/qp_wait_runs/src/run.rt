@@ -4,6 +4,7 @@ ghost use Rattle.std.specs.Prelude.{◌≡◌, ◌≤◌, IfOk, false, length, m
 ghost use Rattle.std.specs.List.{AllByRecursion};
 ghost use Rattle.qp_model.specs.Kernels.{port};
 ghost use Rattle.qp_model.specs.Sound.{IsSound};
+ghost use Rattle.qp_model.specs.Limits.{budget_limit};
 ghost use Rattle.qp_stim.specs.Rules.{StimuliFit};
 ghost use Rattle.qp_port_lanes.specs.Answers.{IsFed};
 ghost use Rattle.qp_port_phases.specs.Stopping.{AnyStopped};
@@ -56,7 +57,7 @@ fn run_ringing<'a, R: Threads + Wait + Sync, G: Gate>(
 ) -> Result<PortRun<SharedLane<'a>>, Memory>
     requires sound { IsSound at.now.sys.now }
     requires fit { StimuliFit at.now.sys.now at.now.stim.now }
-    requires few { at.now.budget ≤ 1000000 }
+    requires few { at.now.budget ≤ budget_limit }
     requires bells { AreBellsOf at.now.sys.now bells.now }
     requires root { IsBellRootOf bells.now root }
     requires sources { at.now.turns.now.rounds.now.sources ≡ length at.now.stim.now }
@@ -84,7 +85,7 @@ pub fn run_wait<R: Threads + Wait + Sync, G: Gate>(
 ) -> Result<Threaded, Memory>
     requires sound { IsSound sys.now }
     requires fit { StimuliFit sys.now stim.now }
-    requires few { budget ≤ 1000000 }
+    requires few { budget ≤ budget_limit }
     ensures run { IfOk result (λ run. IsThreadRun port sys.now stim.now budget run.sealed.journal) }
     ensures sealed { IfOk result (λ run. WasSealedFor sys.now run.sealed.journal) }
     ensures rests { IfOk result (λ run. AreRestsIn sys.now run.sealed.journal run.rests.items) }
