@@ -1,14 +1,12 @@
 -- What a lane keeps beside its records.
-use Rattle.std.specs.Prelude.{ℕ, ◌==◌, nat_lt, Bool, true, false, not, ◌&&◌, ◌||◌, List, [], ◌∷◌, Some, None}
+use Rattle.std.specs.Prelude.{ℕ, Bool, true, false, not, ◌&&◌, List, [], ◌∷◌, Some, None}
 use Rattle.std.specs.declared.option.Option.{Option}
-use Rattle.std.specs.List.{list_any}
 use Rattle.qp_model.specs.declared.bodies.Body.{Body}
 use Rattle.qp_model.specs.Record.{Item}
 use Rattle.qp_model.specs.Ends.{is_nil, is_spill}
 use Rattle.qp_calls.specs.declared.answers.Counts as counts
 use Rattle.qp_calls.specs.LaneView.{Shown, Counts, NotShown}
 use Rattle.qp_calls.specs.Clauses.{nil_by}
-use Rattle.qp_calls.specs.Notes.{stop_code}
 
 -- the place kept for one `spill`
 abbrev pub spill_place : Bool → ℕ

@@ -6,7 +6,7 @@ use Rattle.qp_chart.specs.Task as task
 use Rattle.qp_chart.specs.declared.checked.Row.{Row}
 use Rattle.qp_chart.specs.declared.checked.Chart.{Chart}
 use Rattle.qp_chart.specs.MainState.{entered}
-use Rattle.qp_chart.specs.Agenda.{transition, moves, handled, ended, start_plan}
+use Rattle.qp_chart.specs.Agenda.{moves, handled, ended, start_plan}
 use Rattle.qp_chart.specs.Task.{tasks_of, entries}
 use Rattle.qp_chart.specs.Drill as drill
 use Rattle.qp_chart.specs.Drill.{initial, drill}

@@ -6,7 +6,6 @@ use Rattle.qp_model.specs.declared.systems.System.{System}
 use Rattle.qp_model.specs.declared.systems.ObjectDef.{ObjectDef}
 use Rattle.qp_model.specs.declared.journals.Journal.{Journal}
 use Rattle.qp_model.specs.Course.{Cut, FollowsTo}
-use Rattle.qp_model.specs.Ends.{spills_cut}
 use Rattle.qp_model.specs.History.{lane_items}
 use Rattle.qp_model.specs.Ends.{may_cut}
 use Rattle.qp_model.specs.Home.{by_object, home_of, home_records, lane_at}

@@ -1,6 +1,5 @@
 -- What a call that begins reads is its records.
 use Rattle.qp_model.specs.Calls as call
-use Rattle.qp_model.specs.Calls.{Call, Answer}
 use Rattle.qp_check_calls.specs.CallStateLaws.{ReadsBegin}
 use Rattle.qp_check_calls.proofs.PostLemmas.{begin-post, begin-lifo, begin-forward}
 use Rattle.qp_check_calls.proofs.PublishLemmas.{begin-publish}

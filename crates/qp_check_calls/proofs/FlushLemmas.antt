@@ -8,7 +8,7 @@ use Rattle.qp_model.specs.declared.bodies.Body.TheVariants as item
 use Rattle.qp_model.specs.Line.{same_entry}
 use Rattle.qp_model.specs.Told.{Told, Known, Nothing, plain}
 use Rattle.qp_model.specs.Calls as call
-use Rattle.qp_model.specs.Calls.{Call, Answer, Granted, Refused, Flushed, AtQueue, AtPool, AtTimer, AtTicks, AtFront}
+use Rattle.qp_model.specs.Calls.{Answer, Flushed}
 use Rattle.qp_model.specs.Shapes.{Fits, Drops}
 use Rattle.qp_model.specs.Shapes as shapes
 use Rattle.qp_model.specs.Deferral.{keep, kept_after, KeepsDeferred}

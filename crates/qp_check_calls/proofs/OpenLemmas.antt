@@ -11,7 +11,7 @@ use Rattle.qp_model.specs.Line.{same_entry}
 use Rattle.qp_model.specs.Sources.{same_list}
 use Rattle.qp_model.specs.Told.{Known, Nothing, Free, Left, Former, Member}
 use Rattle.qp_model.specs.Calls as call
-use Rattle.qp_model.specs.Calls.{Call, Answer, Granted, Refused, Flushed, AtQueue, AtPool, AtTimer, AtTicks, AtFront}
+use Rattle.qp_model.specs.Calls.{Call, Answer, Granted, Refused, AtQueue, AtTimer, AtTicks, AtFront}
 use Rattle.qp_model.specs.Sites.{ring_of}
 use Rattle.qp_model.specs.Parts.{is_static, sizes_of, first_pool, room_before, members, timer_number}
 use Rattle.qp_model.specs.Shapes.{ticks_fit}

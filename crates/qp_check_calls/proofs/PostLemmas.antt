@@ -6,7 +6,7 @@ use Rattle.qp_model.specs.declared.bodies.Entry.{Entry}
 use Rattle.qp_model.specs.declared.bodies.Body.{Body}
 use Rattle.qp_model.specs.Told.{Told, Known}
 use Rattle.qp_model.specs.Calls as call
-use Rattle.qp_model.specs.Calls.{Call, Answer, Granted, Refused, Flushed, AtQueue, AtPool, AtTimer, AtTicks, AtFront}
+use Rattle.qp_model.specs.Calls.{Call, Answer, Granted, Refused, AtQueue, AtFront}
 use Rattle.qp_model.specs.Sites.{ring_of}
 use Rattle.qp_model.specs.Parts.{is_static, sizes_of}
 use Rattle.qp_model.specs.Shapes.{Fits, MakesAgainNow, Posts, PostsFront, PostsNew, PostsNewFront, Forwards}

@@ -8,7 +8,7 @@ use Rattle.qp_model.specs.declared.bodies.Body.{Body}
 use Rattle.qp_model.specs.declared.bodies.Body.TheVariants as item
 use Rattle.qp_model.specs.Told.{Told, Known, Nothing, Former, plain, raised}
 use Rattle.qp_model.specs.Calls as call
-use Rattle.qp_model.specs.Calls.{Call, Answer, Granted, Refused, Flushed, AtQueue, AtPool, AtTimer, AtTicks, AtFront}
+use Rattle.qp_model.specs.Calls.{Answer, Granted, AtQueue}
 use Rattle.qp_model.specs.Sites.{ring_of}
 use Rattle.qp_model.specs.Parts.{is_static, sizes_of, members}
 use Rattle.qp_model.specs.Shapes.{Fits, Drops, MakesAgain, NoBlockFor, Posts, PostsOne, PostsToAll, PostsUpTo, PublishesFirst, PublishesLast, Publishes, raising, restoring}

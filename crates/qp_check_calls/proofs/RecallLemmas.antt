@@ -9,7 +9,7 @@ use Rattle.qp_model.specs.declared.bodies.Body.TheVariants as item
 use Rattle.qp_model.specs.Line.{same_entry}
 use Rattle.qp_model.specs.Told.{Told, Known, Nothing, plain}
 use Rattle.qp_model.specs.Calls as call
-use Rattle.qp_model.specs.Calls.{Call, Answer, Granted, Refused, Flushed, AtQueue, AtPool, AtTimer, AtTicks, AtFront}
+use Rattle.qp_model.specs.Calls.{Answer, Granted, Refused, AtFront}
 use Rattle.qp_model.specs.Shapes.{Fits, Drops, MakesAgain, PostsFront, Recalls}
 use Rattle.qp_model.specs.Deferral.{keep, kept_after, KeepsDeferred}
 use Rattle.qp_check_calls.specs.CallState.{ToFront, CallStage, Begins, Whole}

@@ -12,7 +12,7 @@ use Rattle.qp_model.specs.Calls.{Answer}
 use Rattle.qp_model.specs.Shapes.{Drops, Releases, releases_by, MakesAgain, again_by}
 use Rattle.qp_model.proofs.LineLemmas.{same_number}
 use Rattle.qp_check_calls.specs.CallState as stages
-use Rattle.qp_check_calls.specs.CallState.{Behind, Ends, Goal, CallStage, Refers, Puts, Returns, Whole, CallState}
+use Rattle.qp_check_calls.specs.CallState.{Behind, Ends, Goal, CallStage, Refers, Puts, Returns, Whole}
 use Rattle.qp_check_calls.specs.CallStateNext.{stage_next, list_after, refer_next, return_next, drop_next, left_over, goes_on, released, again, by_pool}
 use Rattle.qp_check_calls.proofs.ReadLemmas.{At, at-step, at-stepped, at-ended, at-whole}
 use Rattle.qp_model.proofs.RecordLemmas.{told-is}

@@ -1,2 +1,1 @@
 -- Calls that begin.
-use Rattle.std.proofs.Common.{[]}

@@ -1,5 +1,5 @@
 -- Notes and other single records, and what is read of them.
-use Rattle.std.proofs.Common.{◌≡◌, ℕ, ◌+◌, ◌==◌, max, Bool, true, false, ◌&&◌, refl, ◌∙◌, ap, subst, Some}
+use Rattle.std.proofs.Common.{◌≡◌, ℕ, ◌+◌, ◌==◌, max, true, false, ◌&&◌, refl, ◌∙◌, ap, subst, Some}
 use Rattle.std.proofs.lemmas.Bool.{and_from, eqb-true, and_parts, false≢true}
 use Rattle.std.proofs.lemmas.Option.{none-some, same_Some}
 use Rattle.qp_model.specs.declared.bodies.Entry.{Entry}

@@ -1,8 +1,7 @@
 -- The records of a lane as a loop comes to them.
-use Rattle.std.proofs.Common.{◌≡◌, ◌∙◌, ℕ, ◌+◌, ◌<◌, ◌≤◌, ◌==◌, Bool, true, false, not, ◌&&◌, ◌||◌, List, [], ◌∷◌, ◌++◌, map, length, take, drop, get_or, ap, sym, refl, arith}
+use Rattle.std.proofs.Common.{◌≡◌, ◌∙◌, ℕ, ◌+◌, ◌<◌, ◌≤◌, ◌==◌, true, false, ◌&&◌, List, length, drop, get_or, ap, sym, refl, arith}
 use Rattle.std.specs.List.{list_all}
 use Rattle.std.proofs.lemmas.Bool.Decides.{nat_tests}
-use Rattle.std.proofs.lemmas.List.{drop_more, drop_all, take_more, map-append, take-append-drop}
 use Rattle.qp_model.specs.declared.record.Rec.{Rec}
 use Rattle.qp_model.specs.Record.{Item, item_of}
 use Rattle.qp_model.specs.History.{lane_items}

@@ -1,14 +1,8 @@
 -- Records at the front of a list, and tests.
-use Rattle.std.proofs.Common.{◌≡◌, Bool, true, false, cond, List, [], ◌∷◌, Some, None, refl, arith}
-use Rattle.std.proofs.lemmas.Bool.Decides.{nat_tests}
+use Rattle.std.proofs.Common.{◌≡◌, Bool, true, false, cond, List, [], ◌∷◌, Some, None, refl}
 use Rattle.std.specs.declared.option.Option.{Option}
 use Rattle.std.specs.Option.{option_map}
-use Rattle.qp_model.specs.declared.bodies.Entry.{Entry}
-use Rattle.qp_model.specs.declared.bodies.Body.{Body}
-use Rattle.qp_model.specs.Record.{entry}
-use Rattle.qp_model.specs.Line.{same_entry}
-use Rattle.qp_model.specs.Told.{Told, Known}
-use Rattle.qp_model.proofs.LineLemmas.{same_number}
+use Rattle.qp_model.specs.Told.{Told}
 use Rattle.qp_check_calls.specs.Decides.{Decides}
 
 -- the first record, and those behind it

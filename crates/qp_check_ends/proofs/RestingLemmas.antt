@@ -1,18 +1,14 @@
 -- A walk over a history, and a test of all numbers below another.
-use Rattle.std.proofs.Common.{◌≡◌, ℕ, suc, ◌+◌, ◌*◌, ◌≤◌, ◌<◌, ◌==◌, nat_lt, nat_le, Bool, true, false, ◌&&◌, cond, List, [], ◌∷◌, ◌++◌, length, drop, get_or, refl, ap, sym, ◌∙◌, arith, append_assoc, append-nil}
+use Rattle.std.proofs.Common.{◌≡◌, ℕ, suc, ◌+◌, ◌≤◌, ◌<◌, ◌==◌, Bool, true, false, ◌&&◌, cond, List, [], ◌∷◌, ◌++◌, length, drop, get_or, refl, ap, sym, ◌∙◌, arith, append_assoc, append-nil}
 use Rattle.std.proofs.lemmas.Bool.{and_from}
 use Rattle.std.proofs.lemmas.List.{drop_all}
-use Rattle.std.proofs.lemmas.Bool.Decides.{nat_tests}
-use Rattle.qp_model.specs.declared.bodies.Body.{Body}
 use Rattle.qp_model.specs.declared.bodies.Entry.{Entry}
-use Rattle.qp_model.specs.declared.words.Word.TheVariants as word
 use Rattle.qp_model.specs.End.{names_on}
 use Rattle.qp_model.specs.Record.{Item}
 use Rattle.qp_model.specs.FreeBlocks.{Pool, free_blocks}
 use Rattle.qp_model.specs.Line.{Line, line}
 use Rattle.qp_model.specs.Lists.{all_below, count_up}
-use Rattle.qp_model.specs.Machine.{Machine, after, after_from}
-use Rattle.qp_check_lanes.specs.WordState.{item_said}
+use Rattle.qp_model.specs.Machine.{after, after_from}
 use Rattle.qp_check_lanes.proofs.WalkLemmas.{rest_get}
 
 -- a test of all numbers below one more

@@ -4,7 +4,7 @@ use Rattle.std.specs.declared.option.Option.{Option}
 use Rattle.std.specs.Option.{option_map}
 use Rattle.std.specs.List.{filter_map}
 use Rattle.std.proofs.lemmas.List.Elements.{filter_map-append}
-use Rattle.qp_model.specs.OneOrder.{Placed, stim_of}
+use Rattle.qp_model.specs.OneOrder.{Placed}
 use Rattle.qp_model.specs.OneOrder as order
 use Rattle.qp_check_kernel.specs.declared.stimulus_index.Placed as code
 use Rattle.qp_check_kernel.specs.declared.source_turn.StimulusPlace.{StimulusPlace}

@@ -1,5 +1,5 @@
 -- The reader of lane 0, as the definition of the kernel lane sees it.
-use Rattle.std.specs.Prelude.{ℕ, ◌==◌, nat_lt, Bool, true, false, List, [], ◌∷◌, map, reverse, Some, None}
+use Rattle.std.specs.Prelude.{ℕ, nat_lt, List, [], ◌∷◌, map, reverse, Some, None}
 use Rattle.std.specs.declared.option.Option.{Option}
 use Rattle.std.specs.List.{filter}
 use Rattle.std.specs.Borrow.{Bor}

@@ -1,29 +1,18 @@
 -- The first that fails, walked over words and over definitions.
-use Rattle.std.proofs.Common.{◌≡◌, ◌+◌, ◌-◌, ◌*◌, ◌≤◌, nat_lt, nat_le, Bool, true, false, not, ◌&&◌, cond, List, [], ◌∷◌, ◌++◌, map, drop, refl, ap, sym, ◌∙◌, Some, None}
+use Rattle.std.proofs.Common.{◌≡◌, ◌+◌, ◌-◌, Bool, true, false, not, ◌&&◌, cond, List, [], ◌∷◌, ◌++◌, refl, ap, sym, ◌∙◌, Some, None}
 use Rattle.std.specs.declared.option.Option.{Option}
-use Rattle.std.specs.List.{filter, flat_map, AllByRecursion}
-use Rattle.std.specs.Prelude.{slice_get}
-use Rattle.std.specs.Option.{option_map_or}
-use Rattle.std.proofs.lemmas.Bool.{and_from}
-use Rattle.qp_model.specs.declared.systems.PoolDef.{PoolDef}
-use Rattle.std.proofs.lemmas.Bool.Decides.{nat_tests}
-use Rattle.std.proofs.lemmas.List.Folds.{list_all-append}
 use Rattle.qp_model.specs.declared.record.Rec.{Rec}
 use Rattle.qp_model.specs.declared.systems.System.{System}
 use Rattle.qp_model.specs.declared.words.Word.{Word}
 use Rattle.qp_model.specs.declared.words.Word.TheVariants as word
-use Rattle.qp_model.specs.Lists.{count_up}
 use Rattle.qp_model.specs.History.{all_items, hist}
 use Rattle.qp_model.specs.Machine.{is_allowed}
 use Rattle.qp_model.specs.References.{references}
-use Rattle.qp_model.specs.Sites.{blocks_of}
-use Rattle.qp_model.specs.WordLaw.{is_object}
 use Rattle.qp_check_words.specs.declared.verdict.Broken.{Broken}
 use Rattle.qp_check_words.specs.declared.rules.Rule.{Rule}
 use Rattle.qp_check_words.specs.declared.rules.Rule.TheVariants as rule
-use Rattle.qp_check_words.specs.Numbers.{WordsFit}
 use Rattle.qp_check_words.specs.WordRules.{Try, first_broken, is_site, definition_of_rule, site_of, tries_at, tries_by, word_rules, word_tries, rule_holds, lives_hold, operations_allowed}
-use Rattle.qp_check_words.specs.SystemWords.{words_of, pool_words, words_of_pool, block_words, queue_words, signal_words, timer_words}
+use Rattle.qp_check_words.specs.SystemWords.{words_of}
 use Rattle.qp_check_words.specs.Judging.{rule_test, lives_of}
 
 -- the word fails

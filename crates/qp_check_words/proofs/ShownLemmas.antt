@@ -1,19 +1,17 @@
 -- What is shown of a word, by the records on it alone and by the number of operations that each shows.
-use Rattle.std.proofs.Common.{◌≡◌, ℕ, zero, suc, ◌+◌, ◌^◌, ◌<◌, ◌≤◌, ◌==◌, nat_lt, nat_le, Bool, true, false, not, ◌&&◌, ◌||◌, cond, List, [], ◌∷◌, length, take, refl, ap, sym, ◌∙◌, Some, None, arith}
+use Rattle.std.proofs.Common.{◌≡◌, ℕ, zero, suc, ◌+◌, ◌^◌, ◌<◌, ◌≤◌, ◌==◌, nat_lt, nat_le, Bool, true, false, not, ◌&&◌, ◌||◌, List, [], ◌∷◌, length, take, refl, ap, sym, ◌∙◌, Some, None, arith}
 use Rattle.std.specs.declared.option.Option.{Option}
 use Rattle.std.specs.List.{filter, list_all}
 use Rattle.std.proofs.Math.Bool.{and-true}
-use Rattle.std.proofs.lemmas.Bool.{and_from, and_parts}
 use Rattle.std.proofs.lemmas.Bool.Decides.{nat_tests}
 use Rattle.qp_model.specs.declared.words.Word.{Word}
 use Rattle.qp_model.specs.declared.bodies.Body.{Body}
 use Rattle.qp_model.specs.Record.{Item}
-use Rattle.qp_model.specs.Lists.{never_falls}
-use Rattle.qp_model.specs.History.{Touch, Draws, Shows, Neither, touch, same_word, mark_of, marks}
+use Rattle.qp_model.specs.History.{Touch, Draws, Shows, Neither, touch}
 use Rattle.qp_model.specs.Machine.{Machine, after, after_from, shown_by}
 use Rattle.qp_model.specs.WordOf.{fitting_number}
 use Rattle.qp_check_lanes.specs.Groups.{has_key, of_key, grouped_from, grouped}
-use Rattle.qp_check_words.specs.Marks.{word_use, touched, shown_number, shown_key, mark_number, rises_from, shows_within}
+use Rattle.qp_check_words.specs.Marks.{word_use, touched, shown_number, shown_key, shows_within}
 use Rattle.qp_check_lanes.specs.WordState.{shows_from}
 use Rattle.qp_check_words.specs.Judging.{shown_of}
 use Rattle.qp_check_words.proofs.NumberLemmas.{list_all_within}

@@ -1,13 +1,13 @@
 -- A definition at a word of the system, by the records on it.
-use Rattle.std.proofs.Common.{◌≡◌, ℕ, suc, ◌^◌, ◌<◌, ◌≤◌, Bool, true, false, List, [], ◌∷◌, length, refl, cond, arith}
-use Rattle.std.specs.List.{filter, list_all}
+use Rattle.std.proofs.Common.{◌≡◌, ℕ, ◌^◌, ◌<◌, true, false, List, [], ◌∷◌, length, refl}
+use Rattle.std.specs.List.{list_all}
 use Rattle.qp_model.specs.declared.systems.System.{System}
 use Rattle.qp_model.specs.declared.words.Word.{Word}
 use Rattle.qp_model.specs.declared.words.Word.TheVariants as word
 use Rattle.qp_model.specs.declared.bodies.Body.{Body}
 use Rattle.qp_model.specs.declared.bodies.Body.TheVariants.{Nil}
 use Rattle.qp_model.specs.Record.{Item}
-use Rattle.qp_model.specs.History.{touch, touch_of, total, hist, drawn_on, shown_on}
+use Rattle.qp_model.specs.History.{touch, touch_of, hist, shown_on}
 use Rattle.qp_model.specs.Machine.{is_shown, shown_by}
 use Rattle.qp_model.specs.References.{references}
 use Rattle.qp_model.specs.FreeBlocks.{free_blocks}

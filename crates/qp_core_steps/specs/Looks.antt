@@ -10,7 +10,7 @@ use Rattle.qp_model.specs.declared.bodies.Body.{Body}
 use Rattle.qp_model.specs.declared.bodies.Body.TheVariants.{Short, NoBlock, Nil, Seen, Full, NoEntry, NoLifo}
 use Rattle.qp_model.specs.Record.{body_of}
 use Rattle.qp_model.specs.Sites.{ring_of}
-use Rattle.qp_model.specs.WordLaw.{is_pool, is_block, is_object}
+use Rattle.qp_model.specs.WordLaw.{is_block, is_object}
 use Rattle.qp_table.specs.Rule.{pool_at, block_at, queue_at}
 use Rattle.qp_table.specs.After.{reading}
 use Rattle.qp_table.specs.QueueLaws.{f_in, l_in, m_in}

@@ -3,7 +3,6 @@ use Rattle.std.proofs.Common.{◌≡◌, ℕ, zero, suc, ◌+◌, Bool, true, fa
 use Rattle.std.proofs.lemmas.List.{map-append}
 use Rattle.qp_model.specs.declared.bodies.Body.{Body}
 use Rattle.qp_model.specs.declared.bodies.Body.TheVariants as body
-use Rattle.qp_model.specs.declared.words.Word.{Word}
 use Rattle.qp_model.specs.History.{marks}
 use Rattle.qp_model.specs.KernelLane.{role_of}
 use Rattle.qp_model.specs.Record.{Item}

@@ -5,7 +5,6 @@ use Rattle.std.specs.Option.{option_map}
 use Rattle.qp_model.specs.declared.stimulus.Stim.{Stim}
 use Rattle.qp_model.specs.declared.stimulus.Stim.TheVariants as stim
 use Rattle.qp_model.specs.declared.systems.System.{System}
-use Rattle.qp_model.specs.declared.bodies.Body.TheVariants as body
 use Rattle.qp_model.specs.OneOrder.{Placed, begun, acted_last, all_empty, may_act, stimuli_after, turned, acts_next}
 
 -- nothing is left behind as many as were done

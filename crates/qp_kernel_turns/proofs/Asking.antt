@@ -1,5 +1,5 @@
 -- How often the kernel's lane has looked at the stop word.
-use Rattle.std.proofs.Common.{◌≡◌, ℕ, ◌+◌, ◌≤◌, Bool, false, arith}
+use Rattle.std.proofs.Common.{◌≡◌, ◌≤◌, Bool, false, arith}
 use Rattle.qp_calls.specs.LaneView.{LaneView}
 use Rattle.qp_kernel.specs.declared.kernel.Kernel.{Kernel}
 use Rattle.qp_kernel_turns.specs.Counting.{Asks}

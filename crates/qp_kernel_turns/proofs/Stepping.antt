@@ -18,7 +18,7 @@ use Rattle.qp_model.specs.Lawful.{spill_cuts}
 use Rattle.qp_model.specs.Pieces.{Piece, Point, tell}
 use Rattle.qp_model.specs.Sites.{object_at}
 use Rattle.qp_model.specs.Sound.{IsSound}
-use Rattle.qp_model.specs.Step.{StepGoesOn, Remainder, moment, publishing_left, tasks_left}
+use Rattle.qp_model.specs.Step.{StepGoesOn, Remainder, moment}
 use Rattle.qp_model.specs.Told.{Event, Told, ToldItem, for_object, plain, untold}
 use Rattle.qp_model_order.specs.RunOrder.{has_stim}
 use Rattle.qp_model_order.specs.SourceRun.{untold_all}
@@ -30,9 +30,8 @@ use Rattle.qp_dispatch.specs.declared.objects.Object.{Object}
 use Rattle.qp_dispatch.specs.declared.lasting.Lasting.{Lasting}
 use Rattle.qp_dispatch.specs.declared.steps.Position.{Position}
 use Rattle.qp_dispatch.specs.declared.part.Under.{Under}
-use Rattle.qp_dispatch.specs.Parts.{IsPublishing, held_by, left_by as left_by_under}
+use Rattle.qp_dispatch.specs.Parts.{IsPublishing, held_by}
 use Rattle.qp_dispatch.specs.Runs.{ObjectSetting, hand_of, tasks_in}
-use Rattle.qp_chart.specs.Task.{Task}
 use Rattle.qp_model.specs.Able.{task_able}
 use Rattle.qp_model.specs.Standing.{StepAdvances}
 use Rattle.qp_calls.specs.declared.tokens.HeldEntry.{HeldEntry}

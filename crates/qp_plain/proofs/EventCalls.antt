@@ -1,5 +1,5 @@
 -- The events in the blocks, and which blocks a pool has.
-use Rattle.std.proofs.Common.{◌≡◌, ℕ, zero, suc, ◌<◌, ◌≤◌, ◌==◌, nat_lt, nat_le, Bool, true, List, [], ◌∷◌, length, get_or, sym, ◌∙◌, ap, subst, arith, IsTrue, Some}
+use Rattle.std.proofs.Common.{◌≡◌, ℕ, zero, suc, ◌<◌, ◌==◌, nat_lt, nat_le, Bool, true, List, [], ◌∷◌, length, get_or, sym, ◌∙◌, ap, subst, arith, IsTrue, Some}
 use Rattle.std.specs.List.{list_all}
 use Rattle.std.proofs.lemmas.Bool.{and_from, and_parts, le-leb, lt-ltb}
 use Rattle.std.proofs.lemmas.Bool.Decides.{nat_tests}

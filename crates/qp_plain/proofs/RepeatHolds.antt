@@ -23,7 +23,7 @@ use Rattle.qp_plain_words.proofs.SetLemmas.{set-put, members-put, set-take}
 use Rattle.qp_plain_sound.specs.Sound.{hands_in}
 use Rattle.qp_plain_sound.specs.WordStates.{pool_in, refs_in, line_in, set_in, clock_in}
 use Rattle.qp_plain_sound.proofs.FreeLemmas.{length-without_one}
-use Rattle.qp_plain_sound.proofs.Standing.{block-pool, out-not_free}
+use Rattle.qp_plain_sound.proofs.Standing.{block-pool}
 use Rattle.qp_plain_sound.proofs.Standing as standing
 use Rattle.qp_plain.specs.declared.book.Book.{Book}
 use Rattle.qp_plain.specs.declared.world.PlainWorld.{PlainWorld}

@@ -1,6 +1,6 @@
 -- The laws of a world of one thread.
-use Rattle.std.specs.Prelude.{◌≡◌, ℕ, ◌+◌, ◌<◌, ◌≤◌, ◌==◌, nat_lt, Bool, not, ◌&&◌, ◌||◌, List, [], ◌∷◌, ◌++◌, length, IsTrue, IsFalse, Some}
-use Rattle.std.specs.List.{filter, count_by, list_all, list_any}
+use Rattle.std.specs.Prelude.{◌≡◌, ℕ, ◌+◌, ◌<◌, ◌≤◌, ◌==◌, not, List, [], ◌∷◌, ◌++◌, length, IsTrue, IsFalse, Some}
+use Rattle.std.specs.List.{filter, count_by, list_all}
 use Rattle.qp_model.specs.declared.record.Rec.{Rec}
 use Rattle.qp_model.specs.declared.words.Word.{Word}
 use Rattle.qp_model.specs.declared.systems.System.{System}
@@ -19,7 +19,7 @@ use Rattle.qp_calls.specs.Clauses.{StandsHold}
 use Rattle.qp_calls.specs.LaneView.{Gains, GrowsOf, IsNew, LaneView, Purse, ceiling_in, is_known, mark_by, own_of}
 use Rattle.qp_calls.specs.Tokens.{Hold, Token, hands_by}
 use Rattle.qp_calls.specs.LaneLaws.{IsWithinLimit, HasCauses, is_caused_in}
-use Rattle.qp_calls.specs.Notes.{MayNote, MayStop, told_note, stop_code}
+use Rattle.qp_calls.specs.Notes.{MayNote, MayStop, told_note}
 use Rattle.qp_plain_sound.specs.Log.{Orders, empty_lanes, lane_recs, log_of}
 use Rattle.qp_model.specs.OneOrder.{items_placed}
 use Rattle.qp_plain_sound.specs.Sound.{Sound, SoundWorld, facts_in, hands_in}

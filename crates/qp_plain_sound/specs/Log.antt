@@ -1,7 +1,7 @@
 -- The records of a world in the order of its calls: its lanes, and the lane of each record.
-use Rattle.std.specs.Prelude.{◌≡◌, ℕ, zero, suc, ◌==◌, ◌++◌, List, [], ◌∷◌, map, drop, length, get_or, slice_set}
+use Rattle.std.specs.Prelude.{◌≡◌, ℕ, zero, suc, ◌==◌, ◌++◌, List, [], ◌∷◌, drop, length, get_or, slice_set}
 use Rattle.qp_model.specs.declared.record.Rec.{Rec}
-use Rattle.qp_model.specs.Record.{Item, item_of}
+use Rattle.qp_model.specs.Record.{item_of}
 use Rattle.qp_model.specs.OneOrder.{Placed}
 use Rattle.qp_calls.specs.Counting.{times}
 

@@ -10,7 +10,7 @@ use Rattle.qp_model.specs.Told.{Event, ToldItem}
 use Rattle.qp_model.specs.Line.{Line}
 use Rattle.qp_model.specs.History.{all_items, lane_items, total}
 use Rattle.qp_model.specs.Knowing.{event_of_entry, told_lane}
-use Rattle.qp_calls.specs.LaneView.{LaneView, Aside, Purse, Own, Shown, FreeBlocks, References, Counts, NotShown, codes_in}
+use Rattle.qp_calls.specs.LaneView.{LaneView, Purse, Own, Shown, FreeBlocks, References, Counts, NotShown, codes_in}
 use Rattle.qp_plain_sound.specs.Log.{lane_recs, log_of}
 use Rattle.qp_plain_sound.specs.WordStates.{pool_in, refs_in, line_in}
 use Rattle.qp_plain_sound.specs.Sound.{facts_in, hands_in}

@@ -9,7 +9,6 @@ use Rattle.qp_model.specs.Record.{item_of}
 use Rattle.qp_model.specs.Ends.{is_spill}
 use Rattle.qp_model.specs.Sound.{IsSound}
 use Rattle.qp_model.specs.Told.{plain, for_object}
-use Rattle.qp_model.proofs.RecordLemmas.{body-is}
 use Rattle.qp_calls.specs.LaneView.{GrowsOf, LaneView, Roomier}
 use Rattle.qp_calls.specs.Notes.{told_note}
 use Rattle.qp_plain.specs.declared.world.PlainWorld.{PlainWorld}

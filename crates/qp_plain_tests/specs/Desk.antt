@@ -1,8 +1,7 @@
 -- What a test may go on with.
-use Rattle.std.specs.Prelude.{◌≡◌, ℕ, ◌-◌, ◌<◌, true, List, ◌∷◌, IsTrue, slice_get, Some, None, ⊤}
+use Rattle.std.specs.Prelude.{◌≡◌, ℕ, true, List, ◌∷◌, IsTrue, Some, None, ⊤}
 use Rattle.std.specs.declared.option.Option.{Option}
 use Rattle.qp_model.specs.declared.systems.System.{System}
-use Rattle.qp_model.specs.declared.systems.TimerDef.{TimerDef}
 use Rattle.qp_model.specs.Sound.{IsSound}
 use Rattle.qp_calls.specs.declared.tokens.HeldEntry.{HeldEntry}
 use Rattle.qp_calls.specs.declared.deferred.Deferred.{Deferred}

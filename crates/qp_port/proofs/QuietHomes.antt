@@ -11,7 +11,7 @@ use Rattle.qp_model.specs.Told.{ToldItem}
 use Rattle.qp_model.specs.Acts.{Config}
 use Rattle.qp_model.specs.Ends.{ends_last, may_cut}
 use Rattle.qp_model.specs.End.{spents_follow, spills_state}
-use Rattle.qp_model.specs.HomeLane.{is_home_lane, all_differ}
+use Rattle.qp_model.specs.HomeLane.{is_home_lane}
 use Rattle.qp_model.specs.ObjectShape.{CutGroups, Ends}
 use Rattle.qp_model.specs.Course.{Whole, FollowsTo}
 use Rattle.qp_model.proofs.ShapeLemmas.{groups-of}
@@ -22,7 +22,7 @@ use Rattle.qp_kernel.specs.ZeroEnds.{cut_in}
 use Rattle.qp_kernel.proofs.WaitLemmas.{follows-resting}
 use Rattle.qp_calls.specs.LaneView.{Own}
 use Rattle.qp_port_law.specs.Homes.{HomeEnds, home_told, is_spent_home}
-use Rattle.qp_port_law.specs.HomeLanes.{LooksOnce, looks_in}
+use Rattle.qp_port_law.specs.HomeLanes.{looks_in}
 use Rattle.qp_port_law.specs.HomeLaws.{IsHomeOf, HomeRests}
 use Rattle.qp_port_law.proofs.HomeRecords.{ends-asserts}
 use Rattle.qp_port_law.proofs.HomeEnding.{looks-differ}

@@ -3,8 +3,7 @@ use Rattle.std.specs.Prelude.{◌≡◌, ℕ, true, List, [], ◌∷◌, ⊤}
 use Rattle.qp_model.specs.declared.stimulus.Stim.{Stim}
 use Rattle.qp_model.specs.declared.systems.System.{System}
 use Rattle.qp_model.specs.declared.systems.ObjectDef.{ObjectDef}
-use Rattle.qp_calls.specs.LaneView.{IsNew, LaneView}
-use Rattle.qp_kernel_turns.specs.Lanes.{SameLane}
+use Rattle.qp_calls.specs.LaneView.{LaneView}
 use Rattle.qp_port_lanes.specs.CursorAt.{mine}
 use Rattle.qp_port.specs.declared.job.Job.{Job}
 use Rattle.qp_port.specs.declared.job.Job.TheVariants as job

@@ -1,5 +1,5 @@
 -- An object at rest: its queue is found empty, or its lane ends.
-use Rattle.std.proofs.Common.{◌≡◌, ℕ, suc, ◌+◌, ◌<◌, ◌≤◌, ◌==◌, nat_le, Bool, true, false, ◌&&◌, List, [], ◌∷◌, ◌++◌, length, refl, sym, ◌∙◌, ap, subst, inl, inr, Some, arith, append-nil, append_assoc, cond, IsTrue}
+use Rattle.std.proofs.Common.{◌≡◌, ℕ, suc, ◌+◌, ◌<◌, ◌≤◌, ◌==◌, nat_le, Bool, true, false, ◌&&◌, List, [], ◌∷◌, ◌++◌, length, refl, sym, ◌∙◌, ap, subst, inl, inr, Some, arith, append-nil, append_assoc, IsTrue}
 use Rattle.std.specs.Bool.{MatchBool}
 use Rattle.std.proofs.lemmas.Bool.{and_parts}
 use Rattle.std.proofs.lemmas.Bool.Decides.{nat_tests}
@@ -10,7 +10,6 @@ use Rattle.qp_model.specs.declared.bodies.Body.TheVariants as body
 use Rattle.qp_model.specs.declared.words.Word.TheVariants as word
 use Rattle.qp_model.specs.Course.{chart_at}
 use Rattle.qp_model.specs.Ends.{may_cut}
-use Rattle.qp_model.specs.Knowing.{told_alone}
 use Rattle.qp_model.specs.Lawful.{dispatched}
 use Rattle.qp_model.specs.OutputSummary.{CourseLeaves}
 use Rattle.qp_model.specs.Sites.{object_at}
@@ -34,7 +33,7 @@ use Rattle.qp_port_law.specs.Homes.{HomeEnds}
 use Rattle.qp_kernel_turns.specs.declared.halting.Halt.{Halt}
 use Rattle.qp_kernel_turns.specs.declared.halting.Halt.TheVariants as halt
 use Rattle.qp_kernel_turns.specs.Halting.{TurnHalts, asked_once}
-use Rattle.qp_kernel_turns.proofs.Resting.{PassBy, pass-both, pass-kernel, pass-spent}
+use Rattle.qp_kernel_turns.proofs.Resting.{pass-both, pass-kernel, pass-spent}
 use Rattle.qp_kernel_turns.proofs.SoundObjects.{able, numbered}
 use Rattle.qp_kernel_turns.proofs.Taking.{seen-mark_own, nil-mark_own}
 use Rattle.qp_port_law.specs.HomeLaws.{HasMore, IsHomeOf, HomeRests}

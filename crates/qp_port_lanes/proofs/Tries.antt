@@ -8,7 +8,6 @@ use Rattle.qp_model.specs.declared.stimulus.Stim.TheVariants as stim
 use Rattle.qp_model.specs.declared.systems.System.{System}
 use Rattle.qp_model.specs.declared.bodies.Body.TheVariants as body
 use Rattle.qp_model.specs.Told.{Told, plain}
-use Rattle.qp_model.specs.Ends.{is_end}
 use Rattle.qp_model.specs.Kernels.{sim, may_try}
 use Rattle.qp_model.specs.Sources.{SeesEmpty, SeesEntry, Settles, StimFits, Tries, entry_seen, none_twice, priorities, same_list}
 use Rattle.qp_model_order.specs.Stimulus.{ArePlain, IsPlain, StimulusForm, source_items}

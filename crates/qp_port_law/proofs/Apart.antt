@@ -1,5 +1,5 @@
 -- Lanes whose starts and later records lie apart.
-use Rattle.std.proofs.Common.{◌≡◌, inl, inr, ℕ, zero, suc, ◌+◌, ◌≤◌, Bool, true, false, cond, List, [], ◌∷◌, ◌++◌, Option, Some, None, refl, sym, ◌∙◌, ap, subst, arith}
+use Rattle.std.proofs.Common.{◌≡◌, inl, inr, ℕ, zero, suc, ◌+◌, ◌≤◌, Bool, true, false, cond, List, [], ◌∷◌, ◌++◌, Option, Some, None, sym, ◌∙◌, ap, subst, arith}
 use Rattle.std.specs.List.{AllByRecursion, cons_option}
 use Rattle.std.proofs.lemmas.List.{map-append}
 use Rattle.qp_model.specs.declared.words.Word.{Word}
@@ -8,7 +8,7 @@ use Rattle.qp_model.specs.Record.{Item}
 use Rattle.qp_model.specs.Told.{ToldItem, untold}
 use Rattle.qp_model_order.specs.SourceRun.{untold_all}
 use Rattle.qp_calls.specs.LaneView.{Advances, AreBetween, IsBetween, LaneView}
-use Rattle.qp_kernel.specs.Starts.{AreStarts, IsStartAlone, behind_starts, up_to}
+use Rattle.qp_kernel.specs.Starts.{AreStarts, IsStartAlone, up_to}
 use Rattle.qp_model.specs.OutputSummary.{is_done_record}
 use Rattle.qp_kernel.proofs.StartsLemmas.{starts-split}
 use Rattle.qp_port_phases.specs.Turns.{AreReady}

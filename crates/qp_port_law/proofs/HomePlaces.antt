@@ -1,5 +1,5 @@
 -- Where the homes of objects are: the n-th object has lane n, counted from 1.
-use Rattle.std.proofs.Common.{◌≡◌, ℕ, ◌+◌, ◌<◌, ◌==◌, true, false, List, [], ◌∷◌, ◌++◌, length, refl, subst, arith, Some}
+use Rattle.std.proofs.Common.{◌≡◌, ℕ, ◌+◌, ◌<◌, ◌==◌, true, List, [], ◌∷◌, ◌++◌, length, refl, subst, arith, Some}
 use Rattle.std.specs.List.{position, AllByRecursion}
 use Rattle.std.proofs.lemmas.Bool.Decides.{nat_tests}
 use Rattle.std.proofs.lemmas.List.{length-append}
@@ -8,7 +8,7 @@ use Rattle.qp_model.specs.declared.systems.ObjectDef.{ObjectDef}
 use Rattle.qp_model.specs.declared.journals.Journal.{Journal}
 use Rattle.qp_model.specs.Kernels.{port}
 use Rattle.qp_model.specs.Home.{home_of}
-use Rattle.qp_model.proofs.HomeLemmas.{All-snoc, AreBelow, position-front, differ}
+use Rattle.qp_model.proofs.HomeLemmas.{position-front, differ}
 
 -- the home lane of an object
 pub home-at : (sys : System) (j : Journal) → j.kernel ≡ port → (front : List ObjectDef) (d : ObjectDef) (rest : List ObjectDef) → front ++ d ∷ rest ≡ sys.objects

@@ -11,7 +11,6 @@ use Rattle.qp_model.specs.History.{lane_items, marks}
 use Rattle.qp_model.specs.Home.{lane_at}
 use Rattle.qp_model.specs.Kernels.{port, qk}
 use Rattle.qp_model.specs.Lawful.{facts_of}
-use Rattle.qp_model.specs.Record.{Item}
 use Rattle.qp_model_order.specs.SourceRun.{untold_all}
 use Rattle.qp_model_order.proofs.SourceLanes.{untold-lane}
 use Rattle.qp_calls.specs.LaneView.{LaneView}

@@ -10,7 +10,6 @@ use Rattle.qp_model.proofs.TakenLemmas.{drop-head}
 use Rattle.qp_stim.specs.Rules.{StimuliFit}
 use Rattle.qp_calls.specs.LaneView.{LaneView}
 use Rattle.qp_dispatch.specs.declared.objects.Turn.{Turn}
-use Rattle.qp_dispatch.specs.declared.objects.Turn.TheVariants as turn
 use Rattle.qp_port_phases.specs.Turns.{AreReady}
 use Rattle.qp_port_phases.specs.Lanes.{AreTogether}
 use Rattle.qp_port_lanes.proofs.Feeding.{fed-new}

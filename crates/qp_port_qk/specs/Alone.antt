@@ -1,9 +1,9 @@
 -- Lanes that have no more than their starts.
-use Rattle.std.proofs.Common.{◌≡◌, ℕ, zero, suc, true, length, List, [], refl, sym, ap, subst}
+use Rattle.std.proofs.Common.{◌≡◌, ℕ, true, length, List, [], refl, sym, ap, subst}
 use Rattle.qp_model.specs.declared.systems.System.{System}
 use Rattle.qp_model.specs.Record.{Item}
 use Rattle.qp_model_order.specs.SourceRun.{untold_all}
-use Rattle.qp_kernel.specs.Starts.{AreStarts, IsStartAlone}
+use Rattle.qp_kernel.specs.Starts.{AreStarts}
 use Rattle.qp_kernel.proofs.StartsLemmas.{starts-alone}
 use Rattle.qp_calls.specs.LaneView.{LaneView}
 use Rattle.qp_dispatch.specs.declared.objects.Turn.{Turn}

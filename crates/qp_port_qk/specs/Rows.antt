@@ -4,8 +4,7 @@ use Rattle.qp_model.specs.declared.stimulus.Stim.{Stim}
 use Rattle.qp_model.specs.declared.systems.System.{System}
 use Rattle.qp_model.specs.declared.systems.ObjectDef.{ObjectDef}
 use Rattle.qp_model.specs.Sites.{object_at}
-use Rattle.qp_calls.specs.LaneView.{IsNew, LaneView}
-use Rattle.qp_kernel_turns.specs.Lanes.{SameLane}
+use Rattle.qp_calls.specs.LaneView.{LaneView}
 use Rattle.qp_port_lanes.specs.CursorAt.{mine}
 use Rattle.qp_port_qk.specs.declared.job.QkJob.{QkJob}
 use Rattle.qp_port_qk.specs.declared.job.QkJob.TheVariants as job

@@ -8,7 +8,6 @@ use Rattle.qp_model.specs.declared.systems.ObjectDef.{ObjectDef}
 use Rattle.qp_calls.specs.LaneView.{LaneView}
 use Rattle.qp_shared.specs.declared.shared.Shared.{Shared}
 use Rattle.qp_shared.specs.Starting.{AreFirst, serves_one}
-use Rattle.qp_port_qk.specs.Rows as rows
 use Rattle.qp_port_lanes.specs.Workers.{AreSameLanes, IsNewOf}
 use Rattle.qp_port.specs.Rows.{AreNew, AreNewLanes}
 

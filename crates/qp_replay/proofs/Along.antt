@@ -1,6 +1,6 @@
 -- A world along a serial order of a lawful journal: its records are those of a front of the order, and its hands are its owners' together.
 use Rattle.std.proofs.Common.{◌≡◌, ◌≢◌, ◌∙◌, ℕ, zero, suc, ◌+◌, ◌<◌, ◌≤◌, ◌==◌, Bool, true, false, cond, List, [], ◌∷◌, ◌++◌, length, drop, take, refl, sym, ap, subst, arith, ◌⊎◌, inl, inr, Some, length-append, length-set}
-use Rattle.std.specs.Prelude.{⊤, slice_get}
+use Rattle.std.specs.Prelude.{slice_get}
 use Rattle.std.specs.List.{AllByRecursion, list_all}
 use Rattle.std.specs.Option.{option_and_then, unwrap_or}
 use Rattle.std.proofs.lemmas.Bool.{cases_eq, and_parts}

@@ -2,7 +2,7 @@
 use Rattle.std.proofs.Common.{◌≡◌, ◌∙◌, ℕ, suc, ◌+◌, ◌-◌, ◌==◌, Bool, true, false, not, ◌&&◌, List, [], ◌∷◌, length, filter, refl, sym, ap, subst, arith, cond, ◌⊎◌, inl, inr, Option, Some, None, IsTrue}
 use Rattle.std.specs.List.{AllByRecursion, count_by, find, list_all, position}
 use Rattle.std.specs.Option.{unwrap_or, option_map_or}
-use Rattle.std.specs.Prelude.{⊤, slice_get, map}
+use Rattle.std.specs.Prelude.{slice_get, map}
 use Rattle.std.proofs.lemmas.Bool.{and_parts}
 use Rattle.std.proofs.lemmas.Bool.Decides.{nat_tests}
 use Rattle.qp_chart.specs.declared.checked.Chart.{Chart}

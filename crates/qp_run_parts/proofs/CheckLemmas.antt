@@ -18,7 +18,7 @@ use Rattle.qp_text.specs.TextLaw.{IsWritable}
 use Rattle.qp_run_parts.specs.declared.status.Status.{Status}
 use Rattle.qp_run_parts.specs.declared.status.Status.TheVariants.{Memory}
 use Rattle.qp_commands.specs.declared.values.Kind.TheVariants.{Journal}
-use Rattle.qp_run_parts.specs.Checks.{AreLawful, IsLawfulText, Judges, JudgesFiles, JudgesFound, JudgesSecond, JudgesSystem, JudgesThird, JudgesStimuli, third, verdict_answer}
+use Rattle.qp_run_parts.specs.Checks.{AreLawful, IsLawfulText, Judges, JudgesFiles, JudgesFound, JudgesSecond, JudgesSystem, JudgesThird, JudgesStimuli, verdict_answer}
 use Rattle.qp_run_parts.specs.Conversions.{Held, said, written}
 use Rattle.qp_run_parts.specs.Loads.{IsLoaded}
 use Rattle.qp_run_parts.specs.Verdict.{AgreesCheck, FailsToLoad, JudgesCall, is_failure}

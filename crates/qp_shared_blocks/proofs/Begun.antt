@@ -4,7 +4,7 @@ use Rattle.std.specs.List.{list_any}
 use Rattle.std.proofs.lemmas.Bool.{and_from, and_parts}
 use Rattle.qp_table.specs.Counting.{many, without}
 use Rattle.qp_table.specs.Rule.{is_spot, gives_of}
-use Rattle.qp_table.specs.After.{spot, begun_give, give_read, reading}
+use Rattle.qp_table.specs.After.{spot, begun_give, reading}
 use Rattle.qp_table.specs.declared.view.Fill.{Fill}
 use Rattle.qp_table.specs.declared.view.PendingGive.{PendingGive}
 use Rattle.qp_table.specs.declared.view.Spot.{Spot}

@@ -1,6 +1,5 @@
 -- Another reference, and the step by which a used block comes back.
-use Rattle.std.proofs.Common.{◌≡◌, ℕ, ◌+◌, ◌%◌, ◌^◌, ◌<◌, ◌≤◌, ◌==◌, List, [], ◌∷◌, Bool, true, false, cond, nat_lt, pow_mono, refl, arith}
-use Rattle.std.proofs.lemmas.Bool.Decides.{nat_tests}
+use Rattle.std.proofs.Common.{ℕ, ◌+◌, ◌%◌, ◌^◌, ◌<◌, ◌≤◌, pow_mono, refl, arith}
 use Rattle.std.proofs.lemmas.Nat.{pow_pos}
 use Rattle.qp_model.specs.declared.systems.System.{System}
 use Rattle.qp_model.specs.Lists.{with_number}
@@ -9,7 +8,7 @@ use Rattle.qp_table.specs.Counting.{many}
 use Rattle.qp_table.specs.Rule.{pool_at, block_at, is_ref, is_spot_at}
 use Rattle.qp_table.specs.After.{HasRoom, WordSteps}
 use Rattle.qp_table.specs.declared.view.View.{View}
-use Rattle.qp_table.proofs.Bounds.{Ascends, pool-ascends, map-small, bits-on, with-ascends}
+use Rattle.qp_table.proofs.Bounds.{pool-ascends, map-small, bits-on, with-ascends}
 use Rattle.qp_table.proofs.Steps.{pool-of, x-is}
 use Rattle.qp_table.proofs.Tokens.{at-le, held-stands, standing, used-alone}
 use Rattle.qp_table.proofs.StepLawLemmas.{backs_tell, more_references_tell}

@@ -15,7 +15,6 @@ use Rattle.qp_table.specs.Counting.{many, without}
 use Rattle.qp_table.specs.Rule.{block_at, mark_in, is_ref, is_spot, is_entry, is_serve, event_of_content}
 use Rattle.qp_table.specs.After.{rec_of, ref}
 use Rattle.qp_table.specs.declared.view.Content.{Content}
-use Rattle.qp_table.specs.declared.view.Spot.{Spot}
 use Rattle.qp_table.specs.declared.view.View.{View}
 use Rattle.qp_table.proofs.Counting.{many-snoc, many-without}
 use Rattle.qp_table.proofs.Marks.{low-mark}

@@ -1,5 +1,5 @@
 -- Parts of what a step on a block owes: tokens, what was read, and used blocks.
-use Rattle.std.proofs.Common.{◌≡◌, ℕ, ◌+◌, ◌≤◌, ◌&&◌, List, [], ◌∷◌, ◌++◌, Bool, true, false, cond, refl, sym, ap, subst, ◌∙◌, arith, eqb, eqb-true, eq-eqb, IsTrue}
+use Rattle.std.proofs.Common.{◌≡◌, ℕ, ◌+◌, ◌≤◌, ◌&&◌, List, [], ◌∷◌, ◌++◌, Bool, true, false, refl, sym, ap, subst, ◌∙◌, arith, eqb, eqb-true, eq-eqb, IsTrue}
 use Rattle.std.specs.List.{list_any}
 use Rattle.std.proofs.lemmas.Bool.{and_from, and_parts, or_left, or_right}
 use Rattle.std.proofs.lemmas.List.Folds.{list_any-append}
@@ -15,7 +15,7 @@ use Rattle.qp_table.specs.declared.view.Content.{Content}
 use Rattle.qp_table.specs.declared.view.View.{View}
 use Rattle.qp_calls.specs.Tokens.{Token, Held, Loose, token_of}
 use Rattle.qp_table.specs.Words.{mark_seen}
-use Rattle.qp_table.specs.Lane.{tokens, has_content, is_read, event_seen}
+use Rattle.qp_table.specs.Lane.{has_content, is_read, event_seen}
 use Rattle.qp_table.specs.Asked.{is_unfinished, is_begun}
 use Rattle.qp_shared_lane.specs.Holds.{IsRead, IsStill, IsPlaced, IsWorn, was_seen}
 use Rattle.qp_shared_lane.specs.More.{KeepsContents}

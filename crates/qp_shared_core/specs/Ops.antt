@@ -1,5 +1,5 @@
 -- Which step of the core each step of a running lane is, by the word that it finds.
-use Rattle.std.specs.Prelude.{ℕ, ◌+◌, ◌/◌, ◌%◌, eqb, leb, Bool, ◌&&◌, [], ◌∷◌, cond, Some, None}
+use Rattle.std.specs.Prelude.{ℕ, ◌+◌, eqb, leb, Bool, ◌&&◌, cond, Some, None}
 use Rattle.std.specs.declared.option.Option.{Option}
 use Rattle.std.specs.Option.{unwrap_or}
 use Rattle.qp_base.specs.declared.event.Ev.{Ev}
@@ -9,7 +9,7 @@ use Rattle.qp_model.specs.declared.bodies.Entry.{Entry}
 use Rattle.qp_model.specs.declared.words.Word.{Word}
 use Rattle.qp_model.specs.declared.words.Word.TheVariants as word
 use Rattle.qp_model.specs.Sites.{ring_of}
-use Rattle.qp_table.specs.After.{rec_of, full_rec}
+use Rattle.qp_table.specs.After.{full_rec}
 use Rattle.qp_table.specs.QueueLaws.{f_in, l_in, m_in}
 use Rattle.qp_core_steps.specs.declared.ops.Op.{Op}
 use Rattle.qp_core_steps.specs.declared.ops.Op.TheVariants as op

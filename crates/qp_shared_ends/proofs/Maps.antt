@@ -1,12 +1,12 @@
 -- The free blocks of a pool, after any of its operations, ascend.
-use Rattle.std.proofs.Common.{◌≡◌, ℕ, zero, suc, ◌+◌, ◌<◌, ◌≤◌, ◌==◌, nat_lt, List, [], ◌∷◌, Bool, true, false, not, cond, ◌&&◌, refl, arith}
+use Rattle.std.proofs.Common.{◌≡◌, ℕ, ◌+◌, ◌<◌, ◌==◌, nat_lt, List, [], ◌∷◌, Bool, true, false, not, cond, ◌&&◌, arith}
 use Rattle.std.proofs.lemmas.Bool.{and_parts}
 use Rattle.std.proofs.lemmas.Bool.Decides.{nat_tests}
 use Rattle.qp_chart.specs.StateTree.{has}
 use Rattle.qp_model.specs.declared.bodies.Body.{Body}
 use Rattle.qp_model.specs.declared.bodies.Body.TheVariants.{New, Back}
 use Rattle.qp_model.specs.Record.{Item}
-use Rattle.qp_model.specs.Lists.{count_up, without_all, with_number}
+use Rattle.qp_model.specs.Lists.{without_all}
 use Rattle.qp_model.specs.Machine.{after, is_allowed}
 use Rattle.qp_model.specs.FreeBlocks.{Pool, pool_next, pool_may, free_blocks}
 use Rattle.qp_model.proofs.MachineLemmas.{after-keeps}

@@ -1,14 +1,14 @@
 -- The root of the side table becomes the seat of a lane.
-use Rattle.std.proofs.Common.{◌≡◌, ℕ, zero, suc, ◌+◌, ◌<◌, Bool, true, false, cond, List, [], ◌∷◌, length, map, set, get_or, refl, sym, ap, subst, ◌∙◌, arith, eqb, eqb-true}
-use mathlib.Core.Option.{some, some-injective, some-ne-none}
+use Rattle.std.proofs.Common.{◌≡◌, ℕ, ◌+◌, ◌<◌, List, [], length, set, get_or, ap, subst, ◌∙◌, arith, eqb}
+use mathlib.Core.Option.{some}
 use lib.ListN.{get_elem?}
 use Rattle.atomic_table.proofs.Lists.{at_map}
 use Rattle.qp_model.specs.declared.systems.System.{System}
-use Rattle.qp_table.specs.Counting.{Each, sum_over, many, without}
+use Rattle.qp_table.specs.Counting.{Each, sum_over, many}
 use Rattle.qp_table.specs.Rule.{is_log, is_number, is_serve, Logs}
 use Rattle.qp_table.specs.declared.view.SeatLog.{SeatLog}
 use Rattle.qp_table.specs.declared.view.View.{View}
-use Rattle.qp_table.proofs.Counting.{total-set, total-at, many-without}
+use Rattle.qp_table.proofs.Counting.{total-set, total-at}
 use Rattle.qp_table.proofs.Views.{SawFrom}
 use Rattle.qp_side.specs.Rule.{KnowsItsOwn, SideHolds, views_of, member_from, member_in}
 use Rattle.qp_side.specs.declared.view.SideView.{SideView}

@@ -1,6 +1,6 @@
 -- What a lane may do: it has room where it has spare, and its tokens stand in its view.
-use Rattle.std.proofs.Common.{◌≡◌, suc, ◌+◌, ◌<◌, ◌≤◌, ◌||◌, List, [], ◌∷◌, Bool, true, false, cond, length, refl, ap, arith}
-use Rattle.std.specs.List.{filter, list_any}
+use Rattle.std.proofs.Common.{◌≡◌, ◌+◌, ◌<◌, ◌≤◌, ◌||◌, List, [], ◌∷◌, Bool, true, false, cond, length, refl, ap, arith}
+use Rattle.std.specs.List.{list_any}
 use Rattle.qp_model.specs.declared.record.Rec.{Rec}
 use Rattle.qp_model.specs.Record.{Item}
 use Rattle.qp_model.specs.History.{touch, lane_items}

@@ -14,7 +14,7 @@ use Rattle.qp_model.specs.Told.{Known, Free, Left, Former, Member, ToldItem}
 use Rattle.qp_model.specs.History.{touch, lane_items, marks}
 use Rattle.qp_model.specs.Knowing.{ceiling_after}
 use Rattle.qp_model.specs.Parts.{is_static, params_of}
-use Rattle.qp_model.specs.WordLaw.{is_pool, is_block, is_signal, is_timer}
+use Rattle.qp_model.specs.WordLaw.{is_pool, is_block, is_signal}
 use Rattle.qp_table.specs.TwoTables.{on_side}
 use Rattle.qp_table.specs.Counting.{many}
 use Rattle.qp_table.specs.Rule.{Fitting, pool_at, block_at, mark_in, is_entry, is_spot, is_spot_at, is_serve}
@@ -29,7 +29,7 @@ use Rattle.qp_table.specs.Lane.{own_recs, on_table_of, tell_lane, event_seen, ha
 use Rattle.qp_table.specs.Telling.{is_on_table}
 use Rattle.qp_table.specs.Asked.{is_unfinished, is_begun}
 use Rattle.qp_table.specs.Told.{HasPlace}
-use Rattle.qp_side.specs.Rule.{SideFitting, signal_at, timer_at, member_by}
+use Rattle.qp_side.specs.Rule.{SideFitting, signal_at, member_by}
 use Rattle.qp_side.specs.Told.{last_seen}
 use Rattle.qp_side.specs.declared.view.SideView.{SideView}
 

@@ -1,5 +1,5 @@
 -- A seat that has seen what another has, and has nothing else.
-use Rattle.std.proofs.Common.{◌≡◌, ℕ, ◌+◌, ◌<◌, List, [], ◌∷◌, ◌++◌, length, map, set, get_or, refl, sym, ap, subst, ◌∙◌, ⊎_elim, arith, eqb}
+use Rattle.std.proofs.Common.{◌≡◌, ℕ, ◌+◌, ◌<◌, List, [], ◌∷◌, ◌++◌, length, set, get_or, refl, subst, ⊎_elim, arith, eqb}
 use mathlib.Core.Option.{some}
 use lib.ListN.{get_elem?}
 use Rattle.atomic_table.proofs.Lists.{at_snoc, at_map}
@@ -16,7 +16,6 @@ use Rattle.qp_side.specs.Laws.{SeatsLookOn}
 use Rattle.qp_side.specs.declared.view.SideView.{SideView}
 use Rattle.qp_side.proofs.Places.{fits}
 use Rattle.qp_side.proofs.SeatLemmas.{from-map, total-map}
-use Rattle.qp_side.proofs.StepLemmas.{at-view}
 
 module _ (sys : System) (words : List ℕ) (views : List SideView) (holds : SideHolds sys words views) (id : ℕ) (v : SideView) (at_id : get_elem? views id ≡ some v) where
   abbrev seat : SideView

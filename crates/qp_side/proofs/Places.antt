@@ -1,21 +1,18 @@
 -- Places of words, how large their numbers get, and lists with one element changed.
-use Rattle.std.proofs.Common.{◌≡◌, ℕ, ◌+◌, ◌*◌, ◌/◌, ◌%◌, ◌<◌, ◌≤◌, ◌≢◌, nat_lt, nat_le, Bool, true, false, cond, List, [], ◌∷◌, length, set, get_or, refl, sym, ap, subst, ◌∙◌, ⊎_elim, arith, eqb, eq-eqb, ne_eqb, ltb, lt-ltb, length-append, mul-add, IsTrue}
+use Rattle.std.proofs.Common.{◌≡◌, ℕ, ◌+◌, ◌<◌, ◌≤◌, ◌≢◌, nat_lt, nat_le, Bool, true, false, cond, List, [], ◌∷◌, length, set, get_or, refl, sym, ap, subst, ◌∙◌, ⊎_elim, arith, eqb, eq-eqb, ne_eqb, ltb, IsTrue}
 use Rattle.std.proofs.lemmas.Bool.{and_parts}
 use Rattle.std.proofs.lemmas.Bool.Decides.{nat_tests}
 use mathlib.Core.Option.{some}
-use mathlib.Core.Logic.{dite}
-use native.Mathlib.Decide.{ℕ_discrete}
 use lib.ListN.{get_elem?}
 use Rattle.atomic_table.proofs.Lists.{at_set}
 use Rattle.qp_model.specs.declared.record.Rec.{Rec}
 use Rattle.qp_model.specs.declared.systems.System.{System}
 use Rattle.qp_model.specs.declared.words.Word.{Word}
-use Rattle.qp_model.specs.History.{hist, lane_items, all_items}
+use Rattle.qp_model.specs.History.{hist, all_items}
 use Rattle.qp_model.specs.Machine.{Machine, after}
 use Rattle.qp_model.specs.WordLaw.{Keeps, is_signal, is_timer}
 use Rattle.qp_model.proofs.HistoryLemmas.{length-hist, total-length}
 use Rattle.qp_model.proofs.MachineLemmas.{Counts, count-after}
-use Rattle.qp_model.proofs.RecordLemmas.{lane-length}
 use Rattle.qp_table.specs.Counting.{Each}
 use Rattle.qp_table.specs.Now.{at}
 use Rattle.qp_table.specs.Rule.{mark_in, Was}

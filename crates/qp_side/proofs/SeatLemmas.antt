@@ -4,7 +4,6 @@ use mathlib.Core.Option.{some, some-injective, some-ne-none}
 use lib.ListN.{get_elem?}
 use Rattle.atomic_table.proofs.Lists.{at_snoc, at_map, set_else}
 use Rattle.qp_chart.specs.StateTree.{has}
-use Rattle.qp_model.specs.declared.record.Rec.{Rec}
 use Rattle.qp_model.specs.declared.systems.System.{System}
 use Rattle.qp_model.specs.declared.words.Word.TheVariants as word
 use Rattle.qp_model.specs.Lists.{count_up}
@@ -18,7 +17,7 @@ use Rattle.qp_table.specs.declared.view.SeatLog.{SeatLog}
 use Rattle.qp_table.specs.declared.view.Glance.{Glance}
 use Rattle.qp_table.specs.declared.view.Serve.{Serve}
 use Rattle.qp_table.specs.declared.view.View.{View}
-use Rattle.qp_table.proofs.Counting.{total-set, total-at, total-snoc, total-append, each-map, many-le, many-without, alone-total}
+use Rattle.qp_table.proofs.Counting.{total-set, total-at, total-snoc, each-map, many-le, many-without, alone-total}
 use Rattle.qp_table.proofs.Views.{total-two, SawFrom}
 use Rattle.qp_plain_words.specs.Sets.{are_members}
 use Rattle.qp_table.specs.First.{first_serves}

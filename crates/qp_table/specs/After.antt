@@ -1,5 +1,5 @@
 -- The views after each kind of step.
-use Rattle.std.specs.Prelude.{◌≡◌, ℕ, suc, ◌+◌, ◌/◌, ◌%◌, ◌<◌, eqb, List, [], ◌∷◌, ◌++◌, Bool, true, false, cond, IsTrue, length, slice_index, slice_set, ◌-◌}
+use Rattle.std.specs.Prelude.{◌≡◌, ℕ, suc, ◌+◌, ◌/◌, ◌%◌, ◌<◌, eqb, List, [], ◌∷◌, ◌++◌, Bool, true, false, cond, IsTrue, length, slice_index, slice_set}
 use mathlib.Core.Option.{some}
 use lib.ListN.{get_elem?}
 use Rattle.qp_model.specs.declared.record.Rec.{Rec}

@@ -15,8 +15,6 @@ use Rattle.qp_model.specs.Parts.{is_static, params_of}
 use Rattle.qp_model.specs.Record.{item_of}
 use Rattle.qp_model.specs.declared.bodies.Body.{Body}
 use Rattle.qp_model.specs.declared.bodies.Body.TheVariants.{Took, Lifo}
-use Rattle.std.specs.Option.{option_map_or}
-use Rattle.std.specs.Prelude.{slice_get}
 use Rattle.qp_table.specs.Counting.{Each, sum_over, many, upto}
 use Rattle.qp_table.specs.Now.{Now, LeavesWords}
 use Rattle.std.specs.Prelude.{take, Some, None}

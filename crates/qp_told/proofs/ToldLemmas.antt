@@ -1,5 +1,5 @@
 -- Steps that are told, one row behind another.
-use Rattle.std.proofs.Common.{◌≡◌, ℕ, zero, suc, ◌+◌, List, [], ◌∷◌, ◌++◌, refl, sym, ◌∙◌, ap, arith, append_assoc}
+use Rattle.std.proofs.Common.{◌≡◌, ℕ, zero, suc, ◌+◌, List, ◌∷◌, ◌++◌, refl, sym, ◌∙◌, ap, arith, append_assoc}
 use Rattle.qp_told.specs.Steps.{TellsSteps, steps_behind}
 
 pub tells-same : (a b : ℕ) (old new : List ℕ) → b ≡ a → new ≡ old → TellsSteps a b old new

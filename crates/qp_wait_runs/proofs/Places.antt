@@ -1,5 +1,5 @@
 -- Lanes that came in their places.
-use Rattle.std.proofs.Common.{◌≡◌, ℕ, ◌+◌, List, [], ◌∷◌, ◌++◌, length, subst, arith}
+use Rattle.std.proofs.Common.{ℕ, ◌+◌, List, [], ◌∷◌, ◌++◌, length, subst, arith}
 use Rattle.qp_model.specs.declared.systems.ObjectDef.{ObjectDef}
 use Rattle.qp_wait.specs.declared.lane.BellLane.{BellLane}
 use Rattle.qp_wait_runs.specs.Places.{ParkInPlaces, ParksFor, object_in_place}

@@ -14,7 +14,6 @@ use Rattle.qp_wait.specs.Waiting.{RoundWaits, Waits}
 use Rattle.qp_wait.proofs.FoundEmpty.{idles-few, idles-look}
 use Rattle.qp_wait.proofs.Parts.{pause-halts, pause-rests}
 use Rattle.qp_wait.proofs.Waiting.{waiting-none, waiting-parked, waiting-step, waits-before, waits-behind, waits-within}
-use Rattle.qp_kernel_turns.specs.declared.halting.Halt.TheVariants as halt
 use Rattle.qp_told.proofs.ToldLemmas.{tells-kept, tells-none, tells-then}
 use Rattle.qp_wait.proofs.turning.rounds.Goals as goal
 

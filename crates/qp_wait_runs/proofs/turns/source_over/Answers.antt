@@ -1,5 +1,4 @@
-use Rattle.std.proofs.Common.{◌≡◌, false, sym}
-use Rattle.qp_port_lanes.specs.Answers.{is_idle}
+use Rattle.std.proofs.Common.{sym}
 use Rattle.qp_wait_runs.proofs.Ending.{off-with-note}
 use Rattle.qp_wait_runs.proofs.turns.source_over.Goals as goal
 

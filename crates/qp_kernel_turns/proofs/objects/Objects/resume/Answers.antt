@@ -4,7 +4,6 @@ use Rattle.qp_dispatch.specs.Objects.{ObjectResumes, MayResume, works_for}
 use Rattle.qp_kernel_turns.specs.declared.objects.Slot.{Slot}
 use Rattle.qp_kernel_turns.proofs.Places.{at-index, at-none}
 use Rattle.qp_kernel_turns.proofs.objects.Objects.resume.Goals as goal
-use Rattle.qp_kernel_turns.proofs.objects.Objects.resume.Goals.{In-Some}
 
 pub resume-requires : goal.resume-requires
 resume-requires g c =

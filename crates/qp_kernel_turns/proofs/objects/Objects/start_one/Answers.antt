@@ -4,7 +4,6 @@ use Rattle.qp_dispatch.specs.Objects.{ObjectStarts, MayStart, works_for}
 use Rattle.qp_kernel_turns.specs.declared.objects.Slot.{Slot}
 use Rattle.qp_kernel_turns.proofs.Places.{at-index, at-none}
 use Rattle.qp_kernel_turns.proofs.objects.Objects.start_one.Goals as goal
-use Rattle.qp_kernel_turns.proofs.objects.Objects.start_one.Goals.{In-Some}
 
 pub start-requires : goal.start-requires
 start-requires g c =

@@ -1,5 +1,4 @@
-use Rattle.std.proofs.Common.{◌≡◌, ◌≢◌, ℕ, ◌-◌, ◌*◌, ◌%◌, ◌^◌, ◌<◌, ◌≤◌, ◌==◌, length, refl, sym, ◌∙◌, ap, arith, lit<}
-use Rattle.std.proofs.lemmas.Bool.Decides.{nat_tests}
+use Rattle.std.proofs.Common.{◌≡◌, ◌-◌, length, sym, ◌∙◌, ap, arith}
 use Rattle.qp_model.specs.Lists.{count_up}
 use Rattle.qp_plain_words.specs.Places.{bit_places}
 use Rattle.qp_plain_words.proofs.PlaceLemmas.{places-ones, length-count_up, ones-below}

@@ -1,6 +1,5 @@
-use Rattle.std.proofs.Common.{◌≡◌, ◌+◌, ◌<◌, ◌≤◌, false, refl, ap, subst, sym, ◌∙◌, length, ℕ, arith, Fits, w8}
+use Rattle.std.proofs.Common.{refl, ap, sym, ◌∙◌, arith}
 use Rattle.qp_chart.specs.StateTree.{has}
-use Rattle.qp_plain_words.specs.Places.{bit_places}
 use Rattle.qp_plain_words.proofs.PlaceLemmas.{bit-out, places-set, length-set, length-places}
 use Rattle.qp_plain_words.proofs.pool.PoolWord.put.Goals as goal
 

@@ -1,5 +1,4 @@
-use Rattle.std.proofs.Common.{◌≡◌, ◌+◌, ◌<◌, ◌≤◌, ap, sym, refl, ◌∙◌, length, ℕ, arith, true}
-use Rattle.qp_model.specs.Lists.{is_first}
+use Rattle.std.proofs.Common.{◌<◌, ap, sym, refl, length, ℕ, arith}
 use Rattle.qp_plain_words.specs.Places.{bit_places}
 use Rattle.qp_plain_words.proofs.PlaceLemmas.{Lowest, lowest, some-bit, places-clear, length-clear}
 use Rattle.qp_plain_words.proofs.pool.PoolWord.take.Goals as goal

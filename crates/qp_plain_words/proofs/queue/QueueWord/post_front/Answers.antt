@@ -1,7 +1,7 @@
-use Rattle.std.proofs.Common.{◌≡◌, ◌+◌, ◌-◌, ◌<◌, ◌≤◌, true, List, [], ◌∷◌, ◌++◌, length, ap, refl, sym, ◌∙◌, subst, arith}
+use Rattle.std.proofs.Common.{◌-◌, ap, ◌∙◌, arith}
 use Rattle.std.specs.List.{list_all}
 use Rattle.qp_plain_words.specs.Queue.{is_token}
-use Rattle.qp_plain_words.proofs.TokenLemmas.{all-pushed, all-front, all-taken, first-passes}
+use Rattle.qp_plain_words.proofs.TokenLemmas.{all-front}
 use Rattle.qp_plain_words.proofs.queue.QueueWord.post_front.Goals as goal
 
 pub invariant_of-self : goal.invariant_of-self

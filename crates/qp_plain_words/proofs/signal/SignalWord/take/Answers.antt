@@ -1,4 +1,4 @@
-use Rattle.std.proofs.Common.{◌<◌, arith}
+use Rattle.std.proofs.Common.{arith}
 use Rattle.qp_plain_words.proofs.SetLemmas.{clear-takes}
 use Rattle.qp_plain_words.proofs.signal.SignalWord.take.Goals as goal
 
