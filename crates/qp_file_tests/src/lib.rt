@@ -14,6 +14,8 @@ mod puts;
 #[cfg(test)]
 mod samples;
 #[cfg(test)]
+mod scans;
+#[cfg(test)]
 mod stimuli;
 #[cfg(test)]
 mod systems;

@@ -5,7 +5,7 @@ use qp_text::{TextFault, read_journal, write_journal};
 use std::alloc::{AllocError, Global};
 
 /// A run of one object and one source, in form 1.
-const LAMP: &[u8] =
+pub(crate) const LAMP: &[u8] =
     b"qp 1 0 100000\nlane 0\nbegin 1\nenter 1 1\ndone 1\nlook 0 1 0\nseen 0 1 1 0 0\ntook 1 1 0 1 0 4 0\nrun 1 1 1\nexit 1 1\nenter 1 2\ndone 1\nlook 0 2 0\nseen 0 1 1 0 1\nlane 1\nstim 0 1 1\npost 0 1 1 0 0 0 4 0\nend 0\n";
 
 /// A value with a sign, in form 2.
@@ -15,7 +15,7 @@ const SIGNED: &[u8] =
 /// The same value in form 1.
 const UNSIGNED: &[u8] = b"qp 1 0 1000000\nlane 0\nsay 1 18446744073709551612\nend 3\n";
 
-const TEXTS: [&[u8]; 3] = [LAMP, SIGNED, UNSIGNED];
+pub(crate) const TEXTS: [&[u8]; 3] = [LAMP, SIGNED, UNSIGNED];
 
 /// Whether a text is read, and written as it is.
 fn is_written_alike(alloc: Global, text: &[u8]) -> Result<bool, AllocError> {

@@ -17,7 +17,8 @@ use qp_base::{Shelf, Sink};
 use qp_commands::{Form, Kind};
 use qp_frames::{Decoder, FrameFault, write_frames};
 use qp_model::{Journal, Lane, Lanes, kernels, kinds};
-use qp_text::{Found, TextFault, read_journal, write_journal};
+use qp_text::{Found, TextFault, write_journal};
+use qp_text_scan::read_journal;
 use std::alloc::Global;
 
 /// The code of a file whose journal doesn't have the form that is asked for.

@@ -1,0 +1,5 @@
+pub mod NumberLemmas
+pub mod SignLemmas
+pub mod LineLemmas
+pub mod LaneLemmas
+pub mod ScanLemmas
