@@ -77,7 +77,7 @@ fn turn_in<O: Ops, G: Tells, L: Ledger>(
     ensures turns { SourceTurns sys.now source.old source.new (O.lane ops.old) (O.lane ops.new) result }
     ensures breaks { BreaksOffUnlessIdle sys.now source.old source.new (O.lane ops.old) (O.lane ops.new) result }
     ensures same { IsSameSource source.old source.new }
-    ensures tells { SourceTells source.old source.new gate.old.steps.list gate.new.steps.list }
+    ensures tells { SourceTells source.old source.new gate.old.steps.list gate.new.steps.list result }
 {
     let mut steps = Steps::<L>::open(blank);
     let first = source.begun as usize;
@@ -105,7 +105,7 @@ pub fn source_turn<O: Ops, G: Tells>(
     ensures turns { SourceTurns sys.now source.old source.new (O.lane ops.old) (O.lane ops.new) result }
     ensures breaks { BreaksOffUnlessIdle sys.now source.old source.new (O.lane ops.old) (O.lane ops.new) result }
     ensures same { IsSameSource source.old source.new }
-    ensures tells { SourceTells source.old source.new gate.old.steps.list gate.new.steps.list }
+    ensures tells { SourceTells source.old source.new gate.old.steps.list gate.new.steps.list result }
 {
     turn_in::<O, G, Brand>(ops, sys, source, gate, Blank::new(1))
 }

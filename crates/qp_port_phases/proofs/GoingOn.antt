@@ -52,10 +52,21 @@ module _ {T : Type 0} (Ready : T → Type 0) (Same : T → T → Type 0) (number
   pub goes-pass : (p : Passed) (x y : T) → Ready y → Same x y → PassCounts (numbers x) (numbers y) p → GoesOn Ready Same numbers x y
   goes-pass p x y ready same counts = record { ready = ready; same = same; counts = by-pass (numbers x) (numbers y) p counts }
 
-  module _ (view : T → LaneView) where
-    pub stays-then : ((a b c : T) → Same a b → Same b c → Same a c) → (x y z : T) → WorkerStays Ready Same view numbers x y → GoesOn Ready Same numbers y z → WorkerStays Ready Same view numbers x z
-    stays-then still x y z h k = record { ready = k.ready; same = still x y z h.same k.same; counts = on-then (view x) (numbers x) (numbers y) (numbers z) h.counts k.counts }
+  -- A first turn, and what comes behind it.
+  module _ (Turned : T → T → Type 0) where
+    pub stays-turn : ((a : T) → Same a a) → (x y : T) → Turned x y → Ready y → WorkerStays Turned Ready Same numbers x y
+    stays-turn itself x y turned ready = record { first = y; turned = turned; on = goes-none itself y ready }
 
+    pub stays-then : (x y z : T) → Turned x y → GoesOn Ready Same numbers y z → WorkerStays Turned Ready Same numbers x z
+    stays-then x y z turned on = record { first = y; turned = turned; on = on }
+
+    pub stays-same : ((a b c : T) → Same a b → Same b c → Same a c) → ((a b : T) → Turned a b → Ready b × Same a b) → (x z : T) → WorkerStays Turned Ready Same numbers x z → Ready z × Same x z
+    stays-same still went x z h = (h.on.ready, still x h.first z (went x h.first h.turned).1 h.on.same)
+
+    pub stays-counts : (view : T → LaneView) → ((a b : T) → Turned a b → CountsOn (view a) (numbers a) (numbers b)) → (x z : T) → WorkerStays Turned Ready Same numbers x z → CountsOn (view x) (numbers x) (numbers z)
+    stays-counts view went x z h = on-then (view x) (numbers x) (numbers h.first) (numbers z) (went x h.first h.turned) h.on.counts
+
+  module _ (view : T → LaneView) where
     -- a turn behind an entry that was just seen, or one that ends no row
     pub goes-turn : (rowless : T → Bool) (y z : T) → (rowless y ≡ true) ⊎ ((p : ℕ) × IsTrue (is_object (view y).sys p) × LaneSeesEntry (view y) p) → Ready z → Same y z → CountsOn (view y) (numbers y) (numbers z)
         → (rowless y ≡ true → (numbers z).lost ≡ false → (numbers z).rows ≤ (numbers y).rows) → GoesOn Ready Same numbers y z

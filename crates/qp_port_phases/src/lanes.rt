@@ -1,4 +1,4 @@
-//! What the starting thread asks of lanes between phases.
+//! What is asked of a lane between its turns.
 
 ghost use Rattle.std.specs.Prelude.{ℕ, ◌≡◌, ◌≤◌, Bool, IsTrue, true, false};
 ghost use Rattle.qp_model.specs.WordLaw.{is_object};
@@ -27,7 +27,7 @@ pub enum Passed {
     Memory,
 }
 
-/// The lane of a worker, between phases.
+/// The lane of a worker, between its turns.
 ///
 /// A worker that has ended is a lane like another: it is met and looked at, and its turns do nothing.
 pub trait PhaseLane: Worker {

@@ -46,7 +46,7 @@ impl<'a> Staying<'a> {
 impl<T: PhaseLane> Manner<T> for Staying<'_> {
     ghost ready = { λ how w. T.ready w × AreObjects (T.view w) how.objects.now };
 
-    ghost turned = { λ how v w. WorkerStays T.ready T.same T.view T.numbers v w };
+    ghost turned = { λ how v w. WorkerStays T.turned T.ready T.same T.numbers v w };
 
     fn turn<R: Wait>(&self, rt: &R, lane: &mut T) {
         stay(rt, lane, self.objects, self.rounds);
@@ -190,7 +190,7 @@ fn go_on<R: Wait, T: PhaseLane>(
 pub(crate) fn stay<R: Wait, T: PhaseLane>(rt: &R, lane: &mut T, objects: &[u8], rounds: &Rounds)
     requires ready { T.ready lane.old }
     requires objects { AreObjects (T.view lane.old) objects.now }
-    ensures { WorkerStays T.ready T.same T.view T.numbers lane.old lane.new }
+    ensures { WorkerStays T.turned T.ready T.same T.numbers lane.old lane.new }
 {
     match rounds.begin(rt, lane.serves()) {
         Some(place) => {

@@ -174,13 +174,13 @@ pub returns-in-Done-clause-unset : goal.returns-in-Done-clause-unset
 returns-in-Done-clause-unset g c = let e = c.in_default-stopped.ensures in unset-by (g.O.Ops.lane c.args.ops.now) e.1 e.2 e.3
 
 pub returns-then-source-clause-tells : goal.returns-then-source-clause-tells
-returns-then-source-clause-tells g c = (refl, inr (refl, inl refl))
+returns-then-source-clause-tells g c = (refl, refl)
 
 pub returns-then-at-len-clause-tells : goal.returns-then-at-len-clause-tells
-returns-then-at-len-clause-tells g c = (refl, inr (refl, inl refl))
+returns-then-at-len-clause-tells g c = (refl, refl)
 
 pub returns-in-Settle-clause-tells : goal.returns-in-Settle-clause-tells
-returns-in-Settle-clause-tells g c = (refl, inr (refl, inl refl))
+returns-in-Settle-clause-tells g c = (refl, refl)
 
 pub returns-in-Some-clause-tells : goal.returns-in-Some-clause-tells
 returns-in-Some-clause-tells g c = (refl, inr (refl, inl (ap (λ (u : LaneView). u.told) c.in-Some.ensures.0)))

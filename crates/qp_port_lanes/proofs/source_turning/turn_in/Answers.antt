@@ -37,7 +37,7 @@ returns-clause-turns g c =
 pub returns-in-Some-clause-tells : goal.returns-in-Some-clause-tells
 returns-in-Some-clause-tells g c =
     let lane = g.O.Ops.lane in
-    ends-turn c.args.source.now c.loop-k.source c.do_next.new.source (lane c.loop-k.ops) (lane c.do_next.new.ops) c.args.gate.now.steps.list c.loop-k.gate.steps.list c.do_next.new.gate.steps.list c.loop-k.invariant.tells c.in-Some.ensures.tells.0 c.in-Some.ensures.tells.1
+    ends-turn c.args.source.now c.loop-k.source c.do_next.new.source (lane c.loop-k.ops) (lane c.do_next.new.ops) c.args.gate.now.steps.list c.loop-k.gate.steps.list c.do_next.new.gate.steps.list c.in-Some.turn c.loop-k.invariant.tells c.in-Some.ensures.tells.0 c.in-Some.ensures.tells.1
 
 pub returns-clause-tells : goal.returns-clause-tells
-returns-clause-tells g c = inl c.loop-k.invariant.tells
+returns-clause-tells g c = c.loop-k.invariant.tells

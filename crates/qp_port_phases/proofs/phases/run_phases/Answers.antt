@@ -3,6 +3,7 @@ use Rattle.qp_port_phases.specs.declared.phases.Next.TheVariants as next
 use Rattle.qp_port_phases.proofs.Counting.{few-more, kept-few, went-few}
 use Rattle.qp_port_phases.proofs.Floors.{floor-level, floor-then}
 use Rattle.qp_port_phases.specs.Staying.{WorkerStays}
+use Rattle.qp_port_phases.proofs.GoingOn.{stays-counts, stays-same}
 use Rattle.qp_port_phases.proofs.Keeping.{first-since, keep-ready, keep-same, objects-each, one-table, same-then, table-still, went-ready, went-same}
 use Rattle.qp_port_phases.proofs.phases.run_phases.Goals as goal
 
@@ -65,18 +66,20 @@ loop-preserved-in-Phase g c =
     let started = c.begin-manner.ensures in
     let kept = keep-same g.T.Worker.ready g.T.PhaseLane.same g.T.PhaseLane.waits g.T.PhaseLane.remains g.T.PhaseLane.numbers _ _ started.kept in
     let turned = c.run_lanes.ensures in
-    let Turned = WorkerStays g.T.Worker.ready g.T.PhaseLane.same g.T.PhaseLane.view g.T.PhaseLane.numbers in
-    let went = went-same g.T.Worker.ready g.T.PhaseLane.same Turned (λ a b h. (h.ready, h.same)) _ _ turned in
+    let Turned = WorkerStays g.T.Worker.turned g.T.Worker.ready g.T.PhaseLane.same g.T.PhaseLane.numbers in
+    let stays = stays-same g.T.Worker.ready g.T.PhaseLane.same g.T.PhaseLane.numbers g.T.Worker.turned laws.same_still laws.went in
+    let counts = stays-counts g.T.Worker.ready g.T.PhaseLane.same g.T.PhaseLane.numbers g.T.Worker.turned g.T.PhaseLane.view laws.went_on in
+    let went = went-same g.T.Worker.ready g.T.PhaseLane.same Turned stays _ _ turned in
     let so_far = same-then g.T.PhaseLane.same laws.same_still _ _ _ c.loop.invariant.3 (same-then g.T.PhaseLane.same laws.same_still _ _ _ c.between.ensures.same kept) in
     let now = same-then g.T.PhaseLane.same laws.same_still _ _ _ so_far went in
     let table = table-still g.T.PhaseLane.view g.T.PhaseLane.same laws.same_table c.args.objects.now _ _ c.between.ensures.same c.loop.invariant.4 in
     let behind = same-then g.T.PhaseLane.same laws.same_still _ _ _ kept went in (
       tt,
       tt,
-      went-ready g.T.Worker.ready g.T.PhaseLane.same Turned (λ a b h. (h.ready, h.same)) _ _ turned,
+      went-ready g.T.Worker.ready g.T.PhaseLane.same Turned stays _ _ turned,
       now,
       table-still g.T.PhaseLane.view g.T.PhaseLane.same laws.same_table c.args.objects.now _ _ behind table,
-      went-few g.T.PhaseLane.numbers g.T.PhaseLane.view Turned (λ a b h. h.counts) c.args.objects.now _ _ turned (started.cause (c.between.ensures.cause c.in-Phase.is)),
+      went-few g.T.PhaseLane.numbers g.T.PhaseLane.view Turned counts c.args.objects.now _ _ turned (started.cause (c.between.ensures.cause c.in-Phase.is)),
       floor-then g.T.PhaseLane.view g.T.PhaseLane.same laws.same_advances _ _ _ (floor-then g.T.PhaseLane.view g.T.PhaseLane.same laws.same_advances _ _ _ c.loop.invariant.6 c.between.ensures.same) behind,
     )
 
