@@ -212,14 +212,31 @@ impl Rounds {
         }
     }
 
-    /// Calls those that ask for this.
-    fn call_those(&self, wish: Wish) {
-        self.left.store(self.count(wish), Ordering::SeqCst);
+    /// Takes the wishes of those that ask for this: a bit for each seat. A system has 49 lanes at most.
+    fn take_wishes(&self, wish: Wish) -> u64 {
+        let mut taken: u64 = 0;
+        let mut bit: u64 = 1;
         for seat in self.seats.iter() {
             if seat.wishes(wish) {
                 seat.set_wish(Wish::None);
+                taken |= bit;
+            }
+            bit = bit.wrapping_add(bit);
+        }
+        taken
+    }
+
+    /// Calls those that ask for this. No wish is looked at once the first is called: the others may have come to the end of the round
+    /// before this lane gets on, and what they ask for then is for another one to decide.
+    fn call_those(&self, wish: Wish) {
+        self.left.store(self.count(wish), Ordering::SeqCst);
+        let taken = self.take_wishes(wish);
+        let mut bit: u64 = 1;
+        for seat in self.seats.iter() {
+            if taken & bit != 0 {
                 seat.call();
             }
+            bit = bit.wrapping_add(bit);
         }
     }
 
