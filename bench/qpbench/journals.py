@@ -1,5 +1,6 @@
 """What the benches read of a journal's text: how many records it has. What a journal is the program decides."""
 
+import shutil
 from pathlib import Path
 
 #: Lines that are no records.
@@ -12,15 +13,12 @@ def records_in(journal: Path) -> int:
         return sum(not line.startswith(HEADS) for line in lines)
 
 
-def faulty_copy(journal: Path, target: Path) -> int:
-    """Writes the same text with a fault in its last line. Answers the number of that line."""
-    number, last = 0, b""
+def copy_of_qv(journal: Path, target: Path) -> None:
+    """Writes the same text as that of a journal of `qv`, which form 1 doesn't have."""
     with open(journal, "rb") as lines, open(target, "wb") as copy:
-        for line in lines:
-            copy.write(last)
-            number, last = number + 1, line
-        copy.write(b"end 7\n")
-    return number
+        budget = lines.readline().split()[-1]
+        copy.write(b"qp 2 3 " + budget + b"\n")
+        shutil.copyfileobj(lines, copy)
 
 
 def need_order(order: Path, records: int) -> str:

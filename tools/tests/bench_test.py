@@ -11,7 +11,7 @@ from typing import NamedTuple
 from qpbench.asking import Unread, words_of
 from qpbench.calls import LONG, Took, Wrong, call, least, peak
 from qpbench.figures import Figures, short
-from qpbench.journals import faulty_copy, lanes_in, need_order, records_in
+from qpbench.journals import copy_of_qv, lanes_in, need_order, records_in
 from qpbench.mixing import sources_mix
 from qpbench.peers import C_COMPILERS, compiler, count_of, counted_in, counting, peer
 from qpbench.rings import EVENTS
@@ -87,9 +87,10 @@ class Readers(unittest.TestCase):
     def test_counts(self) -> None:
         self.assertEqual((records_in(self.folder / "journal"), lanes_in(self.folder / "journal")), (4, 2))
 
-    def test_fault_in_the_last_line(self) -> None:
-        self.assertEqual(faulty_copy(self.folder / "journal", self.folder / "faulty"), 8)
-        self.assertEqual((self.folder / "faulty").read_text(), JOURNAL.replace("end 0", "end 7"))
+    def test_copy_of_qv(self) -> None:
+        copy_of_qv(self.folder / "journal", self.folder / "qv")
+        head, lines = JOURNAL.split("\n", 1)
+        self.assertEqual((self.folder / "qv").read_text(), f"qp 2 3 {head.split()[3]}\n{lines}")
 
     def test_orders(self) -> None:
         for text, is_right in (("order 2\n0 0\n0 1\n", True), ("order 2\n0 0\n", False), ("cycle 2\n0 0\n0 1\n", False), ("", False)):
